@@ -1,0 +1,61 @@
+-- Division to a whole number, down or up. Assumes nothing.
+use mathlib.Core.Path.{_≡_, refl, sym, _∙_, ap, ap₂, subst}
+use mathlib.Core.Bool.{Bool, true, false}
+use Prim.Native.Nat.{ℕ, zero, suc, _+_, _-_, _*_, _/_, _%_, _^_, _≤_, _<_}
+use native.Mathlib.Nat.{mul-le-mul-left, mul-le-mul-right, le-trans, lt-of-lt-of-le, lt-of-le-of-lt, le-of-mul-le-mul-right, lt-of-mul-lt-mul-right, mul-comm, mul-assoc, mul-pos, mul-div-mul-right, div-add-mod', mod-lt, eq-of-mul-eq-mul-right, zero-mul, mul-zero, mul-one, add-mul, mul-right-comm, ne-of-gt, add-zero}
+use native.Mathlib.Omega.{arith}
+use Rattle.pair.specs.Rounding.{extra, divided}
+use Rattle.pair.proofs.Exponents.{by-cases}
+
+-- the remainders of one ratio written twice are both 0 or both above 0
+extra-same : (up : Bool) (r s d c : ℕ) → 0 < d → 0 < c → r * c ≡ s * d → extra up r ≡ extra up s
+unfolding extra
+extra-same false r s d c p q e = refl
+extra-same true zero zero d c p q e = refl
+extra-same true (suc r) (suc s) d c p q e = refl
+extra-same true zero (suc s) d c p q e = absurd (ne-of-gt (mul-pos {m = suc s} {n = d} (omega arith) p) (sym e ∙ zero-mul c))
+extra-same true (suc r) zero d c p q e = absurd (ne-of-gt (mul-pos {m = suc r} {n = c} (omega arith) q) (e ∙ zero-mul d))
+
+-- a ratio alone decides what is left of it: n / d = m / c
+pub divided-same : (up : Bool) (n d m c : ℕ) → 0 < d → 0 < c → n * c ≡ m * d → divided up n d ≡ divided up m c
+unfolding divided
+divided-same up n d m c p q e = ap₂ _+_ whole (extra-same up (n % d) (m % c) d c p q left)
+  where
+    whole : n / d ≡ m / c
+    whole = sym (mul-div-mul-right n d q) ∙ ap₂ _/_ e (mul-comm d c) ∙ mul-div-mul-right m c p
+    left : n % d * c ≡ m % c * d
+    left =
+        let a : n / d * d * c + n % d * c ≡ n * c = sym (add-mul (n / d * d) (n % d) c) ∙ ap (λ (x : ℕ). x * c) (div-add-mod' n d) in
+        let b : m / c * c * d + m % c * d ≡ m * d = sym (add-mul (m / c * c) (m % c) d) ∙ ap (λ (x : ℕ). x * d) (div-add-mod' m c) in
+        let w : n / d * d * c ≡ m / c * c * d = mul-right-comm (n / d) d c ∙ ap (λ (x : ℕ). x * c * d) whole in
+        omega arith
+
+pub down-least : (n d : ℕ) → divided false n d * d ≤ n
+unfolding divided extra
+down-least n d = rw add-zero (omega (arith, div-add-mod' n d))
+
+pub down-most : (n d : ℕ) → 0 < d → n < divided false n d * d + d
+unfolding divided extra
+down-most n d p = rw add-zero (omega (arith, div-add-mod' n d, mod-lt n p))
+
+up-by : (n d : ℕ) (r : ℕ) → n % d ≡ r → r < d → (n ≤ (n / d + extra true r) * d) × ((n / d + extra true r) * d < n + d)
+unfolding extra
+up-by n d zero e l = (rw add-zero (omega (arith, div-add-mod' n d)), rw add-zero (omega (arith, div-add-mod' n d)))
+up-by n d (suc r) e l = (rw (add-mul (n / d) 1 d) (omega (arith, div-add-mod' n d)), rw (add-mul (n / d) 1 d) (omega (arith, div-add-mod' n d)))
+
+pub up-least : (n d : ℕ) → 0 < d → n ≤ divided true n d * d
+unfolding divided
+up-least n d p = up-by n d (n % d) refl (mod-lt n p) .0
+
+pub up-most : (n d : ℕ) → 0 < d → divided true n d * d < n + d
+unfolding divided
+up-most n d p = up-by n d (n % d) refl (mod-lt n p) .1
+
+-- nine figures, or the carry to ten
+pub divided-least : (up : Bool) (n d a : ℕ) → 0 < d → a * d ≤ n → a ≤ divided up n d
+divided-least false n d a p h = omega (arith, lt-of-mul-lt-mul-right d {m = a} {n = divided false n d + 1} (rw (add-mul (divided false n d) 1 d) (omega (arith, down-most n d p))))
+divided-least true n d a p h = le-of-mul-le-mul-right (le-trans h (up-least n d p)) p
+
+pub divided-most : (up : Bool) (n d a : ℕ) → 0 < d → n < a * d → divided up n d ≤ a
+divided-most false n d a p h = omega (arith, lt-of-mul-lt-mul-right d {m = divided false n d} {n = a} (lt-of-le-of-lt (down-least n d) h))
+divided-most true n d a p h = omega (arith, lt-of-mul-lt-mul-right d {m = divided true n d} {n = a + 1} (rw (add-mul a 1 d) (omega (arith, up-most n d p))))

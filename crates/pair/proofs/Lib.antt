@@ -1,0 +1,7 @@
+-- The crate's laws. Assumes nothing.
+pub mod Figures
+mod Exponents
+mod Powers
+mod Excess
+mod Dividing
+mod Rounds

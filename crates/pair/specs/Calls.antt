@@ -1,0 +1,91 @@
+-- The calls on pairs and what each answers. A call that cannot be answered is refused with document 01's number 53: a pair that is
+-- none, an entry with too many digits, a divisor with low end 0, 1 − f with f's high end above 1, an exponent out of reach.
+use Prim.Native.Nat.{ℕ, _^_}
+use mathlib.Core.Bool.{Bool, true, false, _&&_, cond, not}
+use lib.Dec.{leb, ltb}
+use lib.IntN.{ℤ}
+use Rattle.pair.specs.declared.Number.{Number}
+use Rattle.pair.specs.declared.Pair.{Pair}
+use Rattle.pair.specs.declared.Units.{Units}
+use Rattle.pair.specs.declared.Answer.{Answer}
+use Rattle.pair.specs.declared.Answer.the-variants as Answers
+use Rattle.pair.specs.declared.Order.{Order}
+use Rattle.pair.specs.declared.Order.the-variants as Orders
+use Rattle.pair.specs.declared.Count.{Count}
+use Rattle.pair.specs.declared.Count.the-variants as Counts
+use Rattle.pair.specs.Number.{inReach, isZero, isNumber, isPair, atMost, zero, one}
+use Rattle.pair.specs.Rounding.{rounded, sumEnd, productEnd, quotientEnd, restEnd, unitsEnd}
+
+-- what a call tells: a result, or the number of a refusal
+pub data Outcome (A : Type 0) : Type 0 where
+  is : A → Outcome A
+  refused : ℕ → Outcome A
+
+-- each case of an answer in these terms
+unfoldable pub answer : Answer → Outcome Pair
+answer (Answers.Is p) = is p
+answer Answers.Refused = refused 53
+
+unfoldable pub order : Order → Outcome Bool
+order Orders.AtMost = is true
+order Orders.Above = is false
+order Orders.Refused = refused 53
+
+unfoldable pub count : Count → Outcome Units
+count (Counts.Is n) = is n
+count Counts.Refused = refused 53
+
+-- a result where the condition holds, else 53
+unfoldable pub provided : {A : Type 0} → Bool → Outcome A → Outcome A
+provided true x = x
+provided false x = refused 53
+
+-- the pair of two ends, if the exponents are in reach
+unfoldable pub ends : Number → Number → Outcome Pair
+ends low high = provided (inReach (low .exponent) && inReach (high .exponent)) (is (record { low = low; high = high }))
+
+unfoldable pub zeroPair : Pair
+zeroPair = record { low = zero; high = zero }
+
+unfoldable pub onePair : Pair
+onePair = record { low = one; high = one }
+
+-- m × 10^e, of at most nine digits
+unfoldable pub entry : ℕ → ℤ → Outcome Pair
+entry m e = provided (leb m 999999999 && inReach e) (ends (rounded false m 1 e) (rounded true m 1 e))
+
+-- p + q
+unfoldable pub sum : Pair → Pair → Outcome Pair
+sum p q =
+    provided (isPair p && isPair q)
+    (ends (sumEnd false (p .low) (q .low)) (sumEnd true (p .high) (q .high)))
+
+-- p × q
+unfoldable pub product : Pair → Pair → Outcome Pair
+product p q =
+    provided (isPair p && isPair q)
+    (ends (productEnd false (p .low) (q .low)) (productEnd true (p .high) (q .high)))
+
+-- p / q: low by high, high by low
+unfoldable pub quotient : Pair → Pair → Outcome Pair
+quotient p q =
+    provided (isPair p && (isPair q && not (isZero (q .low))))
+    (ends (quotientEnd false (p .low) (q .high)) (quotientEnd true (p .high) (q .low)))
+
+-- 1 − f: the low end from f's high end, the high end from f's low end
+unfoldable pub oneMinus : Pair → Outcome Pair
+oneMinus f =
+    provided (isPair f && atMost (f .high) one)
+    (ends (restEnd false (f .high)) (restEnd true (f .low)))
+
+-- whether a ≤ b
+unfoldable pub compared : Number → Number → Outcome Bool
+compared a b = provided (isNumber a && isNumber b) (is (atMost a b))
+
+-- how many units of 10^u a pair is: the low end down, the high end up; counts of up to nineteen figures
+unfoldable pub inUnits : Pair → ℤ → Outcome Units
+inUnits p u =
+    let low : ℕ = unitsEnd false (p .low) u in
+    let high : ℕ = unitsEnd true (p .high) u in
+    provided (isPair p && (inReach u && (ltb low (10 ^ 19) && ltb high (10 ^ 19))))
+    (is (record { low = low; high = high }))

@@ -1,0 +1,1 @@
+-- What the crates above may count on.
