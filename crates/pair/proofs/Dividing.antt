@@ -1,8 +1,8 @@
 -- Division to a whole number, down or up. Assumes nothing.
 use mathlib.Core.Path.{_≡_, refl, sym, _∙_, ap, ap₂, subst}
-use mathlib.Core.Bool.{Bool, true, false}
+use mathlib.Core.Bool.{Bool, true, false, true≢false}
 use Prim.Native.Nat.{ℕ, zero, suc, _+_, _-_, _*_, _/_, _%_, _^_, _≤_, _<_}
-use native.Mathlib.Nat.{mul-le-mul-left, mul-le-mul-right, le-trans, lt-of-lt-of-le, lt-of-le-of-lt, le-of-mul-le-mul-right, lt-of-mul-lt-mul-right, mul-comm, mul-assoc, mul-pos, mul-div-mul-right, div-add-mod', mod-lt, eq-of-mul-eq-mul-right, zero-mul, mul-zero, mul-one, add-mul, mul-right-comm, ne-of-gt, add-zero}
+use native.Mathlib.Nat.{mul-le-mul-left, mul-le-mul-right, le-trans, lt-of-lt-of-le, lt-of-le-of-lt, le-of-mul-le-mul-right, lt-of-mul-lt-mul-right, mul-comm, mul-assoc, mul-pos, mul-div-mul-right, div-add-mod', mod-lt, eq-of-mul-eq-mul-right, zero-mul, mul-zero, mul-one, add-mul, mul-right-comm, ne-of-gt, add-zero, suc-ne-zero, mod-one, div-one}
 use native.Mathlib.Omega.{arith}
 use Rattle.pair.specs.Rounding.{extra, divided}
 use Rattle.pair.proofs.Exponents.{by-cases}
@@ -59,3 +59,31 @@ divided-least true n d a p h = le-of-mul-le-mul-right (le-trans h (up-least n d 
 pub divided-most : (up : Bool) (n d a : ℕ) → 0 < d → n < a * d → divided up n d ≤ a
 divided-most false n d a p h = omega (arith, lt-of-mul-lt-mul-right d {m = divided false n d} {n = a} (lt-of-le-of-lt (down-least n d) h))
 divided-most true n d a p h = omega (arith, lt-of-mul-lt-mul-right d {m = divided true n d} {n = a + 1} (rw (add-mul a 1 d) (omega (arith, up-most n d p))))
+
+-- the three ways that the code tells apart
+pub divided-down : (n d : ℕ) (up : Bool) → up ≡ false → divided up n d ≡ n / d
+unfolding divided extra
+divided-down n d false h = add-zero (n / d)
+divided-down n d true h = absurd (true≢false h)
+
+extra-none : (up : Bool) (r : ℕ) → r ≡ 0 → extra up r ≡ 0
+unfolding extra
+extra-none false r h = refl
+extra-none true zero h = refl
+extra-none true (suc r) h = absurd (suc-ne-zero r h)
+
+extra-some : (r : ℕ) → (r ≡ 0 → ⊥) → extra true r ≡ 1
+unfolding extra
+extra-some zero h = absurd (h refl)
+extra-some (suc r) h = refl
+
+pub divided-even : (n d : ℕ) (up : Bool) → n % d ≡ 0 → divided up n d ≡ n / d
+unfolding divided
+divided-even n d up h = ap (λ (x : ℕ). n / d + x) (extra-none up (n % d) h) ∙ add-zero (n / d)
+
+pub divided-left : (n d : ℕ) (up : Bool) → up ≡ true → (n % d ≡ 0 → ⊥) → divided up n d ≡ n / d + 1
+unfolding divided
+divided-left n d up h k = ap (λ (b : Bool). n / d + extra b (n % d)) h ∙ ap (λ (x : ℕ). n / d + x) (extra-some (n % d) k)
+
+pub divided-one : (up : Bool) (m : ℕ) → divided up m 1 ≡ m
+divided-one up m = divided-even m 1 up (mod-one m) ∙ div-one m

@@ -5,3 +5,7 @@ mod Powers
 mod Excess
 mod Dividing
 mod Rounds
+mod Numbers
+mod Shares
+mod Alignment
+mod Sums

@@ -1,11 +1,13 @@
 -- Powers of ten. Assumes nothing.
 use mathlib.Core.Path.{_≡_, refl, sym, _∙_, ap, subst}
 use Prim.Native.Nat.{ℕ, zero, suc, _+_, _-_, _*_, _^_, _≤_, _<_}
-use native.Mathlib.Nat.{one-le-pow, pow-le-pow-right, pow-suc, mul-le-mul-left, mul-one, add-comm}
+use native.Mathlib.Nat.{one-le-pow, pow-le-pow-right, pow-suc, mul-le-mul-left, mul-one, add-comm, lt-irrefl, lt-of-lt-of-le}
 use native.Mathlib.Numerals.{add-one}
 use native.Mathlib.Omega.{arith}
-use lib.Dec.{lit<, lit≤}
+use lib.Dec.{lit<, lit≤, ltb}
+use borrow.Author.Tests.{ltb-true, ltb-false}
 use lib.Pow.{pow-add}
+use Rattle.pair.proofs.Exponents.{by-cases}
 
 pub ten-above : (k : ℕ) → 0 < 10 ^ k
 ten-above k = one-le-pow k 10 (lit< tt)
@@ -20,3 +22,10 @@ ten-rises h = pow-le-pow-right (lit< tt) h
 pub below-ten : (n : ℕ) → n < 10 ^ n
 below-ten zero = lit< tt
 below-ten (suc n) = rw (pow-suc 10 n) (omega (arith, below-ten n))
+
+-- an exponent is below another where the power is
+pub ten-reflects : (i j : ℕ) → 10 ^ i < 10 ^ j → i < j
+ten-reflects i j h =
+    by-cases (ltb i j)
+    (λ t. ltb-true i j t)
+    (λ t. absurd (lt-irrefl (10 ^ i) (lt-of-lt-of-le h (ten-rises (ltb-false i j t)))))

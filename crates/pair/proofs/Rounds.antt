@@ -4,14 +4,15 @@ use mathlib.Core.Path.{_≡_, refl, sym, _∙_, ap, ap₂, subst}
 use mathlib.Core.Bool.{Bool, true, false}
 use Prim.Native.Nat.{ℕ, zero, suc, _+_, _-_, _*_, _/_, _%_, _^_, _≤_, _<_}
 use native.Mathlib.Nat.{mul-le-mul-left, mul-le-mul-right, le-of-mul-le-mul-right, lt-of-mul-lt-mul-right, mul-comm, mul-assoc, mul-pos, mul-right-comm, mul-lt-mul-of-pos-right, zero-mul, lt-of-lt-of-le}
-use lib.Dec.{lit<}
+use lib.Dec.{lit<, ltb}
+use borrow.Author.Tests.{lt-ltb}
 use native.Mathlib.Omega.{arith}
 use lib.IntN.{ℤ, _+ℤ_, subℕ}
 use Rattle.pair.specs.declared.Number.{Number}
 use Rattle.pair.specs.Rounding.{divided, excess, carried, rounded}
 use Rattle.pair.proofs.Powers.{ten-above, ten-add}
 use Rattle.pair.proofs.Excess.{Beyond, excess-is}
-use Rattle.pair.proofs.Dividing.{divided-same}
+use Rattle.pair.proofs.Dividing.{divided-same, divided-one}
 
 rounded-above : (up : Bool) (n d : ℕ) (e : ℤ) → 0 < n →
     rounded up n d e ≡ carried (divided up (n * 1000000000) (d * 10 ^ excess (n * 1000000000) d)) (e +ℤ subℕ (excess (n * 1000000000) d) 9)
@@ -35,3 +36,14 @@ module _ (n d m c k : ℕ) (d-above : 0 < d) (c-above : 0 < c) (ratio : m * (d *
       rounded-above up n d e above
       ∙ ap (λ (j : ℕ). carried (divided up (n * 1000000000) (d * 10 ^ j)) (e +ℤ subℕ j 9)) (excess-is (n * 1000000000) d k d-above figures)
       ∙ ap (λ (q : ℕ). carried q (e +ℤ subℕ k 9)) (divided-same up (n * 1000000000) (d * 10 ^ k) m c (mul-pos d-above (ten-above k)) c-above (sym ratio))
+
+-- where nothing is left to round, both directions give the number itself
+pub rounded-exact : (up : Bool) (n m k : ℕ) (e f : ℤ) → m * 10 ^ k ≡ n * 1000000000 → 100000000 ≤ m → m ≤ 999999999 → f ≡ e +ℤ subℕ k 9 →
+    record { significand = m; exponent = f } ≡ rounded up n 1 e
+unfolding carried
+rounded-exact up n m k e f ratio least most h =
+    let t : ltb m 1000000000 ≡ true = lt-ltb m 1000000000 (omega arith) in
+    sym
+    (rounded-as n 1 m 1 k (lit< tt) (lit< tt) (omega (arith, ratio)) (omega arith) (omega arith) up e
+    ∙ ap (λ (q : ℕ). carried q (e +ℤ subℕ k 9)) (divided-one up m)
+    ∙ rw (t, h) refl)

@@ -15,8 +15,11 @@ nineFigures m = leb 100000000 m && leb m 999999999
 unfoldable pub inReach : ℤ → Bool
 inReach e = leZ (negsuc 99998) e && leZ e (pos 99999)
 
+unfoldable pub zeroExponent : ℤ → Bool
+zeroExponent e = leZ (pos 0) e && leZ e (pos 0)
+
 unfoldable pub isZero : Number → Bool
-isZero w = eqb (w .significand) 0 && (leZ (pos 0) (w .exponent) && leZ (w .exponent) (pos 0))
+isZero w = eqb (w .significand) 0 && zeroExponent (w .exponent)
 
 unfoldable pub isNumber : Number → Bool
 isNumber w = isZero w || (nineFigures (w .significand) && inReach (w .exponent))
@@ -49,7 +52,7 @@ isPair p = isNumber (p .low) && (isNumber (p .high) && atMost (p .low) (p .high)
 
 -- The value m × 10^e as a fraction: m × 10^(e + depth) over 10^depth, with a depth below every exponent that can arise
 unfoldable pub depth : ℕ
-depth = 300000
+depth = 1000000
 
 unfoldable pub place : ℤ → ℕ
 place (pos n) = depth + n

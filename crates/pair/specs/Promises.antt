@@ -1,1 +1,89 @@
--- What the crates above may count on.
+-- The terms of the promises that the crates above may count on; `proofs/Promises.antt` states and proves them.
+use mathlib.Core.Path.{_≡_}
+use mathlib.Core.Bool.{Bool, true, false}
+use mathlib.Core.Logic.{_⊎_}
+use Prim.Native.Nat.{ℕ, _*_, _^_, _≤_}
+use lib.IntN.{ℤ}
+use Rattle.pair.specs.declared.Number.{Number}
+use Rattle.pair.specs.declared.Pair.{Pair}
+use Rattle.pair.specs.Fraction as exact
+use Rattle.pair.specs.Fraction.{Fraction, Proper, _≤ᶠ_}
+use Rattle.pair.specs.Number.{isNumber, value, place, depth, zero}
+use Rattle.pair.specs.Calls as calls
+use Rattle.pair.specs.Calls.{Outcome}
+
+-- p holds x: the exact fraction lies between the ends
+pub record Holds (p : Pair) (x : Fraction) : Type 0 where
+  pub proper : Proper x
+  pub low : value (p .low) ≤ᶠ x
+  pub high : x ≤ᶠ value (p .high)
+
+-- w lies on the side of x to which rounding goes: not above it, or not below it
+unfoldable pub Beside : Bool → Fraction → Fraction → Type 0
+Beside false w x = w ≤ᶠ x
+Beside true w x = x ≤ᶠ w
+
+-- x and one part in 10^8 of it more
+unfoldable pub grown : Fraction → Fraction
+grown x = record { num = x .num * 100000001; den = x .den * 100000000 }
+
+-- w and x differ by at most one part in 10^8
+unfoldable pub Close : Bool → Fraction → Fraction → Type 0
+Close false w x = x ≤ᶠ grown w
+Close true w x = w ≤ᶠ grown x
+
+-- w is x rounded once: a working number on its side of x, none of them nearer, close, and 0 exactly where x is
+pub record Rounded (up : Bool) (x : Fraction) (w : Number) : Type 0 where
+  pub working : isNumber w ≡ true
+  pub side : Beside up (value w) x
+  pub nearest : (v : Number) → isNumber v ≡ true → Beside up (value v) x → Beside up (value v) (value w)
+  pub close : Close up (value w) x
+  pub zero-from : x .num ≡ 0 → w ≡ zero
+  pub zero-only : w ≡ zero → x .num ≡ 0
+
+-- 0, or from 10^−k to 10^k
+pub record Sized (k : ℕ) (x : Fraction) : Type 0 where
+  pub sized : (x .num ≡ 0) ⊎ ((x .den ≤ x .num * 10 ^ k) × (x .num ≤ x .den * 10 ^ k))
+
+-- each end of p is at most the same end of q
+pub record _≤ₑ_ (p q : Pair) : Type 0 where
+  pub low : value (p .low) ≤ᶠ value (q .low)
+  pub high : value (p .high) ≤ᶠ value (q .high)
+
+-- The three operations on two pairs, so that each promise is stated once
+pub data Operation : Type 0 where
+  sums products quotients : Operation
+
+-- on pairs, by the working rule
+unfoldable pub call : Operation → Pair → Pair → Outcome Pair
+call sums p q = calls.sum p q
+call products p q = calls.product p q
+call quotients p q = calls.quotient p q
+
+-- on exact fractions
+unfoldable pub exactly : Operation → Fraction → Fraction → Fraction
+exactly sums x y = exact.plus x y
+exactly products x y = exact.times x y
+exactly quotients x y = exact.over x y
+
+-- the end of the second operand that the low and the high end of the result take: a quotient's takes the other
+unfoldable pub withLow : Operation → Pair → Number
+withLow sums q = q .low
+withLow products q = q .low
+withLow quotients q = q .high
+
+unfoldable pub withHigh : Operation → Pair → Number
+withHigh sums q = q .high
+withHigh products q = q .high
+withHigh quotients q = q .low
+
+-- the exact ends, which are then rounded
+unfoldable pub lowEnd : Operation → Pair → Pair → Fraction
+lowEnd o p q = exactly o (value (p .low)) (value (withLow o q))
+
+unfoldable pub highEnd : Operation → Pair → Pair → Fraction
+highEnd o p q = exactly o (value (p .high)) (value (withHigh o q))
+
+-- m × 10^e as a fraction
+unfoldable pub scaled : ℕ → ℤ → Fraction
+scaled m e = record { num = m * 10 ^ place e; den = 10 ^ depth }

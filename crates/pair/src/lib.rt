@@ -1,4 +1,7 @@
 //! Working numbers and pairs.
+mod exponent;
+mod rounding;
+mod ends;
 
 pub struct Number {
     pub significand: u32,

@@ -1,0 +1,87 @@
+-- What it takes to be a working number, read off the tests. Assumes nothing.
+use mathlib.Core.Path.{_≡_, refl, sym, _∙_, ap, subst}
+use mathlib.Core.Bool.{Bool, true, false, _&&_, _||_, true≢false}
+use Prim.Native.Nat.{ℕ, zero, suc, _+_, _*_, _^_, _≤_, _<_}
+use native.Mathlib.Nat.{ne-of-gt}
+use native.Mathlib.Omega.{arith}
+use lib.Dec.{leb, eqb}
+use lib.IntN.{ℤ, pos, negsuc, _+ℤ_, _-ℤ_, negℤ, subℕ}
+use lib.Signed.{mag, leZ}
+use mir.Syntax.{w32}
+use mir.Val.{SFits, toZ, ofZ}
+use mir.Facts.{toZ-ofZ}
+use borrow.Author.Tests.{leb-true, le-leb, eqb-true, ne-eqb, eq-eqb, ltb-true, ltb-false}
+use Rattle.pair.specs.declared.Number.{Number}
+use Rattle.pair.specs.Number as specs
+use Rattle.pair.specs.Number.{nineFigures, inReach, zeroExponent, isZero, isNumber}
+use Rattle.pair.proofs.Exponents.{mag-plus, mag-minus}
+
+-- m × 10^e with nine figures and an exponent in reach
+pub record Nine (w : Number) : Type 0 where
+  pub least : 100000000 ≤ w .significand
+  pub most : w .significand ≤ 999999999
+  pub reach : mag (w .exponent) < 100000
+
+pub both : (a b : Bool) → (a && b) ≡ true → (a ≡ true) × (b ≡ true)
+both true b h = (refl, h)
+both false b h = absurd (true≢false (sym h))
+
+pub reach-mag : (e : ℤ) → inReach e ≡ true → mag e < 100000
+unfolding inReach
+reach-mag (pos n) h = omega (arith, leb-true n 99999 h)
+reach-mag (negsuc n) h = omega (arith, leb-true n 99998 (both (leb n 99998) true h .0))
+
+zero-mag : (e : ℤ) → zeroExponent e ≡ true → e ≡ pos 0
+unfolding zeroExponent
+zero-mag (pos n) h = ap pos (omega (arith, leb-true n 0 (both (leb 0 n) (leb n 0) h .1)))
+zero-mag (negsuc n) h = absurd (true≢false (sym h))
+
+either : {A : Type 0} (a b : Bool) → (a || b) ≡ true → (a ≡ true → A) → (b ≡ true → A) → A
+either true b h f g = f refl
+either false b h f g = g h
+
+pub number-nine : (w : Number) → isNumber w ≡ true → 0 < w .significand → Nine w
+unfolding isNumber isZero nineFigures
+number-nine w h p =
+    either (isZero w) (nineFigures (w .significand) && inReach (w .exponent)) h
+    (λ z. absurd (ne-of-gt p (eqb-true (w .significand) 0 (both (eqb (w .significand) 0) (zeroExponent (w .exponent)) z .0))))
+    (λ n.
+        record {
+          least = leb-true 100000000 (w .significand) (both (leb 100000000 (w .significand)) (leb (w .significand) 999999999) (both (nineFigures (w .significand)) (inReach (w .exponent)) n .0) .0);
+          most = leb-true (w .significand) 999999999 (both (leb 100000000 (w .significand)) (leb (w .significand) 999999999) (both (nineFigures (w .significand)) (inReach (w .exponent)) n .0) .1);
+          reach = reach-mag (w .exponent) (both (nineFigures (w .significand)) (inReach (w .exponent)) n .1)
+        })
+
+pub number-zero : (w : Number) → isNumber w ≡ true → w .significand ≡ 0 → w ≡ specs.zero
+unfolding isNumber isZero nineFigures specs.zero
+number-zero w h p =
+    either (isZero w) (nineFigures (w .significand) && inReach (w .exponent)) h
+    (λ z. λ i. record { significand = p i; exponent = zero-mag (w .exponent) (both (eqb (w .significand) 0) (zeroExponent (w .exponent)) z .1) i })
+    (λ n. absurd (omega (arith, leb-true 100000000 (w .significand) (both (leb 100000000 (w .significand)) (leb (w .significand) 999999999) (both (nineFigures (w .significand)) (inReach (w .exponent)) n .0) .0))))
+
+pub number-mag : (w : Number) → isNumber w ≡ true → mag (w .exponent) < 100000
+unfolding isNumber isZero
+number-mag w h =
+    either (isZero w) (nineFigures (w .significand) && inReach (w .exponent)) h
+    (λ z. subst (λ (e : ℤ). mag e < 100000) (sym (zero-mag (w .exponent) (both (eqb (w .significand) 0) (zeroExponent (w .exponent)) z .1))) (omega arith))
+    (λ n. reach-mag (w .exponent) (both (nineFigures (w .significand)) (inReach (w .exponent)) n .1))
+
+-- an i32 is read back from its bits
+pub back : {z : ℤ} → mag z < 2147483648 → toZ w32 (ofZ w32 z) ≡ z
+back h = toZ-ofZ (record { sfits = h })
+
+-- sums and differences of exponents fit an i32
+pub fits-plus : (e f : ℤ) → mag e + mag f < 2000000000 → SFits w32 (e +ℤ f)
+fits-plus e f h = record { sfits = omega (arith, mag-plus e f) }
+
+pub fits-minus : (e f : ℤ) → mag e + mag f < 2000000000 → SFits w32 (e -ℤ f)
+fits-minus e f h = record { sfits = omega (arith, mag-minus e f) }
+
+pub number-back : (w : Number) → isNumber w ≡ true → toZ w32 (ofZ w32 (w .exponent)) ≡ w .exponent
+number-back w h = back (omega (arith, number-mag w h))
+
+pub number-plus : (v w : Number) → isNumber v ≡ true → isNumber w ≡ true → SFits w32 (toZ w32 (ofZ w32 (v .exponent)) +ℤ toZ w32 (ofZ w32 (w .exponent)))
+number-plus v w h k = rw (number-back v h, number-back w k) (fits-plus (v .exponent) (w .exponent) (omega (arith, number-mag v h, number-mag w k)))
+
+pub number-minus : (v w : Number) → isNumber v ≡ true → isNumber w ≡ true → SFits w32 (toZ w32 (ofZ w32 (v .exponent)) -ℤ toZ w32 (ofZ w32 (w .exponent)))
+number-minus v w h k = rw (number-back v h, number-back w k) (fits-minus (v .exponent) (w .exponent) (omega (arith, number-mag v h, number-mag w k)))

@@ -1,0 +1,118 @@
+-- The sum of the aligned significands is divided by 10^g, or by ten times that where it has a figure more. Assumes nothing.
+use mathlib.Core.Path.{_≡_, refl, sym, _∙_, ap, subst}
+use Prim.Native.Nat.{ℕ, _+_, _*_, _^_, _≤_, _<_}
+use native.Mathlib.Nat.{mul-le-mul, mul-le-mul-right, le-trans}
+use native.Mathlib.Omega.{arith}
+use lib.IntN.{ℤ, pos, _+ℤ_}
+use lib.Signed.{mag}
+use mir.Facts.{toZ-ofZ}
+use borrow.Author.Needs.{needs}
+use Rattle.pair.proofs.Alignment.{Small}
+use Rattle.pair.proofs.Exponents.{mag-plus}
+use Rattle.pair.proofs.Numbers.{fits-plus, back}
+use Rattle.pair.proofs.Powers.{ten-above, ten-rises}
+use Rattle.pair.proofs.Sums.{sum-kept, sum-carried}
+use Rattle.pair.proofs.ends.added.Statement.{statement}
+use Rattle.pair.proofs.ends.added.Tie as tie
+use Rattle.pair.proofs.ends.added.Reads as reads
+use Rattle.pair.proofs.ends.added.Lts as lts
+use Rattle.pair.proofs.exponent.plus.Reads as plus-reads
+use Rattle.pair.proofs.rounding.nine.Reads as nine-reads
+use Rattle.pair.proofs.rounding.power.Reads as power-reads
+
+-- 10^g, for at most nine places
+record Power (g p : ℕ) : Type 0 where
+  is : p ≡ 10 ^ g
+  least : 0 < p
+  most : p ≤ 1000000000
+
+power : (g p : ℕ) → g ≤ 9 → p ≡ 10 ^ g → Power g p
+power g p h e = record { is = e; least = subst (λ (x : ℕ). 0 < x) (sym e) (ten-above g); most = subst (λ (x : ℕ). x ≤ 1000000000) (sym e) (ten-rises {j = 9} h) }
+
+next-small : (e : ℤ) → mag e < 100000 → Small (e +ℤ pos 1)
+next-small e h = record { small = omega (arith, mag-plus e (pos 1)) }
+
+-- src/ends.rt:94:9
+power-requires : tie.Need-power-requires
+power-requires c κs = search needs
+
+-- src/ends.rt:95:13
+mul-t : tie.Need-mul-t
+mul-t c =
+    let a = c .before in
+    let p = power (a .args .g) (c .power .result) (a .pre .1 .1 .0) (c .power .ensures) in
+    omega (arith, mul-le-mul (a .pre .0 .1) (p .most))
+
+-- src/ends.rt:95:13
+add-t : tie.Need-add-t
+add-t c =
+    let a = c .before in
+    let p = power (a .args .g) (c .power .result) (a .pre .1 .1 .0) (c .power .ensures) in
+    omega (arith, mul-le-mul (a .pre .0 .1) (p .most))
+
+-- src/ends.rt:96:12
+mul-if1 : tie.Need-mul-if1
+mul-if1 c =
+    let a = c .before in
+    let p = power (a .args .g) (c .power .result) (a .pre .1 .1 .0) (c .power .ensures) in
+    omega (arith, p .most)
+
+-- src/ends.rt:97:9
+nine-requires : tie.Need-nine-requires
+nine-requires c κs =
+    let a = c .before .before in
+    let p = power (a .args .g) (c .before .power .result) (a .pre .1 .1 .0) (c .before .power .ensures) in
+    (p .least, (omega (arith, mul-le-mul-right (c .before .power .result) (a .pre .0 .0)), (c .if1 .taken, rw (toZ-ofZ (a .fits .e)) (omega arith))))
+
+-- src/ends.rt:97:9
+returns : tie.Need-returns
+returns c =
+    let a = c .before .before .before in
+    let p = power (a .args .g) (c .before .before .power .result) (a .pre .1 .1 .0) (c .before .before .power .ensures) in
+    rw (c .nine .ensures, p .is, toZ-ofZ (a .fits .e))
+    (sum-kept (a .args .up) (a .args .m) (a .args .n) (a .args .g) (a .args .e) (a .pre .0 .0) (record { small = omega arith }) (omega arith)
+    (subst (λ (x : ℕ). a .args .m * x + a .args .n < 1000000000 * x) (p .is) (c .before .if1 .taken)))
+
+-- src/ends.rt:99:17
+mul-nine : tie.Need-mul-nine
+mul-nine c =
+    let a = c .before .before in
+    let p = power (a .args .g) (c .before .power .result) (a .pre .1 .1 .0) (c .before .power .ensures) in
+    omega (arith, p .most)
+
+-- src/ends.rt:99:25
+plus-requires : tie.Need-plus-requires
+plus-requires c κs = let a = c .before .before in rw (toZ-ofZ (a .fits .e)) (fits-plus (a .args .e) (pos 1) (omega arith))
+
+-- src/ends.rt:99:5
+nine-requires-2 : tie.Need-nine-requires-2
+nine-requires-2 c κs =
+    let a = c .before .before .before in
+    let p = power (a .args .g) (c .before .before .power .result) (a .pre .1 .1 .0) (c .before .before .power .ensures) in
+    (omega (arith, p .least), (omega (arith, c .before .if1 .left), (omega (arith, mul-le-mul-right (c .before .before .power .result) (a .pre .0 .1), p .least),
+    rw (back (c .plus .ok), c .plus .ensures, toZ-ofZ (a .fits .e)) (omega (arith, mag-plus (a .args .e) (pos 1))))))
+
+-- src/ends.rt:87:1
+returns-2 : tie.Need-returns-2
+returns-2 c =
+    let a = c .before .before .before .before in
+    let p = power (a .args .g) (c .before .before .before .power .result) (a .pre .1 .1 .0) (c .before .before .before .power .ensures) in
+    rw (c .nine2 .ensures, p .is, back (c .before .plus .ok), c .before .plus .ensures, toZ-ofZ (a .fits .e))
+    (sum-carried (a .args .up) (a .args .m) (a .args .n) (a .args .g) (a .args .e) (a .pre .0 .0) (record { small = omega arith }) (omega arith)
+    (next-small (a .args .e) (a .pre .1 .1 .1)) (omega (arith, ten-above (a .args .g))) (a .pre .0 .1)
+    (subst (λ (x : ℕ). 1000000000 * x ≤ a .args .m * x + a .args .n) (p .is) (c .before .before .if1 .left)))
+
+pub added-spec : {M : Type 1} → statement M
+added-spec =
+    tie.close
+    (tie.spec
+    power-requires
+    mul-t
+    add-t
+    mul-if1
+    nine-requires
+    returns
+    mul-nine
+    plus-requires
+    nine-requires-2
+    returns-2)

@@ -1,0 +1,215 @@
+//! One end of each operation: the exact result of two working numbers, rounded once.
+use crate::exponent::{above, in_reach, is_zero, less, minus, plus};
+use crate::rounding::{nine, normal, power, whole, zero};
+use crate::Number;
+ghost use mathlib.Core.Path.{_≡_};
+ghost use mathlib.Core.Bool.{Bool, true, false};
+ghost use Prim.Native.Nat.{_+_, _-_, _*_, _^_, _≤_, _<_};
+ghost use lib.Dec.{ltb};
+ghost use lib.IntN.{pos, negsuc, _-ℤ_};
+ghost use lib.Signed.{mag, ltZ};
+ghost use Rattle.pair.specs.Number.{isNumber, inReach, atMost, one};
+ghost use Rattle.pair.specs.Rounding.{rounded, sumEnd, productEnd, quotientEnd, restEnd, unitsEnd};
+
+pub(crate) fn is_number(w: Number) -> bool
+    ensures { λ r. ⌜ r ≡ isNumber w ⌝ }
+{
+    if w.significand == 0 {
+        return is_zero(w.exponent);
+    }
+    if w.significand < 100_000_000 {
+        return false;
+    }
+    if 999_999_999 < w.significand {
+        return false;
+    }
+    in_reach(w.exponent)
+}
+
+pub(crate) fn at_most(a: Number, b: Number) -> bool
+    requires { ⌜ isNumber a ≡ true ⌝ }
+    requires { ⌜ isNumber b ≡ true ⌝ }
+    ensures { λ r. ⌜ r ≡ atMost a b ⌝ }
+{
+    if a.significand == 0 {
+        return true;
+    }
+    if b.significand == 0 {
+        return false;
+    }
+    if less(a.exponent, b.exponent) {
+        return true;
+    }
+    if less(b.exponent, a.exponent) {
+        return false;
+    }
+    a.significand <= b.significand
+}
+
+// m × n × 10^e: the product has 17 or 18 figures.
+fn multiplied(up: bool, m: u64, n: u64, e: i32) -> Number
+    requires { ⌜ (100000000 ≤ m) × (m ≤ 999999999) ⌝ }
+    requires { ⌜ (100000000 ≤ n) × (n ≤ 999999999) ⌝ }
+    requires { ⌜ mag e < 200003 ⌝ }
+    ensures { λ r. ⌜ r ≡ rounded up (m * n) 1 e ⌝ }
+{
+    let p = m * n;
+    if p < 100_000_000_000_000_000 {
+        return nine(up, p, 100_000_000, plus(e, 8));
+    }
+    nine(up, p, 1_000_000_000, plus(e, 9))
+}
+
+pub(crate) fn product(up: bool, a: Number, b: Number) -> Number
+    requires { ⌜ isNumber a ≡ true ⌝ }
+    requires { ⌜ isNumber b ≡ true ⌝ }
+    ensures { λ r. ⌜ r ≡ productEnd up a b ⌝ }
+{
+    if a.significand == 0 {
+        return zero();
+    }
+    if b.significand == 0 {
+        return zero();
+    }
+    let e = plus(a.exponent, b.exponent);
+    multiplied(up, a.significand as u64, b.significand as u64, e)
+}
+
+// m / n × 10^e: with nine zeros more the quotient has nine figures where m is below n, else with eight.
+fn shared(up: bool, m: u64, n: u64, e: i32) -> Number
+    requires { ⌜ (100000000 ≤ m) × (m ≤ 999999999) ⌝ }
+    requires { ⌜ (100000000 ≤ n) × (n ≤ 999999999) ⌝ }
+    requires { ⌜ mag e < 200003 ⌝ }
+    ensures { λ r. ⌜ r ≡ rounded up m n e ⌝ }
+{
+    if m < n {
+        return nine(up, m * 1_000_000_000, n, plus(e, -9));
+    }
+    nine(up, m * 100_000_000, n, plus(e, -8))
+}
+
+pub(crate) fn quotient(up: bool, a: Number, b: Number) -> Number
+    requires { ⌜ isNumber a ≡ true ⌝ }
+    requires { ⌜ isNumber b ≡ true ⌝ }
+    requires { ⌜ 0 < b .significand ⌝ }
+    ensures { λ r. ⌜ r ≡ quotientEnd up a b ⌝ }
+{
+    if a.significand == 0 {
+        return zero();
+    }
+    let e = minus(a.exponent, b.exponent);
+    shared(up, a.significand as u64, b.significand as u64, e)
+}
+
+// m × 10^e + n × 10^(e − g).
+fn added(up: bool, m: u64, e: i32, n: u64, g: usize) -> Number
+    requires { ⌜ (100000000 ≤ m) × (m ≤ 999999999) ⌝ }
+    requires { ⌜ n ≤ 999999999 ⌝ }
+    requires { ⌜ g ≤ 9 ⌝ }
+    requires { ⌜ mag e < 100000 ⌝ }
+    ensures { λ r. ⌜ r ≡ rounded up (m * 10 ^ g + n) 1 (e -ℤ pos g) ⌝ }
+{
+    let d = power(g);
+    let t = m * d + n;
+    if t < 1_000_000_000 * d {
+        return nine(up, t, d, e);
+    }
+    nine(up, t, 10 * d, plus(e, 1))
+}
+
+// a + b, neither 0 and a's exponent not below b's. What lies more than nine places below a's last figure counts as something, no more.
+fn aligned(up: bool, a: Number, b: Number) -> Number
+    requires { ⌜ (isNumber a ≡ true) × (0 < a .significand) ⌝ }
+    requires { ⌜ (isNumber b ≡ true) × (0 < b .significand) ⌝ }
+    requires { ⌜ ltZ (a .exponent) (b .exponent) ≡ false ⌝ }
+    ensures { λ r. ⌜ r ≡ sumEnd up a b ⌝ }
+{
+    let g = above(b.exponent, a.exponent);
+    if 9 < g {
+        return added(up, a.significand as u64, a.exponent, 1, 9);
+    }
+    added(up, a.significand as u64, a.exponent, b.significand as u64, g)
+}
+
+pub(crate) fn sum(up: bool, a: Number, b: Number) -> Number
+    requires { ⌜ isNumber a ≡ true ⌝ }
+    requires { ⌜ isNumber b ≡ true ⌝ }
+    ensures { λ r. ⌜ r ≡ sumEnd up a b ⌝ }
+{
+    if a.significand == 0 {
+        return b;
+    }
+    if b.significand == 0 {
+        return a;
+    }
+    if less(a.exponent, b.exponent) {
+        return aligned(up, b, a);
+    }
+    aligned(up, a, b)
+}
+
+// 1 − m × 10^(−9 − g).
+fn reduced(up: bool, m: u64, g: usize) -> Number
+    requires { ⌜ (0 < m) × (m ≤ 999999999) ⌝ }
+    requires { ⌜ (1 ≤ g) × (g ≤ 9) ⌝ }
+    ensures { λ r. ⌜ r ≡ rounded up (1000000000 * 10 ^ g - m) 1 (negsuc 8 -ℤ pos g) ⌝ }
+{
+    let d = power(g);
+    nine(up, 1_000_000_000 * d - m, d, -9)
+}
+
+// 1 − f, f at most 1. As in a sum, what lies far below counts as something, no more.
+pub(crate) fn rest(up: bool, f: Number) -> Number
+    requires { ⌜ isNumber f ≡ true ⌝ }
+    requires { ⌜ atMost f one ≡ true ⌝ }
+    ensures { λ r. ⌜ r ≡ restEnd up f ⌝ }
+{
+    if f.significand == 0 {
+        return normal(1, 0);
+    }
+    let m = f.significand as u64;
+    if less(-9, f.exponent) {
+        return zero();
+    }
+    let g = above(f.exponent, -9);
+    if g == 0 {
+        return normal(1_000_000_000 - m, -9);
+    }
+    if 9 < g {
+        return reduced(up, 1, 9);
+    }
+    reduced(up, m, g)
+}
+
+// Whether w counts fewer than 10^19 units of 10^u, which an u64 holds.
+pub(crate) fn countable(w: Number, u: i32) -> bool
+    requires { ⌜ isNumber w ≡ true ⌝ }
+    requires { ⌜ inReach u ≡ true ⌝ }
+    ensures { λ r. ⌜ ((up : Bool) → r ≡ ltb (unitsEnd up w u) (10 ^ 19)) ⌝ }
+{
+    if w.significand == 0 {
+        return true;
+    }
+    !less(10, minus(w.exponent, u))
+}
+
+// w in units of 10^u, a whole number.
+pub(crate) fn units(up: bool, w: Number, u: i32) -> u64
+    requires { ⌜ isNumber w ≡ true ⌝ }
+    requires { ⌜ inReach u ≡ true ⌝ }
+    requires { ⌜ ltb (unitsEnd up w u) (10 ^ 19) ≡ true ⌝ }
+    ensures { λ r. ⌜ r ≡ unitsEnd up w u ⌝ }
+{
+    if w.significand == 0 {
+        return 0;
+    }
+    let m = w.significand as u64;
+    if less(w.exponent, u) {
+        let g = above(w.exponent, u);
+        if 9 < g {
+            return whole(up, 1, 10);
+        }
+        return whole(up, m, power(g));
+    }
+    m * power(above(u, w.exponent))
+}
