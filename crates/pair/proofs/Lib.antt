@@ -9,3 +9,5 @@ mod Numbers
 mod Shares
 mod Alignment
 mod Sums
+mod Rests
+mod Counts

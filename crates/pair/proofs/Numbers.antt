@@ -1,6 +1,6 @@
 -- What it takes to be a working number, read off the tests. Assumes nothing.
 use mathlib.Core.Path.{_≡_, refl, sym, _∙_, ap, subst}
-use mathlib.Core.Bool.{Bool, true, false, _&&_, _||_, true≢false}
+use mathlib.Core.Bool.{Bool, true, false, _&&_, _||_, true≢false, or-false, and-false}
 use Prim.Native.Nat.{ℕ, zero, suc, _+_, _*_, _^_, _≤_, _<_}
 use native.Mathlib.Nat.{ne-of-gt}
 use native.Mathlib.Omega.{arith}
@@ -10,7 +10,7 @@ use lib.Signed.{mag, leZ}
 use mir.Syntax.{w32}
 use mir.Val.{SFits, toZ, ofZ}
 use mir.Facts.{toZ-ofZ}
-use borrow.Author.Tests.{leb-true, le-leb, eqb-true, ne-eqb, eq-eqb, ltb-true, ltb-false}
+use borrow.Author.Tests.{leb-true, le-leb, lt-leb, eqb-true, ne-eqb, eq-eqb, ltb-true, ltb-false}
 use Rattle.pair.specs.declared.Number.{Number}
 use Rattle.pair.specs.Number as specs
 use Rattle.pair.specs.Number.{nineFigures, inReach, zeroExponent, isZero, isNumber}
@@ -65,6 +65,29 @@ number-mag w h =
     either (isZero w) (nineFigures (w .significand) && inReach (w .exponent)) h
     (λ z. subst (λ (e : ℤ). mag e < 100000) (sym (zero-mag (w .exponent) (both (eqb (w .significand) 0) (zeroExponent (w .exponent)) z .1))) (omega arith))
     (λ n. reach-mag (w .exponent) (both (nineFigures (w .significand)) (inReach (w .exponent)) n .1))
+
+-- the tests one after the other, as the code makes them
+pub is-zero-number : (w : Number) → w .significand ≡ 0 → zeroExponent (w .exponent) ≡ isNumber w
+unfolding isNumber isZero nineFigures
+is-zero-number w h =
+    sym
+    (rw (eq-eqb (w .significand) 0 h, lt-leb 100000000 (w .significand) (omega arith)) (or-false (zeroExponent (w .exponent))))
+
+pub is-nine-number : (w : Number) → (w .significand ≡ 0 → ⊥) → (nineFigures (w .significand) && inReach (w .exponent)) ≡ isNumber w
+unfolding isNumber isZero
+is-nine-number w h = sym (rw (ne-eqb (w .significand) 0 h) refl)
+
+pub nine-figures : (m : ℕ) → 100000000 ≤ m → m ≤ 999999999 → nineFigures m ≡ true
+unfolding nineFigures
+nine-figures m h k = rw (le-leb 100000000 m h, le-leb m 999999999 k) refl
+
+pub too-few : (m : ℕ) → m < 100000000 → nineFigures m ≡ false
+unfolding nineFigures
+too-few m h = rw (lt-leb 100000000 m h) refl
+
+pub too-many : (m : ℕ) → 999999999 < m → nineFigures m ≡ false
+unfolding nineFigures
+too-many m h = rw (lt-leb m 999999999 h) (and-false (leb 100000000 m))
 
 -- an i32 is read back from its bits
 pub back : {z : ℤ} → mag z < 2147483648 → toZ w32 (ofZ w32 z) ≡ z

@@ -29,3 +29,17 @@ ten-reflects i j h =
     by-cases (ltb i j)
     (λ t. ltb-true i j t)
     (λ t. absurd (lt-irrefl (10 ^ i) (lt-of-lt-of-le h (ten-rises (ltb-false i j t)))))
+
+-- 10^g, for at most nine places, as the code has it
+pub record Power (g p : ℕ) : Type 0 where
+  pub is : p ≡ 10 ^ g
+  pub least : 0 < p
+  pub most : p ≤ 1000000000
+
+pub power : (g p : ℕ) → g ≤ 9 → p ≡ 10 ^ g → Power g p
+power g p h e =
+    record {
+      is = e;
+      least = subst (λ (x : ℕ). 0 < x) (sym e) (ten-above g);
+      most = subst (λ (x : ℕ). x ≤ 1000000000) (sym e) (ten-rises {j = 9} h)
+    }

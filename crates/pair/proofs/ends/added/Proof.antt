@@ -10,7 +10,7 @@ use borrow.Author.Needs.{needs}
 use Rattle.pair.proofs.Alignment.{Small}
 use Rattle.pair.proofs.Exponents.{mag-plus}
 use Rattle.pair.proofs.Numbers.{fits-plus, back}
-use Rattle.pair.proofs.Powers.{ten-above, ten-rises}
+use Rattle.pair.proofs.Powers.{ten-above, power}
 use Rattle.pair.proofs.Sums.{sum-kept, sum-carried}
 use Rattle.pair.proofs.ends.added.Statement.{statement}
 use Rattle.pair.proofs.ends.added.Tie as tie
@@ -19,15 +19,6 @@ use Rattle.pair.proofs.ends.added.Lts as lts
 use Rattle.pair.proofs.exponent.plus.Reads as plus-reads
 use Rattle.pair.proofs.rounding.nine.Reads as nine-reads
 use Rattle.pair.proofs.rounding.power.Reads as power-reads
-
--- 10^g, for at most nine places
-record Power (g p : ℕ) : Type 0 where
-  is : p ≡ 10 ^ g
-  least : 0 < p
-  most : p ≤ 1000000000
-
-power : (g p : ℕ) → g ≤ 9 → p ≡ 10 ^ g → Power g p
-power g p h e = record { is = e; least = subst (λ (x : ℕ). 0 < x) (sym e) (ten-above g); most = subst (λ (x : ℕ). x ≤ 1000000000) (sym e) (ten-rises {j = 9} h) }
 
 next-small : (e : ℤ) → mag e < 100000 → Small (e +ℤ pos 1)
 next-small e h = record { small = omega (arith, mag-plus e (pos 1)) }

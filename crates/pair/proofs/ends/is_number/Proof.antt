@@ -1,4 +1,14 @@
+-- 0 first, then the figures, then the exponent. Assumes nothing.
+use mathlib.Core.Path.{_≡_, refl, sym, _∙_, ap, subst}
+use mathlib.Core.Bool.{Bool, true, false, _&&_}
+use Prim.Native.Nat.{ℕ, _≤_, _<_}
+use native.Mathlib.Omega.{arith}
+use mir.Facts.{toZ-ofZ}
+use mir.Syntax.{w32}
+use mir.Val.{SFits}
 use borrow.Author.Needs.{needs}
+use Rattle.pair.specs.Number.{inReach}
+use Rattle.pair.proofs.Numbers.{is-zero-number, is-nine-number, nine-figures, too-few, too-many}
 use Rattle.pair.proofs.ends.is_number.Statement.{statement}
 use Rattle.pair.proofs.ends.is_number.Tie as tie
 use Rattle.pair.proofs.ends.is_number.Reads as reads
@@ -12,15 +22,18 @@ is-zero-requires c κs = search needs
 
 -- src/ends.rt:18:9
 returns : tie.Need-returns
-returns c = ?
+returns c =
+    let w = c .before .before .before .before .args .w in
+    let f : SFits w32 (w .exponent) = search needs in
+    rw (c .is-zero .ensures, toZ-ofZ f) (is-zero-number w (omega arith))
 
 -- src/ends.rt:21:9
 returns-2 : tie.Need-returns-2
-returns-2 c = ?
+returns-2 c = let w = c .before .before .before .before .args .w in ap (λ (t : Bool). t && inReach (w .exponent)) (sym (too-few (w .significand) (omega arith))) ∙ is-nine-number w (omega arith)
 
 -- src/ends.rt:24:9
 returns-3 : tie.Need-returns-3
-returns-3 c = ?
+returns-3 c = let w = c .before .before .before .before .before .before .args .w in ap (λ (t : Bool). t && inReach (w .exponent)) (sym (too-many (w .significand) (omega arith))) ∙ is-nine-number w (omega arith)
 
 -- src/ends.rt:26:5
 in-reach-requires : tie.Need-in-reach-requires
@@ -28,7 +41,11 @@ in-reach-requires c κs = search needs
 
 -- src/ends.rt:14:1
 returns-4 : tie.Need-returns-4
-returns-4 c = ?
+returns-4 c =
+    let w = c .before .before .before .before .before .before .before .before .args .w in
+    let f : SFits w32 (w .exponent) = search needs in
+    rw (c .in-reach .ensures, toZ-ofZ f)
+    (ap (λ (t : Bool). t && inReach (w .exponent)) (sym (nine-figures (w .significand) (omega arith) (omega arith))) ∙ is-nine-number w (omega arith))
 
 pub is-number-spec : {M : Type 1} → statement M
 is-number-spec =
