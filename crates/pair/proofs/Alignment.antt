@@ -3,7 +3,7 @@
 use mathlib.Core.Path.{_≡_, refl, sym, _∙_, ap, subst}
 use mathlib.Core.Bool.{Bool, true, false, not, cond, true≢false}
 use Prim.Native.Nat.{ℕ, zero, suc, _+_, _-_, _*_, _^_, _≤_, _<_}
-use native.Mathlib.Nat.{le-antisymm, mul-one, zero-mul, mul-pos, mul-le-mul, le-trans, lt-of-lt-of-le, lt-of-le-of-lt, mul-assoc}
+use native.Mathlib.Nat.{mul-le-mul-right, mul-lt-mul-of-pos-right, le-antisymm, mul-one, zero-mul, mul-pos, mul-le-mul, le-trans, lt-of-lt-of-le, lt-of-le-of-lt, mul-assoc}
 use native.Mathlib.Omega.{arith}
 use lib.Dec.{leb, ltb, lit<}
 use lib.IntN.{ℤ, pos, negsuc, _+ℤ_, _-ℤ_, subℕ}
@@ -11,8 +11,8 @@ use lib.Signed.{mag, leZ, ltZ}
 use borrow.Author.Tests.{leb-true, leb-false, le-leb, lt-leb}
 use Rattle.pair.specs.declared.Number.{Number}
 use Rattle.pair.specs.Number.{depth, place, lesser, rise, unitsAt, lower, atMost}
-use Rattle.pair.proofs.Exponents.{by-cases, place-same, place-plus, place-minus, place-raise, leZ-place, ltZ-leZ, leZ-of, rise-place, mag-plus, mag-minus, mag-sub}
-use Rattle.pair.proofs.Powers.{ten-above, ten-rises}
+use Rattle.pair.proofs.Exponents.{by-cases, same-test, place-same, place-plus, place-minus, place-raise, leZ-place, ltZ-leZ, leZ-of, rise-place, mag-plus, mag-minus, mag-sub}
+use Rattle.pair.proofs.Powers.{ten-above, ten-rises, ten-add}
 use Rattle.pair.proofs.Numbers.{Nine}
 
 -- exponents small enough for every law here
@@ -159,3 +159,30 @@ unfolding atMost unitsAt
 order-zero-right a b p h =
     lt-leb (unitsAt (lower a b) a) (unitsAt (lower a b) b)
     (omega (arith, units-none (lower a b) b h, mul-pos p (ten-above (rise (lower a b) (a .exponent)))))
+
+-- The order of two working numbers is that of their values in the least unit.
+pub scaled : Number → ℕ
+scaled w = w .significand * 10 ^ place (w .exponent)
+
+pub units-scaled : (w : Number) (l : ℤ) → Small (w .exponent) → Small l → place l ≤ place (w .exponent) → unitsAt l w * 10 ^ place l ≡ scaled w
+unfolding unitsAt scaled
+units-scaled w l p q h =
+    mul-assoc (w .significand) (10 ^ rise l (w .exponent)) (10 ^ place l)
+    ∙ ap (λ (x : ℕ). w .significand * x) (sym (ten-add (rise l (w .exponent)) (place l)) ∙ ap (λ (j : ℕ). 10 ^ j) (rise-of q p h))
+
+pub order-scaled : (a b : Number) → Small (a .exponent) → Small (b .exponent) → atMost a b ≡ leb (scaled a) (scaled b)
+unfolding atMost lower
+order-scaled a b p q =
+    let l = lesser (a .exponent) (b .exponent) in
+    let s = lesser-below p q in
+    let x : unitsAt l a * 10 ^ place l ≡ scaled a = units-scaled a l p (s .0) (s .1) in
+    let y : unitsAt l b * 10 ^ place l ≡ scaled b = units-scaled b l q (s .0) (s .2) in
+    same-test (unitsAt l a) (unitsAt l b) (scaled a) (scaled b)
+    (λ h. omega (arith, mul-le-mul-right (10 ^ place l) h))
+    (λ h. omega (arith, mul-lt-mul-of-pos-right h (ten-above (place l))))
+
+pub order-trans : (a b c : Number) → Small (a .exponent) → Small (b .exponent) → Small (c .exponent) → atMost a b ≡ true → atMost b c ≡ true → atMost a c ≡ true
+order-trans a b c p q r h k =
+    order-scaled a c p r
+    ∙ le-leb (scaled a) (scaled c)
+    (le-trans (leb-true (scaled a) (scaled b) (sym (order-scaled a b p q) ∙ h)) (leb-true (scaled b) (scaled c) (sym (order-scaled b c q r) ∙ k)))

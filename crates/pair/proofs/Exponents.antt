@@ -17,7 +17,7 @@ by-cases true f g = f refl
 by-cases false f g = g refl
 
 -- two tests agree where each holds when the other does
-same-test : (a b : ℕ) (c d : ℕ) → (a ≤ b → c ≤ d) → (b < a → d < c) → leb a b ≡ leb c d
+pub same-test : (a b : ℕ) (c d : ℕ) → (a ≤ b → c ≤ d) → (b < a → d < c) → leb a b ≡ leb c d
 same-test a b c d f g = by-cases (ltb b a) (λ t. lt-leb a b (ltb-true b a t) ∙ sym (lt-leb c d (g (ltb-true b a t)))) (λ t. le-leb a b (ltb-false b a t) ∙ sym (le-leb c d (f (ltb-false b a t))))
 
 pub place-sub : (a b : ℕ) → b ≤ depth → place (subℕ a b) + b ≡ depth + a

@@ -11,3 +11,4 @@ mod Alignment
 mod Sums
 mod Rests
 mod Counts
+mod Providing

@@ -12,8 +12,9 @@ use mir.Val.{SFits, toZ, ofZ}
 use mir.Facts.{toZ-ofZ}
 use borrow.Author.Tests.{leb-true, le-leb, lt-leb, eqb-true, ne-eqb, eq-eqb, ltb-true, ltb-false}
 use Rattle.pair.specs.declared.Number.{Number}
+use Rattle.pair.specs.declared.Pair.{Pair}
 use Rattle.pair.specs.Number as specs
-use Rattle.pair.specs.Number.{nineFigures, inReach, zeroExponent, isZero, isNumber}
+use Rattle.pair.specs.Number.{nineFigures, inReach, zeroExponent, isZero, isNumber, atMost, isPair}
 use Rattle.pair.proofs.Exponents.{mag-plus, mag-minus}
 
 -- m × 10^e with nine figures and an exponent in reach
@@ -66,6 +67,19 @@ number-mag w h =
     (λ z. subst (λ (e : ℤ). mag e < 100000) (sym (zero-mag (w .exponent) (both (eqb (w .significand) 0) (zeroExponent (w .exponent)) z .1))) (omega arith))
     (λ n. reach-mag (w .exponent) (both (nineFigures (w .significand)) (inReach (w .exponent)) n .1))
 
+-- the ends of a pair are numbers, in order
+pub pair-low : (p : Pair) → isPair p ≡ true → isNumber (p .low) ≡ true
+unfolding isPair
+pair-low p h = both (isNumber (p .low)) (isNumber (p .high) && atMost (p .low) (p .high)) h .0
+
+pub pair-high : (p : Pair) → isPair p ≡ true → isNumber (p .high) ≡ true
+unfolding isPair
+pair-high p h = both (isNumber (p .high)) (atMost (p .low) (p .high)) (both (isNumber (p .low)) (isNumber (p .high) && atMost (p .low) (p .high)) h .1) .0
+
+pub pair-order : (p : Pair) → isPair p ≡ true → atMost (p .low) (p .high) ≡ true
+unfolding isPair
+pair-order p h = both (isNumber (p .high)) (atMost (p .low) (p .high)) (both (isNumber (p .low)) (isNumber (p .high) && atMost (p .low) (p .high)) h .1) .1
+
 -- the tests one after the other, as the code makes them
 pub is-zero-number : (w : Number) → w .significand ≡ 0 → zeroExponent (w .exponent) ≡ isNumber w
 unfolding isNumber isZero nineFigures
@@ -108,3 +122,12 @@ number-plus v w h k = rw (number-back v h, number-back w k) (fits-plus (v .expon
 
 pub number-minus : (v w : Number) → isNumber v ≡ true → isNumber w ≡ true → SFits w32 (toZ w32 (ofZ w32 (v .exponent)) -ℤ toZ w32 (ofZ w32 (w .exponent)))
 number-minus v w h k = rw (number-back v h, number-back w k) (fits-minus (v .exponent) (w .exponent) (omega (arith, number-mag v h, number-mag w k)))
+
+-- 0 is told by the significand alone
+pub zero-is : (w : Number) → isNumber w ≡ true → w .significand ≡ 0 → isZero w ≡ true
+unfolding isZero
+zero-is w h z = rw (eq-eqb (w .significand) 0 z) (is-zero-number w z ∙ h)
+
+pub not-zero-is : (w : Number) → 0 < w .significand → isZero w ≡ false
+unfolding isZero
+not-zero-is w p = rw (ne-eqb (w .significand) 0 (ne-of-gt p)) refl

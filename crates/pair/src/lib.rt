@@ -1,35 +1,214 @@
-//! Working numbers and pairs.
+//! Arithmetic on pairs of working numbers (document 01, "Pairs"): each written operation works once and rounds once, the low end
+//! down to the nearest working number, the high end up, so that the exact result lies between the ends.
+//! Every call answers for itself: what it cannot work with it refuses, with document 01's number 53.
 mod exponent;
 mod rounding;
 mod ends;
 
+use crate::ends::{at_most, countable, is_number, product, quotient, rest, sum, units};
+use crate::exponent::in_reach;
+use crate::rounding::normal;
+ghost use mathlib.Core.Path.{_≡_};
+ghost use mathlib.Core.Bool.{Bool};
+ghost use Rattle.pair.specs.Number.{isPair};
+ghost use Rattle.pair.specs.Calls as calls;
+
+// A working number: 0, held as 0 and 0, or significand × 10^exponent with nine figures and an exponent from −99,999 to 99,999.
 pub struct Number {
     pub significand: u32,
     pub exponent: i32,
 }
 
+// A pair: a low and a high working number, low ≤ high.
 pub struct Pair {
     pub low: Number,
     pub high: Number,
 }
 
+// What an operation answers. Refused is document 01's 53.
 pub enum Answer {
     Is(Pair),
     Refused,
 }
 
+// What a comparison answers. Refused is document 01's 53.
 pub enum Order {
     AtMost,
     Above,
     Refused,
 }
 
+// The two ends of a pair as whole numbers of a unit.
 pub struct Units {
     pub low: u64,
     pub high: u64,
 }
 
+// What a count answers. Refused is document 01's 53.
 pub enum Count {
     Is(Units),
     Refused,
+}
+
+fn is_pair(p: Pair) -> bool
+    ensures { λ r. ⌜ r ≡ isPair p ⌝ }
+{
+    if !is_number(p.low) {
+        return false;
+    }
+    if !is_number(p.high) {
+        return false;
+    }
+    at_most(p.low, p.high)
+}
+
+// The pair of two worked ends, if their exponents stayed in reach.
+fn answered(low: Number, high: Number) -> Answer
+    ensures { λ r. ⌜ calls.answer r ≡ calls.ends low high ⌝ }
+{
+    if !in_reach(low.exponent) {
+        return Answer::Refused;
+    }
+    if !in_reach(high.exponent) {
+        return Answer::Refused;
+    }
+    Answer::Is(Pair { low, high })
+}
+
+impl Number {
+    // Whether a number is at most a bound.
+    pub fn compare(self, bound: Number) -> Order
+        ensures { λ r. ⌜ calls.order r ≡ calls.compared self bound ⌝ }
+    {
+        if !is_number(self) {
+            return Order::Refused;
+        }
+        if !is_number(bound) {
+            return Order::Refused;
+        }
+        if at_most(self, bound) {
+            return Order::AtMost;
+        }
+        Order::Above
+    }
+}
+
+impl Pair {
+    pub const ZERO: Pair = Pair {
+        low: Number {
+            significand: 0,
+            exponent: 0,
+        },
+        high: Number {
+            significand: 0,
+            exponent: 0,
+        },
+    };
+
+    pub const ONE: Pair = Pair {
+        low: Number {
+            significand: 100_000_000,
+            exponent: -8,
+        },
+        high: Number {
+            significand: 100_000_000,
+            exponent: -8,
+        },
+    };
+
+    // The pair of a number as printed, significand × 10^exponent, of at most nine digits.
+    pub fn entry(significand: u64, exponent: i32) -> Answer
+        ensures { λ r. ⌜ calls.answer r ≡ calls.entry significand exponent ⌝ }
+    {
+        if 999_999_999 < significand {
+            return Answer::Refused;
+        }
+        if !in_reach(exponent) {
+            return Answer::Refused;
+        }
+        let w = normal(significand, exponent);
+        answered(w, w)
+    }
+
+    pub fn sum(self, other: Pair) -> Answer
+        ensures { λ r. ⌜ calls.answer r ≡ calls.sum self other ⌝ }
+    {
+        if !is_pair(self) {
+            return Answer::Refused;
+        }
+        if !is_pair(other) {
+            return Answer::Refused;
+        }
+        answered(sum(false, self.low, other.low), sum(true, self.high, other.high))
+    }
+
+    pub fn product(self, other: Pair) -> Answer
+        ensures { λ r. ⌜ calls.answer r ≡ calls.product self other ⌝ }
+    {
+        if !is_pair(self) {
+            return Answer::Refused;
+        }
+        if !is_pair(other) {
+            return Answer::Refused;
+        }
+        answered(
+            product(false, self.low, other.low),
+            product(true, self.high, other.high),
+        )
+    }
+
+    // Low by high, high by low.
+    pub fn quotient(self, divisor: Pair) -> Answer
+        ensures { λ r. ⌜ calls.answer r ≡ calls.quotient self divisor ⌝ }
+    {
+        if !is_pair(self) {
+            return Answer::Refused;
+        }
+        if !is_pair(divisor) {
+            return Answer::Refused;
+        }
+        let least = divisor.low;
+        if least.significand == 0 {
+            return Answer::Refused;
+        }
+        answered(
+            quotient(false, self.low, divisor.high),
+            quotient(true, self.high, least),
+        )
+    }
+
+    // 1 − f: the low end from f's high end, the high end from f's low end.
+    pub fn one_minus(self) -> Answer
+        ensures { λ r. ⌜ calls.answer r ≡ calls.oneMinus self ⌝ }
+    {
+        if !is_pair(self) {
+            return Answer::Refused;
+        }
+        if !at_most(self.high, Pair::ONE.high) {
+            return Answer::Refused;
+        }
+        answered(rest(false, self.high), rest(true, self.low))
+    }
+
+    // The ends in units of 10^unit: the low end down, the high end up.
+    pub fn in_units(self, unit: i32) -> Count
+        ensures { λ r. ⌜ calls.count r ≡ calls.inUnits self unit ⌝ }
+    {
+        if !is_pair(self) {
+            return Count::Refused;
+        }
+        if !in_reach(unit) {
+            return Count::Refused;
+        }
+        if !countable(self.low, unit) {
+            return Count::Refused;
+        }
+        if !countable(self.high, unit) {
+            return Count::Refused;
+        }
+        Count::Is(Units {
+            low: units(false, self.low, unit),
+            high: units(true, self.high, unit),
+        })
+    }
 }
