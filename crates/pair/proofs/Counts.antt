@@ -57,15 +57,15 @@ module _ (up : Bool) (w : Number) (u : ℤ) (n : Nine w) (small : Small u) where
   count-fits h =
       by-cases (leb (place u) (place (w .exponent)))
       (λ t.
-          let l : place u ≤ place (w .exponent) = leb-true (place u) (place (w .exponent)) t in
-          subst (λ (x : ℕ). x < 10 ^ 19) (count-below l)
-          (lt-of-le-of-lt (mul-le-mul {m₂ = 10 ^ 10} (n .most) (ten-rises {j = 10} (omega (arith, rise-of small (nine-small n) l)))) (lit< tt)))
+      let l : place u ≤ place (w .exponent) = leb-true (place u) (place (w .exponent)) t in
+      subst (λ (x : ℕ). x < 10 ^ 19) (count-below l)
+      (lt-of-le-of-lt (mul-le-mul {m₂ = 10 ^ 10} (n .most) (ten-rises {j = 10} (omega (arith, rise-of small (nine-small n) l)))) (lit< tt)))
       (λ t.
-          let l : place (w .exponent) < place u = leb-false (place u) (place (w .exponent)) t in
-          subst (λ (x : ℕ). x < 10 ^ 19) (count-above (omega arith))
-          (lt-of-le-of-lt
-          (divided-most up (w .significand) (10 ^ rise (w .exponent) u) 1000000000 (ten-above (rise (w .exponent) u)) (omega (arith, n .most, ten-above (rise (w .exponent) u))))
-          (lit< tt)))
+      let l : place (w .exponent) < place u = leb-false (place u) (place (w .exponent)) t in
+      subst (λ (x : ℕ). x < 10 ^ 19) (count-above (omega arith))
+      (lt-of-le-of-lt
+      (divided-most up (w .significand) (10 ^ rise (w .exponent) u) 1000000000 (ten-above (rise (w .exponent) u)) (omega (arith, n .most, ten-above (rise (w .exponent) u))))
+      (lit< tt)))
 
   pub count-long : place u + 10 < place (w .exponent) → 10 ^ 19 ≤ unitsEnd up w u
   count-long h =

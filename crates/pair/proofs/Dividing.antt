@@ -23,6 +23,7 @@ divided-same up n d m c p q e = ap₂ _+_ whole (extra-same up (n % d) (m % c) d
   where
     whole : n / d ≡ m / c
     whole = sym (mul-div-mul-right n d q) ∙ ap₂ _/_ e (mul-comm d c) ∙ mul-div-mul-right m c p
+
     left : n % d * c ≡ m % c * d
     left =
         let a : n / d * d * c + n % d * c ≡ n * c = sym (add-mul (n / d * d) (n % d) c) ∙ ap (λ (x : ℕ). x * c) (div-add-mod' n d) in

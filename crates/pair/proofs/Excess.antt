@@ -31,10 +31,10 @@ from (suc tries) k n d l h =
     by-cases (ltb n (d * 10 ^ (9 + k)))
     (λ t. rw (step-done tries k n d t) (record { least = l; most = ltb-true n (d * 10 ^ (9 + k)) t }))
     (λ t.
-        rw (step-on tries k n d t)
-        (from tries (suc k) n d
-        (subst (λ (j : ℕ). d * 10 ^ j ≤ n) (omega arith) (ltb-false n (d * 10 ^ (9 + k)) t))
-        (subst (λ (j : ℕ). n < d * 10 ^ (9 + j)) (omega arith) h)))
+    rw (step-on tries k n d t)
+    (from tries (suc k) n d
+    (subst (λ (j : ℕ). d * 10 ^ j ≤ n) (omega arith) (ltb-false n (d * 10 ^ (9 + k)) t))
+    (subst (λ (j : ℕ). n < d * 10 ^ (9 + j)) (omega arith) h)))
 
 -- the search ends in time
 pub excess-beyond : (n d : ℕ) → 0 < d → d * 100000000 ≤ n → Beyond n d (excess n d)
@@ -49,7 +49,7 @@ only : {n d j k : ℕ} → Beyond n d j → Beyond n d k → j ≤ k
 only {n} {d} {j} {k} p q =
     by-cases (ltb k j)
     (λ t. absurd (lt-irrefl n
-        (lt-of-lt-of-le (q .most) (le-trans (mul-le-mul-left d (ten-rises (suc-le k j (ltb-true k j t)))) (p .least)))))
+    (lt-of-lt-of-le (q .most) (le-trans (mul-le-mul-left d (ten-rises (suc-le k j (ltb-true k j t)))) (p .least)))))
     (λ t. ltb-false k j t)
   where
     suc-le : (a b : ℕ) → a < b → 9 + a ≤ 8 + b

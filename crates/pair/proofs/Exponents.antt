@@ -26,6 +26,7 @@ place-sub a b h = by-cases (ltb a b) less more
   where
     less : ltb a b ≡ true → place (subℕ a b) + b ≡ depth + a
     less t = let l : a < b = ltb-true a b t in rw t (omega arith)
+
     more : ltb a b ≡ false → place (subℕ a b) + b ≡ depth + a
     more t = let l : b ≤ a = ltb-false a b t in rw t (omega arith)
 

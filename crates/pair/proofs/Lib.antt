@@ -1,4 +1,4 @@
--- The crate's laws. Assumes nothing.
+-- The crate's laws. `Promises` is what the crates above may count on. Assumes nothing.
 pub mod Figures
 mod Exponents
 mod Powers
@@ -12,3 +12,11 @@ mod Sums
 mod Rests
 mod Counts
 mod Providing
+mod Ordered
+mod Fractions
+mod Nearest
+mod ExactEnds
+mod Keeps
+mod Answers
+mod Sizes
+pub mod Promises

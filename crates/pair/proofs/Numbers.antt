@@ -47,11 +47,11 @@ number-nine w h p =
     either (isZero w) (nineFigures (w .significand) && inReach (w .exponent)) h
     (λ z. absurd (ne-of-gt p (eqb-true (w .significand) 0 (both (eqb (w .significand) 0) (zeroExponent (w .exponent)) z .0))))
     (λ n.
-        record {
-          least = leb-true 100000000 (w .significand) (both (leb 100000000 (w .significand)) (leb (w .significand) 999999999) (both (nineFigures (w .significand)) (inReach (w .exponent)) n .0) .0);
-          most = leb-true (w .significand) 999999999 (both (leb 100000000 (w .significand)) (leb (w .significand) 999999999) (both (nineFigures (w .significand)) (inReach (w .exponent)) n .0) .1);
-          reach = reach-mag (w .exponent) (both (nineFigures (w .significand)) (inReach (w .exponent)) n .1)
-        })
+    record {
+      least = leb-true 100000000 (w .significand) (both (leb 100000000 (w .significand)) (leb (w .significand) 999999999) (both (nineFigures (w .significand)) (inReach (w .exponent)) n .0) .0);
+      most = leb-true (w .significand) 999999999 (both (leb 100000000 (w .significand)) (leb (w .significand) 999999999) (both (nineFigures (w .significand)) (inReach (w .exponent)) n .0) .1);
+      reach = reach-mag (w .exponent) (both (nineFigures (w .significand)) (inReach (w .exponent)) n .1);
+    })
 
 pub number-zero : (w : Number) → isNumber w ≡ true → w .significand ≡ 0 → w ≡ specs.zero
 unfolding isNumber isZero nineFigures specs.zero

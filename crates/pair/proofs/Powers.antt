@@ -41,5 +41,5 @@ power g p h e =
     record {
       is = e;
       least = subst (λ (x : ℕ). 0 < x) (sym e) (ten-above g);
-      most = subst (λ (x : ℕ). x ≤ 1000000000) (sym e) (ten-rises {j = 9} h)
+      most = subst (λ (x : ℕ). x ≤ 1000000000) (sym e) (ten-rises {j = 9} h);
     }

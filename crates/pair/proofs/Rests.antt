@@ -40,10 +40,10 @@ unfolding restEnd rounded lower lesser unitsAt rise one depth place
 rest-one up f n t h =
     ⊎-elim
     (λ e.
-        let s : f .exponent ≡ negsuc 7 = same-place (nine-small n) (nine-small one-nine) (sym e) in
-        let m : f .significand ≡ 100000000 =
-            omega (arith, n .least, leb-true (f .significand) 100000000 (sym (order-same f one n one-nine (sym e)) ∙ t)) in
-        rw (s, m) refl)
+    let s : f .exponent ≡ negsuc 7 = same-place (nine-small n) (nine-small one-nine) (sym e) in
+    let m : f .significand ≡ 100000000 =
+    omega (arith, n .least, leb-true (f .significand) 100000000 (sym (order-same f one n one-nine (sym e)) ∙ t)) in
+    rw (s, m) refl)
     (λ l. absurd (true≢false (sym t ∙ order-above f one n one-nine l)))
     (eq-or-lt-of-le {n = place (negsuc 7)} {m = place (f .exponent)} (omega arith))
 
@@ -63,7 +63,7 @@ rest-below up f n h =
     let q = nine-small one-nine in
     let l : place (f .exponent) ≤ place (negsuc 7) = omega (arith, place-eight) in
     let r : rise (f .exponent) (negsuc 7) ≡ rise (f .exponent) (negsuc 8) + 1 =
-        omega (arith, place-eight, rise-of p q l, rise-of p nine-small′ h) in
+    omega (arith, place-eight, rise-of p q l, rise-of p nine-small′ h) in
     sym
     (rw (lesser-second q p l, r, ten-add (rise (f .exponent) (negsuc 8)) 1)
     (ap₂ (λ (x y : ℕ). rounded up (x - y) 1 (f .exponent)) (tens (10 ^ rise (f .exponent) (negsuc 8))) (units-own f p)))

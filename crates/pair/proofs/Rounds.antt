@@ -25,7 +25,7 @@ module _ (n d m c k : ℕ) (d-above : 0 < d) (c-above : 0 < c) (ratio : m * (d *
   figures =
       record {
         least = le-of-mul-le-mul-right (rw (ten-add 8 k) (omega (arith, mul-le-mul-right (d * 10 ^ k) least, ratio))) c-above;
-        most = lt-of-mul-lt-mul-right c (rw (ten-add 9 k) (omega (arith, mul-lt-mul-of-pos-right most (mul-pos d-above (ten-above k)), ratio)))
+        most = lt-of-mul-lt-mul-right c (rw (ten-add 9 k) (omega (arith, mul-lt-mul-of-pos-right most (mul-pos d-above (ten-above k)), ratio)));
       }
 
   above : 0 < n

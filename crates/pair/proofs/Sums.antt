@@ -89,8 +89,11 @@ module _ (up : Bool) (a b : Number) (nine-a : Nine a) (nine-b : Nine b) (ordered
 pub sum-comm : (up : Bool) (a b : Number) → Nine a → Nine b → place (a .exponent) < place (b .exponent) → sumEnd up b a ≡ sumEnd up a b
 unfolding sumEnd lower
 sum-comm up a b nine-a nine-b h =
-    rw (lesser-second (nine-small nine-b) (nine-small nine-a) (omega arith), lesser-first (nine-small nine-a) (nine-small nine-b) (omega arith),
-    add-comm (unitsAt (a .exponent) b) (unitsAt (a .exponent) a)) refl
+    rw (
+      lesser-second (nine-small nine-b) (nine-small nine-a) (omega arith),
+      lesser-first (nine-small nine-a) (nine-small nine-b) (omega arith),
+      add-comm (unitsAt (a .exponent) b) (unitsAt (a .exponent) a),
+    ) refl
 
 -- a number counted at a lower exponent is itself again
 exact-again : (up : Bool) (w : Number) (l : ℤ) → Nine w → Small l → place l ≤ place (w .exponent) → w ≡ rounded up (unitsAt l w) 1 l
@@ -117,10 +120,10 @@ sum-with-zero up b h =
     ⊎-elim
     (λ p. rw (number-zero b h p, zero-units (lesser (specs.zero .exponent) (specs.zero .exponent))) refl)
     (λ p.
-        let n : Nine b = number-nine b h p in
-        let s = lesser-below zero-small (nine-small n) in
-        let l = lesser (specs.zero .exponent) (b .exponent) in
-        rw (zero-units l, zero-add (unitsAt l b)) (exact-again up b l n (s .0) (s .2)))
+    let n : Nine b = number-nine b h p in
+    let s = lesser-below zero-small (nine-small n) in
+    let l = lesser (specs.zero .exponent) (b .exponent) in
+    rw (zero-units l, zero-add (unitsAt l b)) (exact-again up b l n (s .0) (s .2)))
     (eq-zero-or-pos (b .significand))
 
 pub sum-zero-left : (up : Bool) (a b : Number) → isNumber a ≡ true → a .significand ≡ 0 → isNumber b ≡ true → b ≡ sumEnd up a b

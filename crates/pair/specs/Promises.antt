@@ -46,6 +46,7 @@ pub record Sized (k : ℕ) (x : Fraction) : Type 0 where
   pub sized : (x .num ≡ 0) ⊎ ((x .den ≤ x .num * 10 ^ k) × (x .num ≤ x .den * 10 ^ k))
 
 -- each end of p is at most the same end of q
+infix 30 _≤ₑ_
 pub record _≤ₑ_ (p q : Pair) : Type 0 where
   pub low : value (p .low) ≤ᶠ value (q .low)
   pub high : value (p .high) ≤ᶠ value (q .high)

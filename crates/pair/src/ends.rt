@@ -1,7 +1,16 @@
 //! One end of each operation: the exact result of two working numbers, rounded once.
-use crate::exponent::{above, in_reach, is_zero, less, minus, plus};
-use crate::rounding::{nine, normal, power, whole, zero};
 use crate::Number;
+use crate::exponent::above;
+use crate::exponent::in_reach;
+use crate::exponent::is_zero;
+use crate::exponent::less;
+use crate::exponent::minus;
+use crate::exponent::plus;
+use crate::rounding::nine;
+use crate::rounding::normal;
+use crate::rounding::power;
+use crate::rounding::whole;
+use crate::rounding::zero;
 ghost use mathlib.Core.Path.{_≡_};
 ghost use mathlib.Core.Bool.{Bool, true, false};
 ghost use Prim.Native.Nat.{_+_, _-_, _*_, _^_, _≤_, _<_};
@@ -128,7 +137,13 @@ fn aligned(up: bool, a: Number, b: Number) -> Number
     if 9 < g {
         return added(up, a.significand as u64, a.exponent, 1, 9);
     }
-    added(up, a.significand as u64, a.exponent, b.significand as u64, g)
+    added(
+        up,
+        a.significand as u64,
+        a.exponent,
+        b.significand as u64,
+        g,
+    )
 }
 
 pub(crate) fn sum(up: bool, a: Number, b: Number) -> Number

@@ -1,11 +1,18 @@
 //! Arithmetic on pairs of working numbers (document 01, "Pairs"): each written operation works once and rounds once, the low end
 //! down to the nearest working number, the high end up, so that the exact result lies between the ends.
 //! Every call answers for itself: what it cannot work with it refuses, with document 01's number 53.
+mod ends;
 mod exponent;
 mod rounding;
-mod ends;
 
-use crate::ends::{at_most, countable, is_number, product, quotient, rest, sum, units};
+use crate::ends::at_most;
+use crate::ends::countable;
+use crate::ends::is_number;
+use crate::ends::product;
+use crate::ends::quotient;
+use crate::ends::rest;
+use crate::ends::sum;
+use crate::ends::units;
 use crate::exponent::in_reach;
 use crate::rounding::normal;
 ghost use mathlib.Core.Path.{_≡_};
@@ -139,7 +146,10 @@ impl Pair {
         if !is_pair(other) {
             return Answer::Refused;
         }
-        answered(sum(false, self.low, other.low), sum(true, self.high, other.high))
+        answered(
+            sum(false, self.low, other.low),
+            sum(true, self.high, other.high),
+        )
     }
 
     pub fn product(self, other: Pair) -> Answer

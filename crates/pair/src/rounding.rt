@@ -1,6 +1,8 @@
 //! Rounding to nine figures, down or up.
-use crate::exponent::{figures, minus, plus};
 use crate::Number;
+use crate::exponent::figures;
+use crate::exponent::minus;
+use crate::exponent::plus;
 ghost use mathlib.Core.Path.{_≡_};
 ghost use mathlib.Core.Bool.{Bool};
 ghost use Prim.Native.Nat.{_*_, _^_, _≤_, _<_};

@@ -79,9 +79,16 @@ plus-requires c κs = let a = c .before .before in rw (toZ-ofZ (a .fits .e)) (fi
 nine-requires-2 : tie.Need-nine-requires-2
 nine-requires-2 c κs =
     let a = c .before .before .before in
-    let p = power (a .args .g) (c .before .before .power .result) (a .pre .1 .1 .0) (c .before .before .power .ensures) in
-    (omega (arith, p .least), (omega (arith, c .before .if1 .left), (omega (arith, mul-le-mul-right (c .before .before .power .result) (a .pre .0 .1), p .least),
-    rw (back (c .plus .ok), c .plus .ensures, toZ-ofZ (a .fits .e)) (omega (arith, mag-plus (a .args .e) (pos 1))))))
+    let p = power (a .args .g) (c .before .before .power .result) (a .pre .1 .1 .0) (c .before .before .power .ensures) in (
+      omega (arith, p .least),
+      (
+        omega (arith, c .before .if1 .left),
+        (
+          omega (arith, mul-le-mul-right (c .before .before .power .result) (a .pre .0 .1), p .least),
+          rw (back (c .plus .ok), c .plus .ensures, toZ-ofZ (a .fits .e)) (omega (arith, mag-plus (a .args .e) (pos 1))),
+        ),
+      ),
+    )
 
 -- src/ends.rt:87:1
 returns-2 : tie.Need-returns-2

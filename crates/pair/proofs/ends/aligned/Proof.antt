@@ -21,9 +21,10 @@ use Rattle.pair.proofs.exponent.above.Reads as above-reads
 -- src/ends.rt:109:9
 above-requires : tie.Need-above-requires
 above-requires c κs =
-    let a = c .before .before in
-    (number-minus (a .args .a) (a .args .b) (a .pre .0 .0) (a .pre .1 .0 .0),
-    rw (number-back (a .args .a) (a .pre .0 .0), number-back (a .args .b) (a .pre .1 .0 .0)) (a .pre .1 .1))
+    let a = c .before .before in (
+      number-minus (a .args .a) (a .args .b) (a .pre .0 .0) (a .pre .1 .0 .0),
+      rw (number-back (a .args .a) (a .pre .0 .0), number-back (a .args .b) (a .pre .1 .0 .0)) (a .pre .1 .1),
+    )
 
 -- src/ends.rt:111:26
 cast-added : tie.Need-cast-added

@@ -42,7 +42,7 @@ returns-2 : tie.Need-returns-2
 returns-2 c up =
     let a = c .before .before .before .before .before in
     let t : ltZ (pos 10) (a .args .w .exponent -ℤ a .args .u) ≡ c .less .result =
-        sym (rw (back (c .before .minus .ok), c .before .minus .ensures, number-back (a .args .w) (a .pre .0), toZ-ofZ (a .fits .u)) at (c .less .ensures)) in
+    sym (rw (back (c .before .minus .ok), c .before .minus .ensures, number-back (a .args .w) (a .pre .0), toZ-ofZ (a .fits .u)) at (c .less .ensures)) in
     count-test up (a .args .w) (a .args .u) (number-nine (a .args .w) (a .pre .0) (omega arith)) (record { small = omega (arith, reach-mag (a .args .u) (a .pre .1)) })
     (c .less .result) t
 

@@ -27,9 +27,16 @@ plus-requires c κs = let a = c .before in rw (toZ-ofZ (a .fits .e)) (fits-plus 
 -- src/ends.rt:58:9
 nine-requires : tie.Need-nine-requires
 nine-requires c κs =
-    let a = c .before .before in
-    (lit< tt, (omega (arith, product-least (a .pre .0 .0) (a .pre .1 .0 .0)), (omega (arith, product-most (a .pre .0 .1) (a .pre .1 .0 .1)),
-    rw (back (c .plus .ok), c .plus .ensures, toZ-ofZ (a .fits .e)) (omega (arith, mag-plus (a .args .e) (pos 8))))))
+    let a = c .before .before in (
+      lit< tt,
+      (
+        omega (arith, product-least (a .pre .0 .0) (a .pre .1 .0 .0)),
+        (
+          omega (arith, product-most (a .pre .0 .1) (a .pre .1 .0 .1)),
+          rw (back (c .plus .ok), c .plus .ensures, toZ-ofZ (a .fits .e)) (omega (arith, mag-plus (a .args .e) (pos 8))),
+        ),
+      ),
+    )
 
 -- src/ends.rt:58:9
 returns : tie.Need-returns
@@ -45,9 +52,16 @@ plus-requires-2 c κs = let a = c .before in rw (toZ-ofZ (a .fits .e)) (fits-plu
 -- src/ends.rt:60:5
 nine-requires-2 : tie.Need-nine-requires-2
 nine-requires-2 c κs =
-    let a = c .before .before in
-    (lit< tt, (omega (arith, product-least (a .pre .0 .0) (a .pre .1 .0 .0)), (omega (arith, product-most (a .pre .0 .1) (a .pre .1 .0 .1)),
-    rw (back (c .plus2 .ok), c .plus2 .ensures, toZ-ofZ (a .fits .e)) (omega (arith, mag-plus (a .args .e) (pos 9))))))
+    let a = c .before .before in (
+      lit< tt,
+      (
+        omega (arith, product-least (a .pre .0 .0) (a .pre .1 .0 .0)),
+        (
+          omega (arith, product-most (a .pre .0 .1) (a .pre .1 .0 .1)),
+          rw (back (c .plus2 .ok), c .plus2 .ensures, toZ-ofZ (a .fits .e)) (omega (arith, mag-plus (a .args .e) (pos 9))),
+        ),
+      ),
+    )
 
 -- src/ends.rt:50:1
 returns-2 : tie.Need-returns-2

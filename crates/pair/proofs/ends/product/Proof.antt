@@ -51,10 +51,14 @@ multiplied-requires : tie.Need-multiplied-requires
 multiplied-requires c κs =
     let a = c .before .before .before .before .before .before .before .before .before in
     let v : Nine (a .args .a) = number-nine (a .args .a) (a .pre .0) (omega arith) in
-    let w : Nine (a .args .b) = number-nine (a .args .b) (a .pre .1) (omega arith) in
-    ((v .least, v .most), ((w .least, w .most),
-    rw (back (c .before .before .plus .ok), c .before .before .plus .ensures, number-back (a .args .a) (a .pre .0), number-back (a .args .b) (a .pre .1))
-    (omega (arith, mag-plus (a .args .a .exponent) (a .args .b .exponent), v .reach, w .reach))))
+    let w : Nine (a .args .b) = number-nine (a .args .b) (a .pre .1) (omega arith) in (
+      (v .least, v .most),
+      (
+        (w .least, w .most),
+        rw (back (c .before .before .plus .ok), c .before .before .plus .ensures, number-back (a .args .a) (a .pre .0), number-back (a .args .b) (a .pre .1))
+            (omega (arith, mag-plus (a .args .a .exponent) (a .args .b .exponent), v .reach, w .reach)),
+      ),
+    )
 
 -- src/ends.rt:63:1
 returns-3 : tie.Need-returns-3

@@ -43,10 +43,14 @@ shared-requires : tie.Need-shared-requires
 shared-requires c κs =
     let a = c .before .before .before .before .before .before .before in
     let v : Nine (a .args .a) = number-nine (a .args .a) (a .pre .0) (omega arith) in
-    let w : Nine (a .args .b) = number-nine (a .args .b) (a .pre .1 .0) (a .pre .1 .1) in
-    ((v .least, v .most), ((w .least, w .most),
-    rw (back (c .before .before .minus .ok), c .before .before .minus .ensures, number-back (a .args .a) (a .pre .0), number-back (a .args .b) (a .pre .1 .0))
-    (omega (arith, mag-minus (a .args .a .exponent) (a .args .b .exponent), v .reach, w .reach))))
+    let w : Nine (a .args .b) = number-nine (a .args .b) (a .pre .1 .0) (a .pre .1 .1) in (
+      (v .least, v .most),
+      (
+        (w .least, w .most),
+        rw (back (c .before .before .minus .ok), c .before .before .minus .ensures, number-back (a .args .a) (a .pre .0), number-back (a .args .b) (a .pre .1 .0))
+            (omega (arith, mag-minus (a .args .a .exponent) (a .args .b .exponent), v .reach, w .reach)),
+      ),
+    )
 
 -- src/ends.rt:91:1
 returns-2 : tie.Need-returns-2

@@ -36,9 +36,9 @@ short : (up : Bool) (w : Number) (u : ℤ) (n : Nine w) (small : Small u) → lt
 short up w u n small t h =
     by-cases (ltb 10 (rise u (w .exponent)))
     (λ l.
-        absurd
-        (omega
-        (arith, ltb-true (unitsEnd up w u) (10 ^ 19) t, count-long up w u n small (omega (arith, ltb-true 10 (rise u (w .exponent)) l, rise-of small (nine-small n) h)))))
+    absurd
+    (omega
+    (arith, ltb-true (unitsEnd up w u) (10 ^ 19) t, count-long up w u n small (omega (arith, ltb-true 10 (rise u (w .exponent)) l, rise-of small (nine-small n) h)))))
     (λ l. ltb-false 10 (rise u (w .exponent)) l)
 
 -- src/ends.rt:186:9
@@ -59,9 +59,10 @@ above-requires c κs =
     let a = c .before .before .before .before .before .before .before in
     let n : Nine (a .args .w) = number-nine (a .args .w) (a .pre .0) (omega arith) in
     let v : Small (a .args .u) = unit-small (a .args .u) (a .pre .1 .0) in
-    let t : ltZ (a .args .w .exponent) (a .args .u) ≡ true = rw (number-back (a .args .w) (a .pre .0), toZ-ofZ (a .fits .u)) at (sym (c .before .before .less .ensures) ∙ c .before .if2 .taken) in
-    (rw (number-back (a .args .w) (a .pre .0), toZ-ofZ (a .fits .u)) (fits-minus (a .args .u) (a .args .w .exponent) (omega (arith, n .reach, v .small))),
-    rw (number-back (a .args .w) (a .pre .0), toZ-ofZ (a .fits .u)) (less-turned (nine-small n) v t))
+    let t : ltZ (a .args .w .exponent) (a .args .u) ≡ true = rw (number-back (a .args .w) (a .pre .0), toZ-ofZ (a .fits .u)) at (sym (c .before .before .less .ensures) ∙ c .before .if2 .taken) in (
+      rw (number-back (a .args .w) (a .pre .0), toZ-ofZ (a .fits .u)) (fits-minus (a .args .u) (a .args .w .exponent) (omega (arith, n .reach, v .small))),
+      rw (number-back (a .args .w) (a .pre .0), toZ-ofZ (a .fits .u)) (less-turned (nine-small n) v t),
+    )
 
 -- src/ends.rt:192:13
 whole-requires : tie.Need-whole-requires
@@ -109,9 +110,10 @@ above-requires-2 c κs =
     let a = c .before .before .before .before .before .before .before in
     let n : Nine (a .args .w) = number-nine (a .args .w) (a .pre .0) (omega arith) in
     let v : Small (a .args .u) = unit-small (a .args .u) (a .pre .1 .0) in
-    let t : ltZ (a .args .w .exponent) (a .args .u) ≡ false = rw (number-back (a .args .w) (a .pre .0), toZ-ofZ (a .fits .u)) at (sym (c .before .before .less .ensures) ∙ c .before .if2 .left) in
-    (rw (number-back (a .args .w) (a .pre .0), toZ-ofZ (a .fits .u)) (fits-minus (a .args .w .exponent) (a .args .u) (omega (arith, n .reach, v .small))),
-    rw (number-back (a .args .w) (a .pre .0), toZ-ofZ (a .fits .u)) t)
+    let t : ltZ (a .args .w .exponent) (a .args .u) ≡ false = rw (number-back (a .args .w) (a .pre .0), toZ-ofZ (a .fits .u)) at (sym (c .before .before .less .ensures) ∙ c .before .if2 .left) in (
+      rw (number-back (a .args .w) (a .pre .0), toZ-ofZ (a .fits .u)) (fits-minus (a .args .w .exponent) (a .args .u) (omega (arith, n .reach, v .small))),
+      rw (number-back (a .args .w) (a .pre .0), toZ-ofZ (a .fits .u)) t,
+    )
 
 -- src/ends.rt:196:9
 power-requires-2 : tie.Need-power-requires-2

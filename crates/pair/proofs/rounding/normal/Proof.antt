@@ -37,7 +37,7 @@ step m filled k f h =
     record {
       figures = rw (add-one k, pow-suc 10 k) (omega (arith, f .figures));
       most = omega arith;
-      least = rw (add-one k, pow-suc 10 k) (omega (arith, f .least))
+      least = rw (add-one k, pow-suc 10 k) (omega (arith, f .least));
     }
 
 few : (m filled k : ℕ) → Filled m filled k → k < 9

@@ -1,0 +1,268 @@
+-- Each exact end as one ratio n / d × 10^e, so that the law of rounding applies to it: a sum's, a product's and a quotient's, the one of
+-- 1 − f and an entry's; and an end counted in units as one division. Assumes nothing.
+use mathlib.Core.Path.{_≡_, refl, sym, _∙_, ap, ap₂}
+use mathlib.Core.Bool.{Bool, true, false}
+use mathlib.Core.Logic.{_⊎_, inl, inr}
+use Prim.Native.Nat.{ℕ, zero, suc, _+_, _-_, _*_, _%_, _^_, _≤_, _<_}
+use native.Mathlib.Nat.{mul-le-mul-right, lt-of-mul-lt-mul-right, mul-pos, eq-zero-or-pos, mul-sub, mul-comm, mul-mod-left, le-dest}
+use native.Mathlib.Omega.{arith}
+use lib.Dec.{ltb, lit<}
+use lib.IntN.{ℤ, pos, negsuc, _+ℤ_, _-ℤ_, subℕ}
+use lib.Signed.{mag}
+use borrow.Author.Tests.{ltb-true, ltb-false}
+use Rattle.pair.specs.declared.Number.{Number}
+use Rattle.pair.specs.Fraction.{_≤ᶠ_, plus, times, over, rest}
+use Rattle.pair.specs.Number as N
+use Rattle.pair.specs.Number.{lesser, rise, isNumber, isZero, zeroExponent, nineFigures, inReach, unitsAt, lower, depth, place, value, one}
+use Rattle.pair.specs.Rounding.{extra, divided, excess, carried, rounded, unitsEnd}
+use Rattle.pair.specs.Promises.{Operation, sums, products, quotients, exactly, scaled, Sized, Rounded}
+use Rattle.pair.proofs.Exponents.{by-cases, place-plus, place-minus}
+use Rattle.pair.proofs.Powers.{ten-above, ten-add, ten-rises}
+use Rattle.pair.proofs.Excess.{Beyond, excess-beyond}
+use Rattle.pair.proofs.Dividing.{divided-same}
+use Rattle.pair.proofs.Fractions.{Usable}
+use Rattle.pair.proofs.Ordered.{Working, working, Aligned, aligned, depth-is, Lesser, lesser-is, units-place, power-rise}
+use Rattle.pair.proofs.Nearest.{Ratio, rounded-nearest, rounded-reach, ten-below}
+
+place-size : (e : ℤ) → mag e < 100000 → (depth ≤ place e + 100000) × (place e < depth + 100000)
+unfolding depth place
+place-size (pos n) h = (omega arith, omega arith)
+place-size (negsuc n) h = (omega arith, omega arith)
+
+place-near : (e : ℤ) → mag e ≤ 99000 → (depth ≤ place e + 99001) × (place e ≤ depth + 99000)
+unfolding depth place
+place-near (pos n) h = (omega arith, omega arith)
+place-near (negsuc n) h = (omega arith, omega arith)
+
+size-from : (e : ℤ) → depth ≤ place e + 200000 → place e ≤ depth + 200000 → mag e < 200100
+unfolding depth place
+size-from (pos n) l h = omega arith
+size-from (negsuc n) l h = omega arith
+
+some-or-none : (n : ℕ) → (n ≡ 0) ⊎ (1 * 100000000 ≤ n * 1000000000)
+some-or-none n = go (eq-zero-or-pos n)
+  where
+    go : (n ≡ 0) ⊎ (0 < n) → (n ≡ 0) ⊎ (1 * 100000000 ≤ n * 1000000000)
+    go (inl z) = inl z
+    go (inr p) = inr (omega arith)
+
+zero-significand : N.zero .significand ≡ 0
+unfolding N.zero
+zero-significand = refl
+
+-- the numerator, the divisor and the exponent of an end
+unfoldable pub top : Operation → Number → Number → ℕ
+top sums a b = unitsAt (lower a b) a + unitsAt (lower a b) b
+top products a b = a .significand * b .significand
+top quotients a b = a .significand
+
+unfoldable pub bottom : Operation → Number → Number → ℕ
+bottom sums a b = 1
+bottom products a b = 1
+bottom quotients a b = b .significand
+
+unfoldable pub power : Operation → Number → Number → ℤ
+power sums a b = lower a b
+power products a b = a .exponent +ℤ b .exponent
+power quotients a b = a .exponent -ℤ b .exponent
+
+-- one end, rounded
+unfoldable pub endOf : Operation → Bool → Number → Number → Number
+endOf o up a b = rounded up (top o a b) (bottom o a b) (power o a b)
+
+pub end-ratio : (o : Operation) (a b : Number) → Working a → Working b → Usable o (value b) → Ratio (exactly o (value a) (value b)) (top o a b) (bottom o a b) (power o a b)
+unfolding top bottom power exactly plus times over value Usable
+end-ratio sums a b p q u =
+    let l : Aligned (lower a b) a b = aligned a b p q in
+    record {
+      proper = mul-pos (ten-above depth) (ten-above depth);
+      divisor = lit< tt;
+      size = omega (arith, l .size);
+      link = omega (arith, ap (λ (n : ℕ). n * (10 ^ depth * 10 ^ depth)) (l .first), ap (λ (n : ℕ). n * (10 ^ depth * 10 ^ depth)) (l .second));
+      figures = some-or-none (unitsAt (lower a b) a + unitsAt (lower a b) b);
+    }
+end-ratio products a b p q u =
+    let e : place (a .exponent +ℤ b .exponent) + depth ≡ place (a .exponent) + place (b .exponent) =
+    place-plus (a .exponent) (b .exponent) (omega (arith, depth-is, p .reach, q .reach)) in
+    let t : 10 ^ place (a .exponent +ℤ b .exponent) * 10 ^ depth ≡ 10 ^ place (a .exponent) * 10 ^ place (b .exponent) =
+    sym (ten-add (place (a .exponent +ℤ b .exponent)) depth) ∙ ap (λ (i : ℕ). 10 ^ i) e ∙ ten-add (place (a .exponent)) (place (b .exponent)) in
+    record {
+      proper = mul-pos (ten-above depth) (ten-above depth);
+      divisor = lit< tt;
+      size =
+          size-from (a .exponent +ℤ b .exponent)
+          (omega (arith, e, depth-is, place-size (a .exponent) (p .reach), place-size (b .exponent) (q .reach)))
+          (omega (arith, e, depth-is, place-size (a .exponent) (p .reach), place-size (b .exponent) (q .reach)));
+      link = omega (arith, ap (λ (n : ℕ). n * (a .significand * b .significand * 10 ^ depth)) t);
+      figures = some-or-none (a .significand * b .significand);
+    }
+end-ratio quotients a b p q u =
+    let e : place (a .exponent -ℤ b .exponent) + place (b .exponent) ≡ place (a .exponent) + depth =
+    place-minus (a .exponent) (b .exponent) (omega (arith, depth-is, p .reach, q .reach)) in
+    let t : 10 ^ place (a .exponent -ℤ b .exponent) * 10 ^ place (b .exponent) ≡ 10 ^ place (a .exponent) * 10 ^ depth =
+    sym (ten-add (place (a .exponent -ℤ b .exponent)) (place (b .exponent))) ∙ ap (λ (i : ℕ). 10 ^ i) e ∙ ten-add (place (a .exponent)) depth in
+    record {
+      proper = mul-pos (ten-above depth) u;
+      divisor = lt-of-mul-lt-mul-right (10 ^ place (b .exponent)) {m = 0} (omega arith);
+      size =
+          size-from (a .exponent -ℤ b .exponent)
+          (omega (arith, e, depth-is, place-size (a .exponent) (p .reach), place-size (b .exponent) (q .reach)))
+          (omega (arith, e, depth-is, place-size (a .exponent) (p .reach), place-size (b .exponent) (q .reach)));
+      link = omega (arith, ap (λ (n : ℕ). n * (a .significand * b .significand * 10 ^ depth)) t);
+      figures = go (p .least);
+    }
+  where
+    go : (a ≡ N.zero) ⊎ (100000000 ≤ a .significand) → (a .significand ≡ 0) ⊎ (b .significand * 100000000 ≤ a .significand * 1000000000)
+    go (inl z) = inl (ap (λ (w : Number). w .significand) z ∙ zero-significand)
+    go (inr l) = inr (omega (arith, q .most))
+
+-- 1 is 10^depth over 10^depth
+place-one : 8 + place (negsuc 7) ≡ depth
+unfolding depth place
+place-one = refl
+
+pub one-value : one .significand * 10 ^ place (one .exponent) ≡ 10 ^ depth
+unfolding one
+one-value = sym (ten-add 8 (place (negsuc 7))) ∙ ap (λ (i : ℕ). 10 ^ i) place-one
+
+pub one-number : isNumber one ≡ true
+unfolding isNumber isZero zeroExponent nineFigures inReach one
+one-number = refl
+
+rest-link : (u v s a b p c : ℕ) → u * s ≡ a → v * s ≡ b → a ≡ c → (c - b) * (1 * p) ≡ (u - v) * (p * s)
+rest-link u v s a b p c i j h =
+    turn (u - v) s (c - b) p (mul-comm (u - v) s ∙ mul-sub s u v ∙ ap₂ _-_ (mul-comm s u ∙ i ∙ h) (mul-comm s v ∙ j))
+  where
+    turn : (d s t p : ℕ) → d * s ≡ t → t * (1 * p) ≡ d * (p * s)
+    turn d s t p e = omega (arith, ap (λ (n : ℕ). n * p) e)
+
+pub rest-ratio : (f : Number) → Working f → Ratio (rest (value f)) (unitsAt (lower one f) one - unitsAt (lower one f) f) 1 (lower one f)
+unfolding rest value
+rest-ratio f p =
+    let l : Aligned (lower one f) one f = aligned one f (working one one-number) p in
+    record {
+      proper = ten-above depth;
+      divisor = lit< tt;
+      size = omega (arith, l .size);
+      link =
+          rest-link (unitsAt (lower one f) one) (unitsAt (lower one f) f) (10 ^ place (lower one f)) (one .significand * 10 ^ place (one .exponent))
+          (f .significand * 10 ^ place (f .exponent)) (10 ^ depth) (10 ^ depth) (l .first) (l .second) one-value;
+      figures = some-or-none (unitsAt (lower one f) one - unitsAt (lower one f) f);
+    }
+
+-- what nine figures leave of 1 is 0 or 10^−9 at least
+rest-least : (m p c : ℕ) → m ≤ 999999999 → (m ≡ 0) ⊎ (100000000 ≤ m) → m * 10 ^ p < 10 ^ c → 10 ^ c ≤ (10 ^ c - m * 10 ^ p) * 10 ^ 9
+rest-least m p c h f l =
+    by-cases (ltb c (9 + p))
+    (λ t. near f (ten-rises (below (ltb-true c (9 + p) t))))
+    (λ t. let a : 10 ^ (9 + p) ≤ 10 ^ c = ten-rises (ltb-false c (9 + p) t) in omega (arith, ten-add 9 p, mul-le-mul-right (10 ^ p) h))
+  where
+    below : c < 9 + p → c ≤ 8 + p
+    below i = omega arith
+
+    near : (m ≡ 0) ⊎ (100000000 ≤ m) → 10 ^ c ≤ 10 ^ (8 + p) → 10 ^ c ≤ (10 ^ c - m * 10 ^ p) * 10 ^ 9
+    near (inl z) a = omega (arith, ap (λ (n : ℕ). n * 10 ^ p) z)
+    near (inr i) a = absurd (omega (arith, ten-add 8 p, mul-le-mul-right (10 ^ p) i))
+
+pub rest-sized : (f : Number) → Working f → value f ≤ᶠ value one → Sized 9 (rest (value f))
+unfolding rest value
+rest-sized f p h =
+    record {
+      sized =
+          by-cases (ltb (f .significand * 10 ^ place (f .exponent)) (10 ^ depth))
+          (λ t.
+          inr (
+            rest-least (f .significand) (place (f .exponent)) depth (p .most) (nought (p .least)) (ltb-true (f .significand * 10 ^ place (f .exponent)) (10 ^ depth) t),
+            omega arith,
+          ))
+          (λ t. inl (omega (arith, ltb-false (f .significand * 10 ^ place (f .exponent)) (10 ^ depth) t)));
+    }
+  where
+    nought : (f ≡ N.zero) ⊎ (100000000 ≤ f .significand) → (f .significand ≡ 0) ⊎ (100000000 ≤ f .significand)
+    nought (inl z) = inl (ap (λ (w : Number). w .significand) z ∙ zero-significand)
+    nought (inr l) = inr l
+
+pub entry-ratio : (m : ℕ) (e : ℤ) → mag e < 100000 → Ratio (scaled m e) m 1 e
+unfolding scaled
+entry-ratio m e h =
+    record { proper = ten-above depth; divisor = lit< tt; size = omega arith; link = omega arith; figures = some-or-none m }
+
+-- wide enough for every entry; a power of ten never computes with it
+pub wide : ℕ
+wide = 99010
+
+pub wide-is : wide ≡ 99010
+unfolding wide
+wide-is = refl
+
+pub entry-sized : (m : ℕ) (e : ℤ) → m ≤ 999999999 → mag e ≤ 99000 → Sized wide (scaled m e)
+unfolding scaled
+entry-sized m e h l = record { sized = go (eq-zero-or-pos m) }
+  where
+    low : depth ≤ place e + wide
+    low = omega (arith, place-near e l, wide-is)
+
+    high : 9 + place e ≤ depth + wide
+    high = omega (arith, place-near e l, wide-is)
+
+    go : (m ≡ 0) ⊎ (0 < m) → (m * 10 ^ place e ≡ 0) ⊎ ((10 ^ depth ≤ m * 10 ^ place e * 10 ^ wide) × (m * 10 ^ place e ≤ 10 ^ depth * 10 ^ wide))
+    go (inl z) = inl (omega (arith, ap (λ (n : ℕ). n * 10 ^ place e) z))
+    go (inr p) =
+        inr (
+          omega (arith, ten-rises low, ten-add (place e) wide, mul-le-mul-right {m = 1} (10 ^ place e * 10 ^ wide) p),
+          omega (arith, ten-rises high, ten-add 9 (place e), ten-add depth wide, mul-le-mul-right (10 ^ place e) h),
+        )
+
+-- one end of an operation is its exact end rounded, where in reach, and it is in reach where the exact end is no larger than 10^99991 and
+-- no smaller than 10^−99991
+pub end-rounds : (o : Operation) (up : Bool) (a b : Number) → isNumber a ≡ true → isNumber b ≡ true → Usable o (value b) →
+    inReach (endOf o up a b .exponent) ≡ true → Rounded up (exactly o (value a) (value b)) (endOf o up a b)
+unfolding endOf
+end-rounds o up a b p q u h = rounded-nearest up (end-ratio o a b (working a p) (working b q) u) h
+
+pub end-reach : (o : Operation) (up : Bool) (a b : Number) → isNumber a ≡ true → isNumber b ≡ true → Usable o (value b) →
+    (k : ℕ) → Sized k (exactly o (value a) (value b)) → k ≤ 99991 → inReach (endOf o up a b .exponent) ≡ true
+unfolding endOf
+end-reach o up a b p q u k s h = rounded-reach up (end-ratio o a b (working a p) (working b q) u) k s h
+
+-- an entry needs no rounding: both directions give the same number
+exact-division : (n d : ℕ) → n % d ≡ 0 → divided false n d ≡ divided true n d
+unfolding divided extra
+exact-division n d h = rw h
+
+pub entry-same : (m : ℕ) (e : ℤ) → m ≤ 999999999 → rounded false m 1 e ≡ rounded true m 1 e
+unfolding rounded
+entry-same zero e h = refl
+entry-same (suc n) e h =
+    ap (λ (q : ℕ). carried q (e +ℤ subℕ k 9))
+    (exact-division (suc n * 1000000000) (1 * 10 ^ k) (multiple (le-dest few)))
+  where
+    k : ℕ
+    k = excess (suc n * 1000000000) 1
+
+    few : k ≤ 9
+    few =
+        let b : Beyond (suc n * 1000000000) 1 k = excess-beyond (suc n * 1000000000) 1 (lit< tt) (omega arith) in
+        omega (arith, ten-below {a = 8 + k} {b = 18} (omega (arith, b .least)))
+
+    multiple : (j : ℕ) × (k + j ≡ 9) → suc n * 1000000000 % (1 * 10 ^ k) ≡ 0
+    multiple (j, i) =
+        ap (λ (a : ℕ). a % (1 * 10 ^ k)) (regroup (suc n) (10 ^ j) (10 ^ k) (ap (λ (a : ℕ). 10 ^ a) (sym i) ∙ ten-add k j))
+        ∙ mul-mod-left (suc n * 10 ^ j) (1 * 10 ^ k)
+      where
+        regroup : (a b c : ℕ) → 1000000000 ≡ c * b → a * 1000000000 ≡ a * b * (1 * c)
+        regroup a b c s = ap (λ (t : ℕ). a * t) s ∙ omega arith
+
+-- one end counted in units of 10^u is a division by 10^u
+pub units-divided : (up : Bool) (w : Number) (u : ℤ) → Working w → mag u < 100000 →
+    unitsEnd up w u ≡ divided up (w .significand * 10 ^ place (w .exponent)) (10 ^ place u)
+unfolding unitsEnd
+units-divided up w u p h =
+    let s : ℤ = lesser (w .exponent) u in
+    let l : Lesser s (w .exponent) u = lesser-is (w .exponent) u (p .reach) h in
+    divided-same up (unitsAt s w) (10 ^ rise s u) (w .significand * 10 ^ place (w .exponent)) (10 ^ place u) (ten-above (rise s u)) (ten-above (place u))
+    (cross (unitsAt s w) (10 ^ place s) (w .significand * 10 ^ place (w .exponent)) (10 ^ rise s u) (10 ^ place u)
+    (units-place s w (l .size) (p .reach) (l .first)) (power-rise s u (l .size) h (l .second)))
+  where
+    cross : (n s v r c : ℕ) → n * s ≡ v → r * s ≡ c → n * c ≡ v * r
+    cross n s v r c i j = omega (arith, ap (λ (t : ℕ). t * r) i, ap (λ (t : ℕ). t * n) j)

@@ -1,0 +1,471 @@
+-- What the crates above may count on, each promise stated once over the operations: an answer's ends are the exact ends rounded once, it
+-- is a pair, it holds the exact result, it rises with its operands, and a call is answered wherever its exact ends are not too large or
+-- too small. The same for 1 − f, for entries, for comparing and for counting in units. Assumes nothing.
+use mathlib.Core.Path.{_≡_, refl, sym, _∙_}
+use mathlib.Core.Bool.{Bool, true, false, _&&_}
+use mathlib.Core.Logic.{_↔_}
+use Prim.Native.Nat.{ℕ, zero, _+_, _*_, _^_, _≤_, _<_}
+use native.Mathlib.Nat.{mul-le-mul-right, le-of-mul-le-mul-right, mul-lt-mul-of-pos-right, lt-of-mul-lt-mul-right, mul-pos}
+use native.Mathlib.Omega.{arith}
+use lib.Dec.{leb, ltb, lit<, lit≤}
+use lib.IntN.{ℤ}
+use lib.Signed.{mag}
+use borrow.Author.Tests.{leb-true, le-leb, lt-ltb}
+use Rattle.pair.specs.declared.Number.{Number}
+use Rattle.pair.specs.declared.Pair.{Pair}
+use Rattle.pair.specs.declared.Units.{Units}
+use Rattle.pair.specs.Fraction.{Fraction, Proper, _≤ᶠ_, plus, rest}
+use Rattle.pair.specs.Number as N
+use Rattle.pair.specs.Number.{isZero, zeroExponent, unitsAt, lower, lesser, rise, inReach, isNumber, isPair, atMost, value, place, depth, one}
+use Rattle.pair.specs.Rounding.{rounded, restEnd, unitsEnd, divided}
+use Rattle.pair.specs.Calls.{is, zeroPair, onePair, ends, entry, oneMinus, compared, inUnits}
+use Rattle.pair.specs.Promises.{Operation, sums, products, quotients, call, exactly, lowEnd, highEnd, withLow, withHigh, Holds, Beside, Rounded, Sized, _≤ₑ_, scaled}
+use Rattle.pair.proofs.Powers.{ten-above}
+use Rattle.pair.proofs.Dividing.{down-least, down-most, up-least, up-most}
+use Rattle.pair.proofs.Fractions.{rest-falls-exactly}
+pub use Rattle.pair.proofs.Fractions.{_<ᶠ_, below-itself, through, exactly-rises, exactly-proper}
+unfoldable pub use Rattle.pair.proofs.Fractions.{Usable, Along}
+use Rattle.pair.proofs.Ordered.{both, both-from, Working, working, not-at-most, reach-size, size-reach}
+pub use Rattle.pair.proofs.Ordered.{at-most, value-proper}
+use Rattle.pair.proofs.Nearest.{rounded-nearest, rounded-reach}
+use Rattle.pair.proofs.ExactEnds.{endOf, end-rounds, end-reach, one-number, one-value, rest-ratio, rest-sized, entry-ratio, entry-sized, entry-same, wide, wide-is, units-divided}
+pub use Rattle.pair.proofs.Keeps.{stays-above, stays-below, keeps-order, sized-end}
+pub use Rattle.pair.proofs.Sizes.{joint-size, sized-on}
+unfoldable pub use Rattle.pair.proofs.Sizes.{joint}
+use Rattle.pair.proofs.Answers.{provided-is, provided-true, pair, ends-are, ends-from, Ordered, ordered, pair-from, usable-on, Answered, told, answers, Operand, operand, held-along}
+
+-- The operands of an answered call are pairs, and a divisor's low end is above 0.
+pub operands : (o : Operation) (p q r : Pair) → call o p q ≡ is r → (isPair p ≡ true) × (isPair q ≡ true) × Usable o (value (q .low))
+operands o p q r h = (told o p q r h .first, told o p q r h .second, told o p q r h .usable)
+
+second : {o : Operation} {p q r : Pair} → Answered o p q r → Operand o q
+second {o} {p} {q} t = operand o q (ordered q (t .second)) (t .usable)
+
+-- Each end of the answer is the exact end rounded once: the low end down, the high end up.
+pub rounds : (o : Operation) (p q r : Pair) → call o p q ≡ is r → Rounded false (lowEnd o p q) (r .low) × Rounded true (highEnd o p q) (r .high)
+unfolding lowEnd highEnd
+rounds o p q r h =
+    let t : Answered o p q r = told o p q r h in
+    let f : Ordered p = ordered p (t .first) in
+    let s : Operand o q = second t in
+    rw (t .ends-is) (
+      end-rounds o false (p .low) (withLow o q) (f .low) (s .low-number) (s .low-usable) (t .low-reach),
+      end-rounds o true (p .high) (withHigh o q) (f .high) (s .high-number) (s .high-usable) (t .high-reach),
+    )
+
+-- The exact ends of an answered call are proper fractions.
+pub ends-proper : (o : Operation) (p q r : Pair) → call o p q ≡ is r → Proper (lowEnd o p q) × Proper (highEnd o p q)
+unfolding lowEnd highEnd
+ends-proper o p q r h =
+    let s : Operand o q = second (told o p q r h) in (
+      exactly-proper o (value-proper (p .low)) (value-proper (withLow o q)) (s .low-usable),
+      exactly-proper o (value-proper (p .high)) (value-proper (withHigh o q)) (s .high-usable),
+    )
+
+-- The answer is a pair again.
+pub pair-again : (o : Operation) (p q r : Pair) → call o p q ≡ is r → isPair r ≡ true
+unfolding lowEnd highEnd Beside
+pair-again o p q r h =
+    let t : Answered o p q r = told o p q r h in
+    let f : Ordered p = ordered p (t .first) in
+    let s : Operand o q = second t in
+    let d = rounds o p q r h in
+    let m = ends-proper o p q r h in
+    pair-from r
+    (record {
+      low = d .0 .working;
+      high = d .1 .working;
+      rising =
+          through (m .0) (d .0 .side)
+          (through (m .1) (exactly-rises o (value (withLow o q)) (value (withHigh o q)) (f .rising) (s .along)) (d .1 .side));
+    })
+
+-- The answer holds the exact result of whatever exact operands its operands hold.
+pub holds : (o : Operation) (p q r : Pair) (x y : Fraction) → call o p q ≡ is r → Holds p x → Holds q y → Holds r (exactly o x y)
+unfolding lowEnd highEnd Beside
+holds o p q r x y h a b =
+    let t : Answered o p q r = told o p q r h in
+    let d = rounds o p q r h in
+    let m = ends-proper o p q r h in
+    let l = held-along o q y b in
+    record {
+      proper = exactly-proper o (a .proper) (b .proper) (usable-on o (b .proper) (t .usable) (b .low));
+      low = through (m .0) (d .0 .side) (exactly-rises o (value (withLow o q)) y (a .low) (l .0));
+      high = through (m .1) (exactly-rises o y (value (withHigh o q)) (a .high) (l .1)) (d .1 .side);
+    }
+
+-- A pair that holds x holds every fraction equal to x.
+pub holds-equal : (p : Pair) {x y : Fraction} → Holds p x → Proper y → x ≤ᶠ y → y ≤ᶠ x → Holds p y
+holds-equal p h q a b = record { proper = q; low = through (h .proper) (h .low) a; high = through (h .proper) b (h .high) }
+
+-- The order of pairs by their ends is reflexive and transitive.
+pub ends-itself : (p : Pair) → _≤ₑ_ p p
+ends-itself p = record { low = below-itself (value (p .low)); high = below-itself (value (p .high)) }
+
+pub ends-through : {p q r : Pair} → _≤ₑ_ p q → _≤ₑ_ q r → _≤ₑ_ p r
+ends-through {q} a b =
+    record { low = through (value-proper (q .low)) (a .low) (b .low); high = through (value-proper (q .high)) (a .high) (b .high) }
+
+-- The second operand rises, or falls where it divides.
+unfoldable pub Toward : Operation → Pair → Pair → Type 0
+Toward sums q q' = _≤ₑ_ q q'
+Toward products q q' = _≤ₑ_ q q'
+Toward quotients q q' = _≤ₑ_ q' q
+
+toward : (o : Operation) (q q' : Pair) → Toward o q q' →
+    Along o (value (withLow o q)) (value (withLow o q')) × Along o (value (withHigh o q)) (value (withHigh o q'))
+unfolding Toward Along withLow withHigh
+toward sums q q' h = (h .low, h .high)
+toward products q q' h = (h .low, h .high)
+toward quotients q q' h = (h .high, h .low)
+
+-- Sums and products rise with both operands, quotients with the first and against the second.
+pub rises : (o : Operation) (p p' q q' r r' : Pair) → call o p q ≡ is r → call o p' q' ≡ is r' → _≤ₑ_ p p' → Toward o q q' → _≤ₑ_ r r'
+unfolding lowEnd highEnd
+rises o p p' q q' r r' h h' a b =
+    let d = rounds o p q r h in
+    let d' = rounds o p' q' r' h' in
+    let m = ends-proper o p q r h in
+    let m' = ends-proper o p' q' r' h' in
+    let l = toward o q q' b in
+    record {
+      low = keeps-order false (d .0) (d' .0) (m .0) (m' .0) (exactly-rises o (value (withLow o q)) (value (withLow o q')) (a .low) (l .0));
+      high = keeps-order true (d .1) (d' .1) (m .1) (m' .1) (exactly-rises o (value (withHigh o q)) (value (withHigh o q')) (a .high) (l .1));
+    }
+
+-- A call on pairs is answered if its exact ends are 0 or from 10^−99991 to 10^99991.
+pub answered : (o : Operation) (p q : Pair) (k : ℕ) → isPair p ≡ true → isPair q ≡ true → Usable o (value (q .low)) →
+    Sized k (lowEnd o p q) → Sized k (highEnd o p q) → k ≤ 99991 → (r : Pair) × (call o p q ≡ is r)
+unfolding lowEnd highEnd
+answered o p q k a b u l h n =
+    let f : Ordered p = ordered p a in
+    let s : Operand o q = operand o q (ordered q b) u in (
+      pair (endOf o false (p .low) (withLow o q)) (endOf o true (p .high) (withHigh o q)),
+      answers o p q a b u
+          (end-reach o false (p .low) (withLow o q) (f .low) (s .low-number) (s .low-usable) k l n)
+          (end-reach o true (p .high) (withHigh o q) (f .high) (s .high-number) (s .high-usable) k h n),
+    )
+
+-- Both ends are 0 or from 10^−k to 10^k.
+pub record Within (k : ℕ) (p : Pair) : Type 0 where
+  pub low : Sized k (value (p .low))
+  pub high : Sized k (value (p .high))
+
+within-operand : (o : Operation) (k : ℕ) (q : Pair) → Within k q → Sized k (value (withLow o q)) × Sized k (value (withHigh o q))
+unfolding withLow withHigh
+within-operand sums k q s = (s .low, s .high)
+within-operand products k q s = (s .low, s .high)
+within-operand quotients k q s = (s .high, s .low)
+
+-- The sizes of the operands tell that a call is answered, and the size of its answer.
+pub answered-within : (o : Operation) (j k : ℕ) (p q : Pair) → isPair p ≡ true → isPair q ≡ true → Usable o (value (q .low)) →
+    Within j p → Within k q → joint o j k ≤ 99991 → (r : Pair) × (call o p q ≡ is r) × Within (joint o j k) r
+unfolding lowEnd highEnd
+answered-within o j k p q a b u v w n =
+    let s : Operand o q = operand o q (ordered q b) u in
+    let t = within-operand o k q w in
+    let l : Sized (joint o j k) (lowEnd o p q) = joint-size o j k (v .low) (t .0) (s .low-usable) in
+    let h : Sized (joint o j k) (highEnd o p q) = joint-size o j k (v .high) (t .1) (s .high-usable) in
+    let c = answered o p q (joint o j k) a b u l h n in
+    let d = rounds o p q (c .0) (c .1) in
+    let m = ends-proper o p q (c .0) (c .1) in (
+      c .0,
+      c .1,
+      record {
+        low = sized-end false (d .0) (m .0) (joint o j k) l n;
+        high = sized-end true (d .1) (m .1) (joint o j k) h n;
+      },
+    )
+
+-- A number is at most 1 where its value's numerator is at most the denominator.
+most-one : (w : Number) → (value w ≤ᶠ value one) ↔ (value w .num ≤ value w .den)
+unfolding value
+most-one w = (
+  λ h. omega (arith, le-of-mul-le-mul-right {k = 10 ^ depth} (h .across) (ten-above depth), one-value),
+  λ h. record { across = mul-le-mul-right (10 ^ depth) (omega (arith, h, one-value)) },
+)
+
+record RestTold (f r : Pair) : Type 0 where
+  operand : isPair f ≡ true
+  most : value (f .high) ≤ᶠ value one
+  low-reach : inReach (restEnd false (f .high) .exponent) ≡ true
+  high-reach : inReach (restEnd true (f .low) .exponent) ≡ true
+  ends-is : r ≡ pair (restEnd false (f .high)) (restEnd true (f .low))
+
+rest-told : (f r : Pair) → oneMinus f ≡ is r → RestTold f r
+unfolding oneMinus
+rest-told f r h =
+    let t = provided-is (isPair f && atMost (f .high) one) (ends (restEnd false (f .high)) (restEnd true (f .low))) r h in
+    let a = both (isPair f) (atMost (f .high) one) (t .0) in
+    let e = ends-are (restEnd false (f .high)) (restEnd true (f .low)) r (t .1) in
+    record {
+      operand = a .0;
+      most = at-most (f .high) one (ordered f (a .0) .high) one-number .0 (a .1);
+      low-reach = e .0;
+      high-reach = e .1;
+      ends-is = e .2;
+    }
+
+-- Where 1 − f is answered, f is a pair with its high end at most 1.
+pub rest-operand : (f r : Pair) → oneMinus f ≡ is r → (isPair f ≡ true) × (value (f .high) .num ≤ value (f .high) .den)
+rest-operand f r h = (rest-told f r h .operand, most-one (f .high) .0 (rest-told f r h .most))
+
+-- The low end of 1 − f is 1 less f's high end, rounded down, and its high end 1 less f's low end, rounded up.
+pub rest-rounds : (f r : Pair) → oneMinus f ≡ is r → Rounded false (rest (value (f .high))) (r .low) × Rounded true (rest (value (f .low))) (r .high)
+unfolding restEnd
+rest-rounds f r h =
+    let t : RestTold f r = rest-told f r h in
+    let o : Ordered f = ordered f (t .operand) in
+    rw (t .ends-is) (
+      rounded-nearest false (rest-ratio (f .high) (working (f .high) (o .high))) (t .low-reach),
+      rounded-nearest true (rest-ratio (f .low) (working (f .low) (o .low))) (t .high-reach),
+    )
+
+rest-proper : (w : Number) → Proper (rest (value w))
+unfolding rest
+rest-proper w = record { above-zero = value-proper w .above-zero }
+
+-- 1 − f is a pair.
+pub rest-pair : (f r : Pair) → oneMinus f ≡ is r → isPair r ≡ true
+unfolding Beside
+rest-pair f r h =
+    let d = rest-rounds f r h in
+    pair-from r
+    (record {
+      low = d .0 .working;
+      high = d .1 .working;
+      rising =
+          through (rest-proper (f .high)) (d .0 .side)
+          (through (rest-proper (f .low)) (rest-falls-exactly (ordered f (rest-told f r h .operand) .rising)) (d .1 .side));
+    })
+
+-- 1 − f holds 1 − x for every exact x that f holds.
+pub rest-holds : (f r : Pair) (x : Fraction) → oneMinus f ≡ is r → Holds f x → Holds r (rest x)
+unfolding Beside rest
+rest-holds f r x h a =
+    let d = rest-rounds f r h in
+    record {
+      proper = record { above-zero = a .proper .above-zero };
+      low = through (rest-proper (f .high)) (d .0 .side) (rest-falls-exactly (a .high));
+      high = through (rest-proper (f .low)) (rest-falls-exactly (a .low)) (d .1 .side);
+    }
+
+-- 1 − f falls as f rises.
+pub rest-falls : (f f' r r' : Pair) → oneMinus f ≡ is r → oneMinus f' ≡ is r' → _≤ₑ_ f f' → _≤ₑ_ r' r
+rest-falls f f' r r' h h' a =
+    let d = rest-rounds f r h in
+    let d' = rest-rounds f' r' h' in
+    record {
+      low = keeps-order false (d' .0) (d .0) (rest-proper (f' .high)) (rest-proper (f .high)) (rest-falls-exactly (a .high));
+      high = keeps-order true (d' .1) (d .1) (rest-proper (f' .low)) (rest-proper (f .low)) (rest-falls-exactly (a .low));
+    }
+
+-- 1 − f is answered for every pair whose high end is at most 1.
+pub rest-answered : (f : Pair) → isPair f ≡ true → value (f .high) .num ≤ value (f .high) .den → (r : Pair) × (oneMinus f ≡ is r)
+unfolding oneMinus restEnd
+rest-answered f p h =
+    let o : Ordered f = ordered f p in
+    let m : value (f .high) ≤ᶠ value one = most-one (f .high) .1 h in
+    let l : value (f .low) ≤ᶠ value one = through (value-proper (f .high)) (o .rising) m in
+    let a : Working (f .high) = working (f .high) (o .high) in
+    let b : Working (f .low) = working (f .low) (o .low) in (
+      pair (restEnd false (f .high)) (restEnd true (f .low)),
+      provided-true (ends (restEnd false (f .high)) (restEnd true (f .low)))
+          (both-from p (at-most (f .high) one (o .high) one-number .1 m))
+          ∙ ends-from (restEnd false (f .high)) (restEnd true (f .low))
+          (rounded-reach false (rest-ratio (f .high) a) 9 (rest-sized (f .high) a m) (lit≤ tt))
+          (rounded-reach true (rest-ratio (f .low) b) 9 (rest-sized (f .low) b l) (lit≤ tt)),
+    )
+
+-- The ends of 1 − f are 0 or from 10^−9 to 10^9.
+pub rest-within : (f r : Pair) → oneMinus f ≡ is r → Within 9 r
+rest-within f r h =
+    let t : RestTold f r = rest-told f r h in
+    let o : Ordered f = ordered f (t .operand) in
+    let d = rest-rounds f r h in
+    record {
+      low = sized-end false (d .0) (rest-proper (f .high)) 9 (rest-sized (f .high) (working (f .high) (o .high)) (t .most)) (lit≤ tt);
+      high =
+          sized-end true (d .1) (rest-proper (f .low)) 9
+          (rest-sized (f .low) (working (f .low) (o .low)) (through (value-proper (f .high)) (o .rising) (t .most))) (lit≤ tt);
+    }
+
+record EntryTold (m : ℕ) (e : ℤ) (r : Pair) : Type 0 where
+  digits : m ≤ 999999999
+  reach : inReach e ≡ true
+  low-reach : inReach (rounded false m 1 e .exponent) ≡ true
+  high-reach : inReach (rounded true m 1 e .exponent) ≡ true
+  ends-is : r ≡ pair (rounded false m 1 e) (rounded true m 1 e)
+
+entry-told : (m : ℕ) (e : ℤ) (r : Pair) → entry m e ≡ is r → EntryTold m e r
+unfolding entry
+entry-told m e r h =
+    let t = provided-is (leb m 999999999 && inReach e) (ends (rounded false m 1 e) (rounded true m 1 e)) r h in
+    let a = both (leb m 999999999) (inReach e) (t .0) in
+    let b = ends-are (rounded false m 1 e) (rounded true m 1 e) r (t .1) in
+    record { digits = leb-true m 999999999 (a .0); reach = a .1; low-reach = b .0; high-reach = b .1; ends-is = b .2 }
+
+-- Both ends of an entry are m × 10^e rounded.
+pub entry-rounds : (m : ℕ) (e : ℤ) (r : Pair) → entry m e ≡ is r → Rounded false (scaled m e) (r .low) × Rounded true (scaled m e) (r .high)
+entry-rounds m e r h =
+    let t : EntryTold m e r = entry-told m e r h in
+    rw (t .ends-is) (
+      rounded-nearest false (entry-ratio m e (reach-size e (t .reach))) (t .low-reach),
+      rounded-nearest true (entry-ratio m e (reach-size e (t .reach))) (t .high-reach),
+    )
+
+-- m × 10^e is a proper fraction.
+pub scaled-proper : (m : ℕ) (e : ℤ) → Proper (scaled m e)
+unfolding scaled
+scaled-proper m e = record { above-zero = ten-above depth }
+
+-- An entry has equal ends and holds m × 10^e, so it is m × 10^e exactly.
+pub entry-exact : (m : ℕ) (e : ℤ) (r : Pair) → entry m e ≡ is r → (r .low ≡ r .high) × Holds r (scaled m e)
+unfolding Beside
+entry-exact m e r h =
+    let t : EntryTold m e r = entry-told m e r h in
+    let d = entry-rounds m e r h in (
+      rw (t .ends-is) (entry-same m e (t .digits)),
+      record { proper = scaled-proper m e; low = d .0 .side; high = d .1 .side },
+    )
+
+-- An entry is a pair.
+pub entry-pair : (m : ℕ) (e : ℤ) (r : Pair) → entry m e ≡ is r → isPair r ≡ true
+unfolding Beside
+entry-pair m e r h =
+    let d = entry-rounds m e r h in
+    pair-from r (record { low = d .0 .working; high = d .1 .working; rising = through (scaled-proper m e) (d .0 .side) (d .1 .side) })
+
+-- An entry of at most nine digits is answered for every exponent from −99000 to 99000.
+pub entry-answered : (m : ℕ) (e : ℤ) → m ≤ 999999999 → mag e ≤ 99000 → (r : Pair) × (entry m e ≡ is r)
+unfolding entry
+entry-answered m e h l =
+    let s : mag e < 100000 = omega arith in (
+      pair (rounded false m 1 e) (rounded true m 1 e),
+      provided-true (ends (rounded false m 1 e) (rounded true m 1 e)) (both-from (le-leb m 999999999 h) (size-reach e l))
+          ∙ ends-from (rounded false m 1 e) (rounded true m 1 e)
+          (rounded-reach false (entry-ratio m e s) wide (entry-sized m e h l) (omega (arith, wide-is)))
+          (rounded-reach true (entry-ratio m e s) wide (entry-sized m e h l) (omega (arith, wide-is))),
+    )
+
+-- An entry is as large as m × 10^e.
+pub entry-within : (m : ℕ) (e : ℤ) (r : Pair) (k : ℕ) → entry m e ≡ is r → Sized k (scaled m e) → k ≤ 99991 → Within k r
+entry-within m e r k h s n =
+    let d = entry-rounds m e r h in
+    record { low = sized-end false (d .0) (scaled-proper m e) k s n; high = sized-end true (d .1) (scaled-proper m e) k s n }
+
+-- 0 and 1 are pairs, and hold 0 and 1.
+pub zero-pair : (isPair zeroPair ≡ true) × Holds zeroPair (record { num = 0; den = 1 })
+unfolding zeroPair isPair isNumber isZero zeroExponent atMost unitsAt lower lesser rise N.zero value
+zero-pair = (
+  refl,
+  record { proper = record { above-zero = lit< tt }; low = record { across = omega arith }; high = record { across = omega arith } },
+)
+
+pub one-pair : (isPair onePair ≡ true) × Holds onePair (record { num = 1; den = 1 })
+unfolding onePair value
+one-pair = (
+  pair-from onePair (record { low = one-number; high = one-number; rising = below-itself (value one) }),
+  record {
+    proper = record { above-zero = lit< tt };
+    low = record { across = omega (arith, one-value) };
+    high = record { across = omega (arith, one-value) };
+  },
+)
+
+-- A comparison says true exactly where the first value is at most the second, and false where it is above.
+pub compared-right : (a b : Number) (t : Bool) → compared a b ≡ is t → (t ≡ true → value a ≤ᶠ value b) × (t ≡ false → value b <ᶠ value a)
+unfolding compared
+compared-right a b t h =
+    let s = provided-is (isNumber a && isNumber b) (is (atMost a b)) t h in
+    let n = both (isNumber a) (isNumber b) (s .0) in
+    let i : is (atMost a b) ≡ is t = s .1 in
+    let e : atMost a b ≡ t = cc in
+    (λ g. at-most a b (n .0) (n .1) .0 (e ∙ g), λ g. not-at-most a b (n .0) (n .1) (e ∙ g))
+
+-- Two working numbers can always be compared.
+pub compared-answered : (a b : Number) → isNumber a ≡ true → isNumber b ≡ true → compared a b ≡ is (atMost a b)
+unfolding compared
+compared-answered a b p q = provided-true (is (atMost a b)) (both-from p q)
+
+-- n counts p in units of 10^u: the low end down, the high end up, and by less than one unit
+pub record Counted (p : Pair) (u : ℤ) (n : Units) : Type 0 where
+  pub low-least : scaled (n .low) u ≤ᶠ value (p .low)
+  pub low-most : value (p .low) <ᶠ scaled (n .low + 1) u
+  pub high-least : value (p .high) ≤ᶠ scaled (n .high) u
+  pub high-most : scaled (n .high) u <ᶠ plus (value (p .high)) (scaled 1 u)
+
+abbrev counts : ℕ → ℕ → Units
+counts low high = record { low = low; high = high }
+
+counted : (p : Pair) (u : ℤ) →
+    Counted p u (counts (divided false (p .low .significand * 10 ^ place (p .low .exponent)) (10 ^ place u)) (divided true (p .high .significand * 10 ^ place (p .high .exponent)) (10 ^ place u)))
+unfolding value scaled plus
+counted p u =
+    let low : ℕ = p .low .significand * 10 ^ place (p .low .exponent) in
+    let high : ℕ = p .high .significand * 10 ^ place (p .high .exponent) in
+    let unit : ℕ = 10 ^ place u in
+    record {
+      low-least = record { across = mul-le-mul-right (10 ^ depth) (down-least low unit) };
+      low-most = record { across = mul-lt-mul-of-pos-right (omega (arith, down-most low unit (ten-above (place u)))) (ten-above depth) };
+      high-least = record { across = mul-le-mul-right (10 ^ depth) (up-least high unit (ten-above (place u))) };
+      high-most =
+          record {
+            across =
+                omega (arith, mul-lt-mul-of-pos-right (up-most high unit (ten-above (place u))) (mul-pos (ten-above depth) (ten-above depth)));
+          };
+    }
+
+record UnitsTold (p : Pair) (u : ℤ) (n : Units) : Type 0 where
+  operand : isPair p ≡ true
+  reach : inReach u ≡ true
+  ends-is : n ≡ counts (unitsEnd false (p .low) u) (unitsEnd true (p .high) u)
+
+units-told : (p : Pair) (u : ℤ) (n : Units) → inUnits p u ≡ is n → UnitsTold p u n
+unfolding inUnits
+units-told p u n h =
+    let low : ℕ = unitsEnd false (p .low) u in
+    let high : ℕ = unitsEnd true (p .high) u in
+    let t = provided-is (isPair p && (inReach u && (ltb low (10 ^ 19) && ltb high (10 ^ 19)))) (is (counts low high)) n h in
+    let a = both (isPair p) (inReach u && (ltb low (10 ^ 19) && ltb high (10 ^ 19))) (t .0) in
+    let b = both (inReach u) (ltb low (10 ^ 19) && ltb high (10 ^ 19)) (a .1) in
+    let e : is n ≡ is (counts low high) = sym (t .1) in
+    record { operand = a .0; reach = b .0; ends-is = (cc) }
+
+-- A pair counted in units of 10^u is counted down at its low end and up at its high end, by less than one unit.
+pub units-right : (p : Pair) (u : ℤ) (n : Units) → inUnits p u ≡ is n → Counted p u n
+units-right p u n h =
+    let t : UnitsTold p u n = units-told p u n h in
+    let o : Ordered p = ordered p (t .operand) in
+    rw (t .ends-is, units-divided false (p .low) u (working (p .low) (o .low)) (reach-size u (t .reach)), units-divided true (p .high) u (working (p .high) (o .high)) (reach-size u (t .reach)))
+    (counted p u)
+
+-- The counts lie on either side of whatever the pair holds.
+pub units-hold : (p : Pair) (u : ℤ) (n : Units) (x : Fraction) → inUnits p u ≡ is n → Holds p x → (scaled (n .low) u ≤ᶠ x) × (x ≤ᶠ scaled (n .high) u)
+units-hold p u n x h a =
+    let c : Counted p u n = units-right p u n h in
+    (through (value-proper (p .low)) (c .low-least) (a .low), through (value-proper (p .high)) (a .high) (c .high-least))
+
+below-next : (up : Bool) (n d : ℕ) → 0 < d → divided up n d * d < n + d
+below-next false n d p = omega (arith, down-least n d)
+below-next true n d p = up-most n d p
+
+units-few : (up : Bool) (w : Number) (u : ℤ) → isNumber w ≡ true → inReach u ≡ true → value w ≤ᶠ scaled 9999999999999999999 u → unitsEnd up w u < 10000000000000000000
+unfolding value scaled
+units-few up w u n r l =
+    rw (units-divided up w u (working w n) (reach-size u r))
+    (lt-of-mul-lt-mul-right (10 ^ place u)
+    (omega
+    (arith, below-next up (w .significand * 10 ^ place (w .exponent)) (10 ^ place u) (ten-above (place u)), le-of-mul-le-mul-right {k = 10 ^ depth} (l .across) (ten-above depth))))
+
+-- A pair is counted if its high end is at most 10^19 − 1 units.
+pub units-answered : (p : Pair) (u : ℤ) → isPair p ≡ true → inReach u ≡ true → value (p .high) ≤ᶠ scaled 9999999999999999999 u → (n : Units) × (inUnits p u ≡ is n)
+unfolding inUnits
+units-answered p u h r l =
+    let low : ℕ = unitsEnd false (p .low) u in
+    let high : ℕ = unitsEnd true (p .high) u in
+    let o : Ordered p = ordered p h in (
+      counts low high,
+      provided-true (is (counts low high))
+          (both-from h (both-from r (both-from (lt-ltb low (10 ^ 19) (units-few false (p .low) u (o .low) r (through (value-proper (p .high)) (o .rising) l))) (lt-ltb high (10 ^ 19) (units-few true (p .high) u (o .high) r l))))),
+    )
