@@ -82,6 +82,16 @@ oneMinus f =
 unfoldable pub compared : Number → Number → Outcome Bool
 compared a b = provided (isNumber a && isNumber b) (is (atMost a b))
 
+-- an operation on what earlier calls told: a refusal is carried along
+unfoldable pub after : (Pair → Pair → Outcome Pair) → Outcome Pair → Outcome Pair → Outcome Pair
+after f (is p) (is q) = f p q
+after f (is p) (refused n) = refused n
+after f (refused n) y = refused n
+
+unfoldable pub afterOne : (Pair → Outcome Pair) → Outcome Pair → Outcome Pair
+afterOne f (is p) = f p
+afterOne f (refused n) = refused n
+
 -- how many units of 10^u a pair is: the low end down, the high end up; counts of up to nineteen figures
 unfoldable pub inUnits : Pair → ℤ → Outcome Units
 inUnits p u =

@@ -4,3 +4,4 @@ pub mod Number
 pub mod Rounding
 pub mod Calls
 pub mod Promises
+pub mod Figures

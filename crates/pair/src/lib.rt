@@ -222,3 +222,51 @@ impl Pair {
         })
     }
 }
+
+// The operations on what earlier calls answered, for chains of them: a refusal is carried along.
+impl Answer {
+    pub fn plus(self, other: Answer) -> Answer
+        ensures { λ r. ⌜ calls.answer r ≡ calls.after calls.sum (calls.answer self) (calls.answer other) ⌝ }
+    {
+        let Answer::Is(p) = self else {
+            return Answer::Refused;
+        };
+        let Answer::Is(q) = other else {
+            return Answer::Refused;
+        };
+        p.sum(q)
+    }
+
+    pub fn times(self, other: Answer) -> Answer
+        ensures { λ r. ⌜ calls.answer r ≡ calls.after calls.product (calls.answer self) (calls.answer other) ⌝ }
+    {
+        let Answer::Is(p) = self else {
+            return Answer::Refused;
+        };
+        let Answer::Is(q) = other else {
+            return Answer::Refused;
+        };
+        p.product(q)
+    }
+
+    pub fn over(self, other: Answer) -> Answer
+        ensures { λ r. ⌜ calls.answer r ≡ calls.after calls.quotient (calls.answer self) (calls.answer other) ⌝ }
+    {
+        let Answer::Is(p) = self else {
+            return Answer::Refused;
+        };
+        let Answer::Is(q) = other else {
+            return Answer::Refused;
+        };
+        p.quotient(q)
+    }
+
+    pub fn one_minus(self) -> Answer
+        ensures { λ r. ⌜ calls.answer r ≡ calls.afterOne calls.oneMinus (calls.answer self) ⌝ }
+    {
+        let Answer::Is(f) = self else {
+            return Answer::Refused;
+        };
+        f.one_minus()
+    }
+}
