@@ -1,0 +1,62 @@
+-- A formula is written once and read twice: on pairs by the working rule, and on exact fractions.
+use Prim.Native.Nat.{ℕ}
+use lib.IntN.{ℤ}
+use Rattle.pair.specs.declared.Pair.{Pair}
+use Rattle.pair.specs.Fraction as exact
+use Rattle.pair.specs.Fraction.{Fraction}
+use Rattle.pair.specs.Calls.{Outcome, after, afterOne, entry, sum, product, quotient, oneMinus}
+use Rattle.pair.specs.Promises.{scaled}
+
+-- The slots of a deck's records, in deck order.
+pub data SiteSlot : Type 0 where
+  zs bd td theta xe sd er ro r vg frSnow : SiteSlot
+
+pub data ChemicalSlot : Type 0 where
+  q hgA hgD fv cyv cyp dydv dywv dydp dywp kds ksg ksv br rcf afInh afOral afDerm rfdO rfdI csfO csfI : ChemicalSlot
+
+pub data ReceptorSlot : Type 0 where
+  bw ed atC irInh etInh efInh irSoil etSoil efS efW saB safB saH safH etDerm irAg fAg irBg fBg wp efP : ReceptorSlot
+
+pub data Slot : Type 0 where
+  site : SiteSlot → Slot
+  chemical : ChemicalSlot → Slot
+  receptor : ReceptorSlot → Slot
+
+-- A letter stands for the value of a slot, or for the series φ at x.
+pub data Letter : Type 0 where
+  slot : Slot → Letter
+  phi : Letter
+
+-- The written operations: ⊕, ⊗ and ⊘ are document 01's +, × and /, and `1−` its only subtraction, of a slot.
+infixl 65 _⊕_
+infixl 70 _⊗_
+infixl 70 _⊘_
+pub data Formula : Type 0 where
+  letter : Letter → Formula
+  constant : ℕ → ℤ → Formula
+  1− : Slot → Formula
+  _⊕_ _⊗_ _⊘_ : Formula → Formula → Formula
+
+-- What a reading makes of the operations.
+pub record Algebra (A : Type 0) : Type 1 where
+  pub number : ℕ → ℤ → A
+  pub plus : A → A → A
+  pub times : A → A → A
+  pub over : A → A → A
+  pub rest : A → A
+
+unfoldable pub read : {A : Type 0} → Algebra A → (Letter → A) → Formula → A
+read alg env (letter l) = env l
+read alg env (constant m e) = alg .number m e
+read alg env (1− s) = alg .rest (env (slot s))
+read alg env (f ⊕ g) = alg .plus (read alg env f) (read alg env g)
+read alg env (f ⊗ g) = alg .times (read alg env f) (read alg env g)
+read alg env (f ⊘ g) = alg .over (read alg env f) (read alg env g)
+
+-- On pairs: each operation by the working rule, a refusal carried along.
+unfoldable pub pairs : Algebra (Outcome Pair)
+pairs = record { number = entry; plus = after sum; times = after product; over = after quotient; rest = afterOne oneMinus }
+
+-- On exact fractions: m × 10^e and the operations, unrounded.
+unfoldable pub fractions : Algebra Fraction
+fractions = record { number = scaled; plus = exact.plus; times = exact.times; over = exact.over; rest = exact.rest }

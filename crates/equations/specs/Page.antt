@@ -1,0 +1,121 @@
+-- Document 01, "Loss and series", "Media" and "Six pathways": every formula, once, in its order and with its letters.
+-- ⊗ and ⊘ bind alike and from the left, then ⊕ from the left.
+use lib.IntN.{pos, negsuc}
+use Rattle.equations.specs.declared.Pathway.{Pathway}
+use Rattle.equations.specs.declared.Pathway.the-variants.{Air, SoilSummer, SoilWinter, Skin, AboveGround, BelowGround}
+use Rattle.equations.specs.declared.Effect.{Effect}
+use Rattle.equations.specs.declared.Effect.the-variants.{Hazard, Cancer}
+use Rattle.equations.specs.Formula as formulas
+use Rattle.equations.specs.Formula.{Formula, constant, 1−, _⊕_, _⊗_, _⊘_}
+use Rattle.equations.specs.Letters.{Zs, BD, tD, θ, Xe, SD, ER, RO, R, VG, FRsnow, Q, HgA, HgD, Fv, Cyv, Cyp, Dydv, Dywv, Dydp, Dywp, Kds, ksg, ksv, Br, RCF, AFinh, AForal, AFderm, RfDo, RfDi, CSFo, CSFi, BW, ED, ATc, IRinh, ETinh, EFinh, IRsoil, ETsoil, EFs, EFw, SAb, SAFb, SAh, SAFh, ETderm, IRag, Fag, IRbg, Fbg, WP, EFp, φ}
+
+-- Constants: 1, 0.1, 100, 1000, 365 and 0.000001
+abbrev pub one : Formula
+one = constant 1 (pos 0)
+
+abbrev pub tenth : Formula
+tenth = constant 1 (negsuc 0)
+
+abbrev pub hundred : Formula
+hundred = constant 100 (pos 0)
+
+abbrev pub thousand : Formula
+thousand = constant 1000 (pos 0)
+
+abbrev pub year : Formula
+year = constant 365 (pos 0)
+
+abbrev pub perMillion : Formula
+perMillion = constant 1 (negsuc 5)
+
+-- 1 − Fv, the particle share
+abbrev pub 1−Fv : Formula
+1−Fv = 1− (formulas.chemical formulas.fv)
+
+-- Loss and series
+unfoldable pub u : Formula
+u = Kds ⊗ BD
+
+unfoldable pub kse : Formula
+kse = tenth ⊗ Xe ⊗ SD ⊗ ER ⊘ (BD ⊗ Zs) ⊗ u ⊘ (θ ⊕ u)
+
+unfoldable pub ksr : Formula
+ksr = RO ⊘ (θ ⊗ Zs) ⊘ (one ⊕ u ⊘ θ)
+
+unfoldable pub ksl : Formula
+ksl = R ⊘ (θ ⊗ Zs) ⊘ (one ⊕ u ⊘ θ)
+
+unfoldable pub k : Formula
+k = ksg ⊕ kse ⊕ ksr ⊕ ksl ⊕ ksv
+
+unfoldable pub x : Formula
+x = k ⊗ tD
+
+-- φ is the series at x (Series.antt)
+unfoldable pub g : Formula
+g = one ⊘ (one ⊘ φ ⊕ x)
+
+-- Media: air in mg/m³, yearly deposition, soil and produce in mg/kg
+unfoldable pub A : Formula
+A = Q ⊗ HgA ⊗ (Fv ⊗ Cyv ⊕ 1−Fv ⊗ Cyp) ⊘ thousand
+
+unfoldable pub D : Formula
+D = hundred ⊗ HgD ⊗ Q ⊘ (Zs ⊗ BD) ⊗ (Fv ⊗ (Dydv ⊕ Dywv) ⊕ (Dydp ⊕ Dywp) ⊗ 1−Fv)
+
+unfoldable pub C : Formula
+C = D ⊗ tD ⊗ g
+
+unfoldable pub aboveGround : Formula
+aboveGround = C ⊗ Br
+
+unfoldable pub belowGround : Formula
+belowGround = C ⊗ RCF ⊗ VG ⊘ Kds
+
+-- Six pathways: the intake factor, its medium, and the reference value
+unfoldable pub AT : Effect → Formula
+AT Hazard = year ⊗ ED
+AT Cancer = ATc
+
+unfoldable pub B : Effect → Formula
+B e = BW ⊗ AT e
+
+-- what stands above B
+unfoldable pub exposure : Pathway → Formula
+exposure Air = IRinh ⊗ AFinh ⊗ ETinh ⊗ EFinh ⊗ ED
+exposure SoilSummer = IRsoil ⊗ AForal ⊗ ETsoil ⊗ EFs ⊗ ED ⊗ perMillion
+exposure SoilWinter = IRsoil ⊗ AForal ⊗ FRsnow ⊗ ETsoil ⊗ EFw ⊗ ED ⊗ perMillion
+exposure Skin = (SAb ⊗ SAFb ⊕ SAh ⊗ SAFh) ⊗ AFderm ⊗ ETderm ⊗ EFs ⊗ ED ⊗ perMillion
+exposure AboveGround = IRag ⊗ Fag ⊗ WP ⊗ AForal ⊗ EFp ⊗ ED
+exposure BelowGround = IRbg ⊗ Fbg ⊗ WP ⊗ AForal ⊗ EFp ⊗ ED
+
+unfoldable pub factor : Effect → Pathway → Formula
+factor e p = exposure p ⊘ B e
+
+unfoldable pub medium : Pathway → Formula
+medium Air = A
+medium SoilSummer = C
+medium SoilWinter = C
+medium Skin = C
+medium AboveGround = aboveGround
+medium BelowGround = belowGround
+
+unfoldable pub intake : Effect → Pathway → Formula
+intake e p = factor e p ⊗ medium p
+
+-- Pathway 1 takes RfDi and CSFi, the rest RfDo and CSFo.
+unfoldable pub byRoute : Pathway → Formula → Formula → Formula
+byRoute Air inhaled oral = inhaled
+byRoute SoilSummer inhaled oral = oral
+byRoute SoilWinter inhaled oral = oral
+byRoute Skin inhaled oral = oral
+byRoute AboveGround inhaled oral = oral
+byRoute BelowGround inhaled oral = oral
+
+unfoldable pub reference : Effect → Pathway → Formula
+reference Hazard p = byRoute p RfDi RfDo
+reference Cancer p = byRoute p CSFi CSFo
+
+-- Quotient = intake / RfD; risk = intake × CSF.
+unfoldable pub line : Effect → Pathway → Formula
+line Hazard p = intake Hazard p ⊘ reference Hazard p
+line Cancer p = intake Cancer p ⊗ reference Cancer p

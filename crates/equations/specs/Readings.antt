@@ -1,0 +1,27 @@
+-- The two readings of the page: on pairs by the working rule, and on exact fractions with N terms of the series. In each, φ is the series
+-- at x, and x is read from the slots alone.
+use Prim.Native.Nat.{ℕ}
+use lib.IntN.{pos}
+use Rattle.pair.specs.declared.Pair.{Pair}
+use Rattle.pair.specs.Fraction.{Fraction}
+use Rattle.pair.specs.Calls.{Outcome, is}
+use Rattle.equations.specs.Formula.{Slot, Letter, slot, phi, Formula, Algebra, read, pairs, fractions}
+use Rattle.equations.specs.Series.{pairSeries, exactSeries}
+use Rattle.equations.specs.Page.{x}
+
+-- the letters, from the slots and φ
+unfoldable pub letters : {A : Type 0} → (Slot → A) → A → Letter → A
+letters env series (slot s) = env s
+letters env series phi = series
+
+-- a formula without φ
+unfoldable pub plain : {A : Type 0} → Algebra A → (Slot → A) → Formula → A
+plain alg env f = read alg (letters env (alg .number 1 (pos 0))) f
+
+unfoldable pub worked : (Slot → Pair) → Formula → Outcome Pair
+worked env f =
+    let given : Slot → Outcome Pair = λ s. is (env s) in
+    read pairs (letters given (pairSeries (plain pairs given x))) f
+
+unfoldable pub exactly : ℕ → (Slot → Fraction) → Formula → Fraction
+exactly N env f = read fractions (letters env (exactSeries N (plain fractions env x))) f
