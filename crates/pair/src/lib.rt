@@ -137,6 +137,13 @@ impl Pair {
         answered(w, w)
     }
 
+    // A pair as what a call answered, to begin a chain of calls.
+    pub fn answer(self) -> Answer
+        ensures { λ r. ⌜ calls.answer r ≡ calls.is self ⌝ }
+    {
+        Answer::Is(self)
+    }
+
     pub fn sum(self, other: Pair) -> Answer
         ensures { λ r. ⌜ calls.answer r ≡ calls.sum self other ⌝ }
     {

@@ -1,0 +1,45 @@
+-- x passes as it is, or not at all; and x, which names no φ, reads the same beside any φ. Assumes nothing.
+use mathlib.Core.Path.{_≡_, refl, sym, _∙_, ap}
+use mathlib.Core.Bool.{Bool, true, false}
+use native.Mathlib.Omega.{arith}
+use Prim.Native.Nat.{ℕ}
+use Rattle.pair.specs.declared.Pair.{Pair}
+use Rattle.pair.specs.Calls.{Outcome, is, refused, compared}
+use Rattle.equations.specs.Formula.{Slot, Algebra, read}
+use Rattle.equations.specs.Page.{u, kse, ksr, ksl, k, x}
+use Rattle.equations.specs.Readings.{letters, plain}
+use Rattle.media.specs.Media.{bounded, slow, sixtyFour, given}
+use Rattle.media.specs.declared.Media.{Media}
+
+is-not-refused : {A : Type 0} {B : Type 0} (p : A) (n : ℕ) → refused n ≡ is p → B
+is-not-refused {A} p n h = absurd (never h)
+  where
+    tell : Outcome A → ℕ
+    tell (is q) = 0
+    tell (refused m) = 1
+
+    never : refused n ≡ is p → ⊥
+    never e = let z : _≡_ {A = ℕ} 1 0 = ap tell e in omega arith
+
+bounded-is : (t : Outcome Bool) (p q : Pair) → bounded t p ≡ is q → is p ≡ is q
+unfolding bounded
+bounded-is (is true) p q h = h
+bounded-is (is false) p q h = is-not-refused q 41 h
+bounded-is (refused n) p q h = is-not-refused q n h
+
+pub slow-is : (o : Outcome Pair) (p : Pair) → slow o ≡ is p → o ≡ is p
+unfolding slow
+slow-is (is q) p h = bounded-is (compared (q .high) sixtyFour) q p h
+slow-is (refused n) p h = h
+
+pub x-plain : {A : Type 0} (alg : Algebra A) (env : Slot → A) (series : A) → read alg (letters env series) x ≡ plain alg env x
+unfolding read letters plain x k kse ksr ksl u
+x-plain alg env series = refl
+
+pub given-is : (o : Outcome Pair) (p : Pair) (m : Outcome Media) → o ≡ is p → m ≡ given o m
+unfolding given
+given-is o p m h = ap (λ (t : Outcome Pair). given t m) (sym h)
+
+pub given-refused : (o : Outcome Pair) (n : ℕ) (m : Outcome Media) → o ≡ refused n → refused n ≡ given o m
+unfolding given
+given-refused o n m h = ap (λ (t : Outcome Pair). given t m) (sym h)

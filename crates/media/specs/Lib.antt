@@ -1,0 +1,3 @@
+-- What the crate `media` promises.
+pub mod Slots
+pub mod Media

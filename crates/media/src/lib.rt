@@ -1,0 +1,119 @@
+//! Loss, series and media (document 01): from a site and a chemical to the concentrations in air, soil and produce.
+mod compartments;
+mod loss;
+mod terms;
+
+use crate::compartments::leave;
+use crate::loss::exponent_of;
+use crate::terms::sum_of_terms;
+use pair::Answer;
+use pair::Number;
+use pair::Order;
+use pair::Pair;
+ghost use mathlib.Core.Path.{_≡_};
+ghost use Rattle.pair.specs.Calls as calls;
+ghost use Rattle.equations.specs.Series.{pairSeries};
+ghost use Rattle.media.specs.Slots.{mediaSlots};
+ghost use Rattle.media.specs.Media as specs;
+
+// A concentration: mg/m³ in air, mg/kg in soil and produce.
+pub struct Conc(pub Pair);
+
+// A site's slots that the media need, as pairs.
+pub struct Site {
+    pub zs: Pair,
+    pub bd: Pair,
+    pub td: Pair,
+    pub theta: Pair,
+    pub xe: Pair,
+    pub sd: Pair,
+    pub er: Pair,
+    pub ro: Pair,
+    pub r: Pair,
+    pub vg: Pair,
+}
+
+// A chemical's slots that the media need, as pairs.
+pub struct Chemical {
+    pub q: Pair,
+    pub hg_a: Pair,
+    pub hg_d: Pair,
+    pub fv: Pair,
+    pub cyv: Pair,
+    pub cyp: Pair,
+    pub dydv: Pair,
+    pub dywv: Pair,
+    pub dydp: Pair,
+    pub dywp: Pair,
+    pub kds: Pair,
+    pub ksg: Pair,
+    pub ksv: Pair,
+    pub br: Pair,
+    pub rcf: Pair,
+}
+
+// What a chemical leaves in the media of the pathways.
+pub struct Media {
+    pub air: Conc,
+    pub soil: Conc,
+    pub above_ground: Conc,
+    pub below_ground: Conc,
+}
+
+// x, or why there is none: its high end is above 64 (document 01's 41), or a pair or an exponent was out of reach (53).
+pub enum Bounded {
+    Is(Pair),
+    TooFast,
+    Refused,
+}
+
+// The media, or why there are none, as for x.
+pub enum Found {
+    Is(Media),
+    TooFast,
+    Refused,
+}
+
+const SIXTY_FOUR: Number = Number {
+    significand: 640_000_000,
+    exponent: -7,
+};
+
+// x, unless its high end is above 64.
+fn slow(x: Answer) -> Bounded
+    ensures { λ r. ⌜ specs.exponent r ≡ specs.slow (calls.answer x) ⌝ }
+{
+    let Answer::Is(p) = x else {
+        return Bounded::Refused;
+    };
+    match p.high.compare(SIXTY_FOUR) {
+        Order::AtMost => Bounded::Is(p),
+        Order::Above => Bounded::TooFast,
+        Order::Refused => Bounded::Refused,
+    }
+}
+
+// x = k × tD.
+pub fn exponent(site: Site, chemical: Chemical) -> Bounded
+    ensures { λ r. ⌜ specs.exponent r ≡ specs.exponentOf (mediaSlots site chemical) ⌝ }
+{
+    slow(exponent_of(site, chemical))
+}
+
+// φ at x.
+pub fn series(x: Pair) -> Answer
+    ensures { λ r. ⌜ calls.answer r ≡ pairSeries (calls.is x) ⌝ }
+{
+    sum_of_terms(x)
+}
+
+// The concentrations that a chemical leaves in the media.
+pub fn concentrations(site: Site, chemical: Chemical) -> Found
+    ensures { λ r. ⌜ specs.found r ≡ specs.mediaOf (mediaSlots site chemical) ⌝ }
+{
+    match slow(exponent_of(site, chemical)) {
+        Bounded::Is(x) => leave(site, chemical, x),
+        Bounded::TooFast => Found::TooFast,
+        Bounded::Refused => Found::Refused,
+    }
+}
