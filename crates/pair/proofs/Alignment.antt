@@ -161,28 +161,28 @@ order-zero-right a b p h =
     (omega (arith, units-none (lower a b) b h, mul-pos p (ten-above (rise (lower a b) (a .exponent)))))
 
 -- The order of two working numbers is that of their values in the least unit.
-pub scaled : Number → ℕ
-scaled w = w .significand * 10 ^ place (w .exponent)
+abbrev pub inLeast : Number → ℕ
+inLeast w = w .significand * 10 ^ place (w .exponent)
 
-pub units-scaled : (w : Number) (l : ℤ) → Small (w .exponent) → Small l → place l ≤ place (w .exponent) → unitsAt l w * 10 ^ place l ≡ scaled w
-unfolding unitsAt scaled
+pub units-scaled : (w : Number) (l : ℤ) → Small (w .exponent) → Small l → place l ≤ place (w .exponent) → unitsAt l w * 10 ^ place l ≡ inLeast w
+unfolding unitsAt
 units-scaled w l p q h =
     mul-assoc (w .significand) (10 ^ rise l (w .exponent)) (10 ^ place l)
     ∙ ap (λ (x : ℕ). w .significand * x) (sym (ten-add (rise l (w .exponent)) (place l)) ∙ ap (λ (j : ℕ). 10 ^ j) (rise-of q p h))
 
-pub order-scaled : (a b : Number) → Small (a .exponent) → Small (b .exponent) → atMost a b ≡ leb (scaled a) (scaled b)
+pub order-scaled : (a b : Number) → Small (a .exponent) → Small (b .exponent) → atMost a b ≡ leb (inLeast a) (inLeast b)
 unfolding atMost lower
 order-scaled a b p q =
     let l = lesser (a .exponent) (b .exponent) in
     let s = lesser-below p q in
-    let x : unitsAt l a * 10 ^ place l ≡ scaled a = units-scaled a l p (s .0) (s .1) in
-    let y : unitsAt l b * 10 ^ place l ≡ scaled b = units-scaled b l q (s .0) (s .2) in
-    same-test (unitsAt l a) (unitsAt l b) (scaled a) (scaled b)
+    let x : unitsAt l a * 10 ^ place l ≡ inLeast a = units-scaled a l p (s .0) (s .1) in
+    let y : unitsAt l b * 10 ^ place l ≡ inLeast b = units-scaled b l q (s .0) (s .2) in
+    same-test (unitsAt l a) (unitsAt l b) (inLeast a) (inLeast b)
     (λ h. omega (arith, mul-le-mul-right (10 ^ place l) h))
     (λ h. omega (arith, mul-lt-mul-of-pos-right h (ten-above (place l))))
 
 pub order-trans : (a b c : Number) → Small (a .exponent) → Small (b .exponent) → Small (c .exponent) → atMost a b ≡ true → atMost b c ≡ true → atMost a c ≡ true
 order-trans a b c p q r h k =
     order-scaled a c p r
-    ∙ le-leb (scaled a) (scaled c)
-    (le-trans (leb-true (scaled a) (scaled b) (sym (order-scaled a b p q) ∙ h)) (leb-true (scaled b) (scaled c) (sym (order-scaled b c q r) ∙ k)))
+    ∙ le-leb (inLeast a) (inLeast c)
+    (le-trans (leb-true (inLeast a) (inLeast b) (sym (order-scaled a b p q) ∙ h)) (leb-true (inLeast b) (inLeast c) (sym (order-scaled b c q r) ∙ k)))

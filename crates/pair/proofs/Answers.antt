@@ -19,7 +19,8 @@ use Rattle.pair.specs.Promises.{Operation, sums, products, quotients, ca
 use Rattle.pair.proofs.Exponents.{by-cases}
 use Rattle.pair.proofs.Powers.{ten-above}
 use Rattle.pair.proofs.Fractions.{Usable, Along}
-use Rattle.pair.proofs.Ordered.{both, both-from, Working, working, at-most, value-proper}
+use Rattle.pair.proofs.Numbers.{both}
+use Rattle.pair.proofs.Ordered.{both-from, Working, working, at-most, value-proper}
 use Rattle.pair.proofs.ExactEnds.{top, bottom, power, endOf}
 
 never : {A B : Type 0} {n : ℕ} {a : A} → _≡_ {A = Outcome A} (refused n) (is a) → B

@@ -17,12 +17,13 @@ use Rattle.pair.specs.Number.{lesser, rise, isNumber, isZero, zeroExpone
 use Rattle.pair.specs.Rounding.{extra, divided, excess, carried, rounded, unitsEnd}
 use Rattle.pair.specs.Promises.{Operation, sums, products, quotients, exactly, scaled, Sized, Rounded}
 use Rattle.pair.proofs.Exponents.{by-cases, place-plus, place-minus}
-use Rattle.pair.proofs.Powers.{ten-above, ten-add, ten-rises}
+use Rattle.pair.proofs.Powers.{ten-above, ten-add, ten-rises, ten-reflects}
 use Rattle.pair.proofs.Excess.{Beyond, excess-beyond}
 use Rattle.pair.proofs.Dividing.{divided-same}
 use Rattle.pair.proofs.Fractions.{Usable}
-use Rattle.pair.proofs.Ordered.{Working, working, Aligned, aligned, depth-is, Lesser, lesser-is, units-place, power-rise}
-use Rattle.pair.proofs.Nearest.{Ratio, rounded-nearest, rounded-reach, ten-below}
+use Rattle.pair.proofs.Alignment.{Small, lesser-below, units-scaled}
+use Rattle.pair.proofs.Ordered.{Working, working, Aligned, aligned, depth-is, size-small, power-rise}
+use Rattle.pair.proofs.Nearest.{Ratio, rounded-nearest, rounded-reach}
 
 place-size : (e : ℤ) → mag e < 100000 → (depth ≤ place e + 100000) × (place e < depth + 100000)
 unfolding depth place
@@ -77,7 +78,7 @@ end-ratio sums a b p q u =
     record {
       proper = mul-pos (ten-above depth) (ten-above depth);
       divisor = lit< tt;
-      size = omega (arith, l .size);
+      size = omega (arith, l .small .small);
       link = omega (arith, ap (λ (n : ℕ). n * (10 ^ depth * 10 ^ depth)) (l .first), ap (λ (n : ℕ). n * (10 ^ depth * 10 ^ depth)) (l .second));
       figures = some-or-none (unitsAt (lower a b) a + unitsAt (lower a b) b);
     }
@@ -143,7 +144,7 @@ rest-ratio f p =
     record {
       proper = ten-above depth;
       divisor = lit< tt;
-      size = omega (arith, l .size);
+      size = omega (arith, l .small .small);
       link =
           rest-link (unitsAt (lower one f) one) (unitsAt (lower one f) f) (10 ^ place (lower one f)) (one .significand * 10 ^ place (one .exponent))
           (f .significand * 10 ^ place (f .exponent)) (10 ^ depth) (10 ^ depth) (l .first) (l .second) one-value;
@@ -243,7 +244,7 @@ entry-same (suc n) e h =
     few : k ≤ 9
     few =
         let b : Beyond (suc n * 1000000000) 1 k = excess-beyond (suc n * 1000000000) 1 (lit< tt) (omega arith) in
-        omega (arith, ten-below {a = 8 + k} {b = 18} (omega (arith, b .least)))
+        omega (arith, ten-reflects {i = 8 + k} {j = 18} (omega (arith, b .least)))
 
     multiple : (j : ℕ) × (k + j ≡ 9) → suc n * 1000000000 % (1 * 10 ^ k) ≡ 0
     multiple (j, i) =
@@ -259,10 +260,12 @@ pub units-divided : (up : Bool) (w : Number) (u : ℤ) → Working w → mag u <
 unfolding unitsEnd
 units-divided up w u p h =
     let s : ℤ = lesser (w .exponent) u in
-    let l : Lesser s (w .exponent) u = lesser-is (w .exponent) u (p .reach) h in
+    let x : Small (w .exponent) = size-small (p .reach) in
+    let y : Small u = size-small h in
+    let l = lesser-below x y in
     divided-same up (unitsAt s w) (10 ^ rise s u) (w .significand * 10 ^ place (w .exponent)) (10 ^ place u) (ten-above (rise s u)) (ten-above (place u))
     (cross (unitsAt s w) (10 ^ place s) (w .significand * 10 ^ place (w .exponent)) (10 ^ rise s u) (10 ^ place u)
-    (units-place s w (l .size) (p .reach) (l .first)) (power-rise s u (l .size) h (l .second)))
+    (units-scaled w s x (l .0) (l .1)) (power-rise s u (l .0) y (l .2)))
   where
     cross : (n s v r c : ℕ) → n * s ≡ v → r * s ≡ c → n * c ≡ v * r
     cross n s v r c i j = omega (arith, ap (λ (t : ℕ). t * r) i, ap (λ (t : ℕ). t * n) j)

@@ -17,25 +17,13 @@ use Rattle.pair.specs.Number.{isNumber, inReach, depth, place, value}
 use Rattle.pair.specs.Rounding.{divided, excess, carried, rounded}
 use Rattle.pair.specs.Promises.{Beside, Close, Rounded, Sized, grown}
 use Rattle.pair.proofs.Exponents.{by-cases, place-sub, place-raise}
-use Rattle.pair.proofs.Powers.{ten-above, ten-add, ten-rises}
+use Rattle.pair.proofs.Powers.{ten-above, ten-add, ten-rises, ten-reflects, ten-falls}
 use Rattle.pair.proofs.Excess.{Beyond, excess-beyond}
 use Rattle.pair.proofs.Dividing.{divided-same, down-least, down-most, up-least, up-most, divided-least, divided-most}
 use Rattle.pair.proofs.Ordered.{number, depth-is, reach-from, working, number-from, zero-number}
 
 le-of-lt-suc : {a b : ℕ} → a < b + 1 → a ≤ b
 le-of-lt-suc h = omega arith
-
-pub ten-falls : {a b : ℕ} → 10 ^ a ≤ 10 ^ b → a ≤ b
-ten-falls {a} {b} h =
-    by-cases (ltb b a)
-    (λ t. absurd (let l : b < a = ltb-true b a t in let m : 10 ^ (1 + b) ≤ 10 ^ a = ten-rises (omega arith) in omega (arith, ten-add 1 b, ten-above b)))
-    (λ t. ltb-false b a t)
-
-pub ten-below : {a b : ℕ} → 10 ^ a < 10 ^ b → a < b
-ten-below {a} {b} h =
-    by-cases (ltb a b)
-    (λ t. ltb-true a b t)
-    (λ t. absurd (let l : 10 ^ b ≤ 10 ^ a = ten-rises (ltb-false a b t) in omega arith))
 
 -- q is b / a as a whole number, down or up
 abbrev Whole : Bool → ℕ → ℕ → ℕ → Type 0
@@ -249,7 +237,7 @@ module _ {x : Fraction} {n d : ℕ} {e : ℤ} (r : Ratio x (suc n) d e) (some : 
     where
       low : x .den ≤ x .num * 10 ^ k → depth < 9 + (place raised + k)
       low l =
-          ten-below
+          ten-reflects
           (lt-of-mul-lt-mul-right (x .den)
           (rw (ten-add 9 (place raised + k), ten-add (place raised) k)
           (omega (arith, mul-le-mul-right (10 ^ depth) l, mul-lt-mul-of-pos-right (figures .1) (ten-above k)))))

@@ -1,45 +1,33 @@
 -- Working numbers as whole numbers: what the test `isNumber` says of significand and exponent, a number counted in units of a power of
 -- ten, and the test `atMost` as the order of the values. Assumes nothing.
 use mathlib.Core.Path.{_≡_, refl, sym, _∙_, ap, ap₂}
-use mathlib.Core.Bool.{Bool, true, false, _&&_, _||_, false≢true, or-true}
-use mathlib.Core.Logic.{_⊎_, inl, inr, _↔_}
+use mathlib.Core.Bool.{Bool, true, false, _&&_, _||_, or-true}
+use mathlib.Core.Logic.{_⊎_, inl, inr, ⊎-elim, _↔_}
 use Prim.Native.Nat.{ℕ, zero, _+_, _*_, _^_, _≤_, _<_}
-use native.Mathlib.Nat.{mul-le-mul-right, mul-lt-mul-of-pos-right, le-of-mul-le-mul-right, mul-assoc, le-refl, le-of-lt}
+use native.Mathlib.Nat.{eq-zero-or-pos, mul-le-mul-right, mul-lt-mul-of-pos-right, le-of-mul-le-mul-right}
 use native.Mathlib.Omega.{arith}
-use lib.Dec.{leb, eqb}
+use lib.Dec.{leb}
 use lib.IntN.{ℤ, pos, negsuc}
-use lib.Signed.{mag, leZ}
-use borrow.Author.Tests.{leb-true, leb-false, le-leb, eqb-true}
+use lib.Signed.{mag}
+use borrow.Author.Tests.{leb-true, leb-false, le-leb}
 use Rattle.pair.specs.declared.Number.{Number}
 use Rattle.pair.specs.Fraction.{Proper, _≤ᶠ_}
 use Rattle.pair.specs.Number as N
 use Rattle.pair.specs.Number.{nineFigures, inReach, zeroExponent, isZero, isNumber, lesser, rise, unitsAt, lower, atMost, depth, place, value}
-use Rattle.pair.proofs.Exponents.{by-cases, leZ-place, rise-place}
+use Rattle.pair.proofs.Alignment.{Small, rise-of, lesser-below, units-scaled}
 use Rattle.pair.proofs.Fractions.{_<ᶠ_}
+use Rattle.pair.proofs.Numbers.{Nine, number-nine, number-zero, number-mag}
 use Rattle.pair.proofs.Powers.{ten-above, ten-add}
-
-pub both : (a b : Bool) → (a && b) ≡ true → (a ≡ true) × (b ≡ true)
-both true b h = (refl, h)
-both false b h = absurd (false≢true h)
 
 pub both-from : {a b : Bool} → a ≡ true → b ≡ true → (a && b) ≡ true
 both-from {a} {b} p q = rw (p, q) refl
-
-either : (a b : Bool) → (a || b) ≡ true → (a ≡ true) ⊎ (b ≡ true)
-either true b h = inl refl
-either false b h = inr h
 
 -- for sums of exponents; a power of ten never meets it
 pub depth-is : depth ≡ 1000000
 unfolding depth
 depth-is = refl
 
--- an exponent in reach, by its size and by its place
-pub reach-size : (e : ℤ) → inReach e ≡ true → mag e < 100000
-unfolding inReach
-reach-size (pos n) h = omega (arith, leb-true n 99999 h)
-reach-size (negsuc n) h = omega (arith, leb-true n 99998 (both (leb n 99998) true h .0))
-
+-- an exponent in reach, by its place and by its size
 pub reach-from : (e : ℤ) → depth ≤ place e + 99999 → place e ≤ depth + 99999 → inReach e ≡ true
 unfolding inReach depth place
 reach-from (pos n) l h = le-leb n 99999 (omega arith)
@@ -49,11 +37,6 @@ pub size-reach : (e : ℤ) → mag e ≤ 99000 → inReach e ≡ true
 unfolding inReach
 size-reach (pos n) h = le-leb n 99999 (omega arith)
 size-reach (negsuc n) h = both-from {b = true} (le-leb n 99998 (omega arith)) refl
-
-zero-exponent : (e : ℤ) → zeroExponent e ≡ true → e ≡ pos 0
-unfolding zeroExponent
-zero-exponent (pos n) h = let l : n ≤ 0 = leb-true n 0 (both (leb 0 n) (leb n 0) h .1) in ap pos (omega arith)
-zero-exponent (negsuc n) h = absurd (false≢true h)
 
 abbrev pub number : ℕ → ℤ → Number
 number m e = record { significand = m; exponent = e }
@@ -65,23 +48,11 @@ pub record Working (w : Number) : Type 0 where
   pub least : (w ≡ N.zero) ⊎ (100000000 ≤ w .significand)
 
 pub working : (w : Number) → isNumber w ≡ true → Working w
-unfolding isNumber isZero nineFigures N.zero
-working w h = of (either (isZero w) (nineFigures (w .significand) && inReach (w .exponent)) h)
-  where
-    of : (isZero w ≡ true) ⊎ ((nineFigures (w .significand) && inReach (w .exponent)) ≡ true) → Working w
-    of (inl z) =
-        let t = both (eqb (w .significand) 0) (zeroExponent (w .exponent)) z in
-        let m : w .significand ≡ 0 = eqb-true (w .significand) 0 (t .0) in
-        let e : w .exponent ≡ pos 0 = zero-exponent (w .exponent) (t .1) in
-        record { most = omega arith; reach = rw e (omega arith); least = inl (ap₂ number m e) }
-    of (inr z) =
-        let t = both (nineFigures (w .significand)) (inReach (w .exponent)) z in
-        let s = both (leb 100000000 (w .significand)) (leb (w .significand) 999999999) (t .0) in
-        record {
-          most = leb-true (w .significand) 999999999 (s .1);
-          reach = reach-size (w .exponent) (t .1);
-          least = inr (leb-true 100000000 (w .significand) (s .0));
-        }
+working w h =
+    ⊎-elim
+    (λ z. record { most = omega arith; reach = number-mag w h; least = inl (number-zero w h z) })
+    (λ p. let n : Nine w = number-nine w h p in record { most = n .most; reach = n .reach; least = inr (n .least) })
+    (eq-zero-or-pos (w .significand))
 
 pub zero-number : isNumber N.zero ≡ true
 unfolding isNumber isZero zeroExponent N.zero
@@ -94,55 +65,29 @@ number-from w l h r =
     ap (λ (t : Bool). isZero w || t) (both-from (both-from (le-leb 100000000 (w .significand) l) (le-leb (w .significand) 999999999 h)) r)
     ∙ or-true (isZero w)
 
--- the lesser of two exponents lies at or below both
-pub record Lesser (s e f : ℤ) : Type 0 where
-  pub first : place s ≤ place e
-  pub second : place s ≤ place f
-  pub size : mag s < 100000
+-- 10^e counted in units of 10^s
+pub power-rise : (s e : ℤ) → Small s → Small e → place s ≤ place e → 10 ^ rise s e * 10 ^ place s ≡ 10 ^ place e
+power-rise s e p q l = sym (ten-add (rise s e) (place s)) ∙ ap (λ (n : ℕ). 10 ^ n) (rise-of p q l)
 
-pub lesser-is : (e f : ℤ) → mag e < 100000 → mag f < 100000 → Lesser (lesser e f) e f
-unfolding lesser
-lesser-is e f p q =
-    by-cases (leZ e f)
-    (λ t.
-    rw t
-    (record { first = le-refl (place e); second = leb-true (place e) (place f) (sym (leZ-place e f (deep p) (deep q)) ∙ t); size = p }))
-    (λ t.
-    rw t
-    (record {
-      first = le-of-lt (leb-false (place e) (place f) (sym (leZ-place e f (deep p) (deep q)) ∙ t));
-      second = le-refl (place f);
-      size = q;
-    }))
-  where
-    deep : {n : ℕ} → n < 100000 → n < depth
-    deep h = omega (arith, depth-is)
-
--- the number of units, times the unit, is the number
-pub power-rise : (s e : ℤ) → mag s < 100000 → mag e < 100000 → place s ≤ place e → 10 ^ rise s e * 10 ^ place s ≡ 10 ^ place e
-power-rise s e p q l = sym (ten-add (rise s e) (place s)) ∙ ap (λ (n : ℕ). 10 ^ n) (rise-place s e (omega (arith, depth-is)) l)
-
-pub units-place : (s : ℤ) (w : Number) → mag s < 100000 → mag (w .exponent) < 100000 → place s ≤ place (w .exponent) →
-    unitsAt s w * 10 ^ place s ≡ w .significand * 10 ^ place (w .exponent)
-unfolding unitsAt
-units-place s w p q l =
-    mul-assoc (w .significand) (10 ^ rise s (w .exponent)) (10 ^ place s)
-    ∙ ap (λ (n : ℕ). w .significand * n) (power-rise s (w .exponent) p q l)
+pub size-small : {e : ℤ} → mag e < 100000 → Small e
+size-small h = record { small = omega arith }
 
 -- two numbers in the same units
 pub record Aligned (s : ℤ) (a b : Number) : Type 0 where
-  pub size : mag s < 100000
+  pub small : Small s
   pub first : unitsAt s a * 10 ^ place s ≡ a .significand * 10 ^ place (a .exponent)
   pub second : unitsAt s b * 10 ^ place s ≡ b .significand * 10 ^ place (b .exponent)
 
 pub aligned : (a b : Number) → Working a → Working b → Aligned (lower a b) a b
 unfolding lower
 aligned a b p q =
-    let l : Lesser (lower a b) (a .exponent) (b .exponent) = lesser-is (a .exponent) (b .exponent) (p .reach) (q .reach) in
+    let x : Small (a .exponent) = size-small (p .reach) in
+    let y : Small (b .exponent) = size-small (q .reach) in
+    let l = lesser-below x y in
     record {
-      size = l .size;
-      first = units-place (lower a b) a (l .size) (p .reach) (l .first);
-      second = units-place (lower a b) b (l .size) (q .reach) (l .second);
+      small = l .0;
+      first = units-scaled a (lesser (a .exponent) (b .exponent)) x (l .0) (l .1);
+      second = units-scaled b (lesser (a .exponent) (b .exponent)) y (l .0) (l .2);
     }
 
 -- A number's value is a proper fraction.

@@ -23,12 +23,21 @@ pub below-ten : (n : ℕ) → n < 10 ^ n
 below-ten zero = lit< tt
 below-ten (suc n) = rw (pow-suc 10 n) (omega (arith, below-ten n))
 
--- an exponent is below another where the power is
-pub ten-reflects : (i j : ℕ) → 10 ^ i < 10 ^ j → i < j
-ten-reflects i j h =
+-- an exponent is below another, or at most another, where the power is
+pub ten-reflects : {i j : ℕ} → 10 ^ i < 10 ^ j → i < j
+ten-reflects {i} {j} h =
     by-cases (ltb i j)
     (λ t. ltb-true i j t)
     (λ t. absurd (lt-irrefl (10 ^ i) (lt-of-lt-of-le h (ten-rises (ltb-false i j t)))))
+
+pub ten-falls : {i j : ℕ} → 10 ^ i ≤ 10 ^ j → i ≤ j
+ten-falls {i} {j} h =
+    by-cases (ltb j i)
+    (λ t.
+        let l : j < i = ltb-true j i t in
+        let m : 10 ^ (1 + j) ≤ 10 ^ i = ten-rises (omega arith) in
+        absurd (omega (arith, ten-add 1 j, ten-above j)))
+    (λ t. ltb-false j i t)
 
 -- 10^g, for at most nine places, as the code has it
 pub record Power (g p : ℕ) : Type 0 where

@@ -25,7 +25,8 @@ use Rattle.pair.proofs.Dividing.{down-least, down-most, up-least, up-mo
 use Rattle.pair.proofs.Fractions.{rest-falls-exactly}
 pub use Rattle.pair.proofs.Fractions.{_<ᶠ_, below-itself, through, exactly-rises, exactly-proper}
 unfoldable pub use Rattle.pair.proofs.Fractions.{Usable, Along}
-use Rattle.pair.proofs.Ordered.{both, both-from, Working, working, not-at-most, reach-size, size-reach}
+use Rattle.pair.proofs.Numbers.{both, reach-mag}
+use Rattle.pair.proofs.Ordered.{both-from, Working, working, not-at-most, size-reach}
 pub use Rattle.pair.proofs.Ordered.{at-most, value-proper}
 use Rattle.pair.proofs.Nearest.{rounded-nearest, rounded-reach}
 use Rattle.pair.proofs.ExactEnds.{endOf, end-rounds, end-reach, one-number, one-value, rest-ratio, rest-sized, entry-ratio, entry-sized, entry-same, wide, wide-is, units-divided}
@@ -310,8 +311,8 @@ pub entry-rounds : (m : ℕ) (e : ℤ) (r : Pair) → entry m e ≡ is r → Rou
 entry-rounds m e r h =
     let t : EntryTold m e r = entry-told m e r h in
     rw (t .ends-is) (
-      rounded-nearest false (entry-ratio m e (reach-size e (t .reach))) (t .low-reach),
-      rounded-nearest true (entry-ratio m e (reach-size e (t .reach))) (t .high-reach),
+      rounded-nearest false (entry-ratio m e (reach-mag e (t .reach))) (t .low-reach),
+      rounded-nearest true (entry-ratio m e (reach-mag e (t .reach))) (t .high-reach),
     )
 
 -- m × 10^e is a proper fraction.
@@ -437,7 +438,7 @@ pub units-right : (p : Pair) (u : ℤ) (n : Units) → inUnits p u ≡ is n → 
 units-right p u n h =
     let t : UnitsTold p u n = units-told p u n h in
     let o : Ordered p = ordered p (t .operand) in
-    rw (t .ends-is, units-divided false (p .low) u (working (p .low) (o .low)) (reach-size u (t .reach)), units-divided true (p .high) u (working (p .high) (o .high)) (reach-size u (t .reach)))
+    rw (t .ends-is, units-divided false (p .low) u (working (p .low) (o .low)) (reach-mag u (t .reach)), units-divided true (p .high) u (working (p .high) (o .high)) (reach-mag u (t .reach)))
     (counted p u)
 
 -- The counts lie on either side of whatever the pair holds.
@@ -453,7 +454,7 @@ below-next true n d p = up-most n d p
 units-few : (up : Bool) (w : Number) (u : ℤ) → isNumber w ≡ true → inReach u ≡ true → value w ≤ᶠ scaled 9999999999999999999 u → unitsEnd up w u < 10000000000000000000
 unfolding value scaled
 units-few up w u n r l =
-    rw (units-divided up w u (working w n) (reach-size u r))
+    rw (units-divided up w u (working w n) (reach-mag u r))
     (lt-of-mul-lt-mul-right (10 ^ place u)
     (omega
     (arith, below-next up (w .significand * 10 ^ place (w .exponent)) (10 ^ place u) (ten-above (place u)), le-of-mul-le-mul-right {k = 10 ^ depth} (l .across) (ten-above depth))))

@@ -14,7 +14,7 @@ use Rattle.pair.specs.Number.{depth}
 use Rattle.pair.specs.Rounding.{rounded}
 use Rattle.pair.proofs.Exponents.{lowered}
 use Rattle.pair.proofs.Numbers.{fits-minus, back}
-use Rattle.pair.proofs.Powers.{ten-add, ten-reflects}
+use Rattle.pair.proofs.Powers.{ten-above, ten-add, ten-reflects}
 use Rattle.pair.proofs.Rounds.{rounded-exact}
 use Rattle.pair.proofs.rounding.normal.Statement.{statement}
 use Rattle.pair.proofs.rounding.normal.Tie as tie
@@ -41,7 +41,7 @@ step m filled k f h =
     }
 
 few : (m filled k : ℕ) → Filled m filled k → k < 9
-few m filled k f = ten-reflects k 9 (lt-of-le-of-lt (f .least) (omega (arith, f .most)))
+few m filled k f = ten-reflects {i = k} {j = 9} (lt-of-le-of-lt (f .least) (omega (arith, f .most)))
 
 done : (up : Bool) (m filled k : ℕ) (e : ℤ) → Filled m filled k → 100000000 ≤ filled → lib.Signed.mag e < 250000 →
     record { significand = filled; exponent = e -ℤ pos k } ≡ rounded up m 1 e
@@ -79,7 +79,7 @@ add-k c = let l = c .before .loop in omega (arith, few (c .before .before .befor
 loop-less : tie.Need-loop-less Inv-loop μ-loop
 loop-less c =
     let l = c .before .loop in
-    omega (arith, few (c .before .before .before .args .m) (l .filled) (l .k) (l .inv), native.Mathlib.Nat.le-trans (Rattle.pair.proofs.Powers.ten-above (l .k)) (l .inv .least))
+    omega (arith, few (c .before .before .before .args .m) (l .filled) (l .k) (l .inv), le-trans (ten-above (l .k)) (l .inv .least))
 
 loop-again : tie.Need-loop-again Inv-loop μ-loop
 loop-again c =
