@@ -4,3 +4,4 @@ pub mod Letters
 pub mod Series
 pub mod Page
 pub mod Readings
+pub mod Ranges

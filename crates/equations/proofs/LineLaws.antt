@@ -1,0 +1,233 @@
+-- Every formula of the page. For inputs in range x is answered and holds the exact x; and where x's high end is at most 64, every formula
+-- whose profile says so is answered, with one pair that holds the exact value for every N from 256 up and is as narrow as its profile
+-- says. So are the media, the factors, the intakes and the lines, and a line's high end is at most its low end and one part in 5,000
+-- more. Assumes nothing.
+use mathlib.Core.Path.{_≡_, refl, sym, _∙_, ap, subst}
+use mathlib.Core.Bool.{Bool, true, false, _&&_}
+use Prim.Native.Nat.{ℕ, _*_, _^_, _≤_, _<_}
+use native.Mathlib.Nat.{mul-le-mul-right, le-of-mul-le-mul-right, one-le-pow}
+use native.Mathlib.Omega.{arith}
+use lib.Dec.{leb, lit<, lit≤}
+use lib.IntN.{pos}
+use borrow.Author.Tests.{leb-true}
+use Rattle.pair.specs.declared.Number.{Number}
+use Rattle.pair.specs.declared.Pair.{Pair}
+use Rattle.pair.specs.Fraction.{Fraction, _≤ᶠ_}
+use Rattle.pair.specs.Number.{isPair, value, depth}
+use Rattle.pair.specs.Calls.{Outcome, is}
+use Rattle.pair.specs.Promises.{Holds, products, quotients}
+use Rattle.pair.proofs.Promises.{joint}
+use Rattle.equations.specs.declared.Pathway.{Pathway}
+use Rattle.equations.specs.declared.Pathway.the-variants.{Air, SoilSummer, SoilWinter, Skin, AboveGround, BelowGround}
+use Rattle.equations.specs.declared.Effect.{Effect}
+use Rattle.equations.specs.declared.Effect.the-variants.{Hazard, Cancer}
+use Rattle.equations.specs.Formula.{Slot, Letter, slot, phi, Formula, read, pairs, fractions}
+use Rattle.equations.specs.Series.{terms, pairSeries, exactSeries}
+use Rattle.equations.specs.Letters.{tD}
+use Rattle.equations.specs.Page as page
+use Rattle.equations.specs.Page.{x}
+use Rattle.equations.specs.Readings.{letters, plain, worked, exactly}
+use Rattle.equations.specs.Ranges.{siteBound, chemicalBound, receptorBound, bound, isNonzero, isShare, neverZero, atMostOne, InRange, sixtyFour}
+use Rattle.equations.proofs.Nearness.{Near, near-more, spread}
+use Rattle.equations.proofs.Profile.{Profile, profiles, ofNumber, positives, usable, joined, ofRest, Fits, Good, both, parts, good-number, equal-ends}
+use Rattle.equations.proofs.FormulaLaws.{profile, reads-good}
+use Rattle.equations.proofs.SeriesLaws.{seriesProfile, series-good}
+
+-- the profile of a slot
+unfoldable pub ofSlot : Slot → Profile
+ofSlot s = record { size = 20; width = 0; positive = neverZero s; share = atMostOne s; answered = true }
+
+-- the profile of x, read from the slots alone
+unfoldable pub ofX : Profile
+ofX = plain profiles ofSlot x
+
+x-profile : ofX ≡ record { size = 215; width = 30; positive = false; share = false; answered = true }
+unfolding ofX plain read profiles letters x page.k page.u page.kse page.ksr page.ksl ofNumber joined ofRest joint spread positives usable ofSlot siteBound chemicalBound receptorBound bound isNonzero isShare neverZero atMostOne
+x-profile = refl
+
+-- whether the profiles of a line say that it is answered and narrow, from φ's
+lineCheck : Profile → Effect → Pathway → Bool
+lineCheck P e p =
+    let f : Profile = profile (letters ofSlot P) (page.line e p) in
+    f .answered && leb (f .width) 9300
+
+-- the profile of φ, and of a formula
+unfoldable pub ofPhi : Profile
+ofPhi = seriesProfile ofX
+
+unfoldable pub ofFormula : Formula → Profile
+ofFormula f = profile (letters ofSlot ofPhi) f
+
+series-profile : seriesProfile (record { size = 215; width = 30; positive = false; share = false; answered = true }) ≡ record { size = 57387; width = 8675; positive = true; share = false; answered = true }
+unfolding seriesProfile terms profiles ofNumber joined ofRest joint spread positives usable
+series-profile = refl
+
+pub phi-profile : ofPhi ≡ record { size = 57387; width = 8675; positive = true; share = false; answered = true }
+unfolding ofPhi
+phi-profile = ap seriesProfile x-profile ∙ series-profile
+
+-- The profiles of the lines, and with them of all that stands in a line.
+line-computed : (e : Effect) (p : Pathway) → lineCheck (record { size = 57387; width = 8675; positive = true; share = false; answered = true }) e p ≡ true
+unfolding lineCheck profile read profiles letters page.line page.intake page.factor page.medium page.exposure page.B page.AT page.reference page.byRoute page.A page.C page.D page.g page.aboveGround page.belowGround x page.k page.u page.kse page.ksr page.ksl ofNumber joined ofRest joint spread positives usable ofSlot siteBound chemicalBound receptorBound bound isNonzero isShare neverZero atMostOne
+line-computed Hazard Air = refl
+line-computed Hazard SoilSummer = refl
+line-computed Hazard SoilWinter = refl
+line-computed Hazard Skin = refl
+line-computed Hazard AboveGround = refl
+line-computed Hazard BelowGround = refl
+line-computed Cancer Air = refl
+line-computed Cancer SoilSummer = refl
+line-computed Cancer SoilWinter = refl
+line-computed Cancer Skin = refl
+line-computed Cancer AboveGround = refl
+line-computed Cancer BelowGround = refl
+
+line-checked : (e : Effect) (p : Pathway) → (ofFormula (page.line e p) .answered ≡ true) × (ofFormula (page.line e p) .width ≤ 9300)
+unfolding ofFormula lineCheck
+line-checked e p =
+    let c : lineCheck ofPhi e p ≡ true = rw phi-profile (line-computed e p) in
+    let f : Profile = profile (letters ofSlot ofPhi) (page.line e p) in
+    let t = both (f .answered) (leb (f .width) 9300) c in
+    (t .0, leb-true (f .width) 9300 (t .1))
+
+intake-checked : (e : Effect) (p : Pathway) → ofFormula (page.intake e p) .answered ≡ true
+unfolding page.line ofFormula profile read profiles
+intake-checked Hazard p = parts quotients (ofFormula (page.intake Hazard p)) (ofFormula (page.reference Hazard p)) (line-checked Hazard p .0) .first
+intake-checked Cancer p = parts products (ofFormula (page.intake Cancer p)) (ofFormula (page.reference Cancer p)) (line-checked Cancer p .0) .first
+
+factor-checked : (e : Effect) (p : Pathway) → ofFormula (page.factor e p) .answered ≡ true
+unfolding page.intake ofFormula profile read profiles
+factor-checked e p = parts products (ofFormula (page.factor e p)) (ofFormula (page.medium p)) (intake-checked e p) .first
+
+medium-checked : (p : Pathway) → ofFormula (page.medium p) .answered ≡ true
+unfolding page.intake ofFormula profile read profiles
+medium-checked p = parts products (ofFormula (page.factor Hazard p)) (ofFormula (page.medium p)) (intake-checked Hazard p) .second
+
+-- C is D × tD × g.
+soil-checked : (ofFormula page.D .answered ≡ true) × (ofFormula page.g .answered ≡ true)
+unfolding page.medium page.C ofFormula profile read profiles
+soil-checked =
+    let a = parts products (joined products (ofFormula page.D) (ofFormula tD)) (ofFormula page.g) (medium-checked SoilSummer) in
+    (parts products (ofFormula page.D) (ofFormula tD) (a .first) .first, a .second)
+
+-- The pair reading of f is r, which fits f's profile and holds the exact reading for every N from 256 up.
+pub record Works (env : Slot → Pair) (vals : Slot → Fraction) (f : Formula) (r : Pair) : Type 0 where
+  pub told : worked env f ≡ is r
+  pub pair : isPair r ≡ true
+  pub fits : Fits (ofFormula f) r
+  pub held : (N : ℕ) → 256 ≤ N → Holds r (exactly N vals f)
+
+-- Inputs in range are pairs that fit their slots' profiles.
+module _ (env : Slot → Pair) (vals : Slot → Fraction) (inputs : (s : Slot) → InRange s (env s) (vals s)) where
+  slot-good : (s : Slot) → Good (ofSlot s) (is (env s)) (vals s)
+  unfolding ofSlot
+  slot-good s =
+      let i : InRange s (env s) (vals s) = inputs s in
+      record {
+        answer = env s;
+        told = refl;
+        fits =
+            record {
+              pair = i .pair;
+              within = record { low = i .low-sized; high = i .high-sized };
+              wide = equal-ends (env s) (i .same);
+              positive = i .above;
+              share = λ t. (i .same, i .most t);
+            };
+        held = i .held;
+      }
+
+  letter-good : (P : Profile) (o : Outcome Pair) (v : Fraction) → (P .answered ≡ true → Good P o v) → (l : Letter) →
+      letters ofSlot P l .answered ≡ true → Good (letters ofSlot P l) (letters (λ s. is (env s)) o l) (letters vals v l)
+  unfolding letters
+  letter-good P o v g (slot s) h = slot-good s
+  letter-good P o v g phi h = g h
+
+  x-good : Good ofX (plain pairs (λ s. is (env s)) x) (plain fractions vals x)
+  unfolding ofX plain profile pairs fractions profiles
+  x-good =
+      reads-good (letters ofSlot (ofNumber 1 (pos 0))) (letters (λ s. is (env s)) (pairs .number 1 (pos 0))) (letters vals (fractions .number 1 (pos 0)))
+      (letter-good (ofNumber 1 (pos 0)) (pairs .number 1 (pos 0)) (fractions .number 1 (pos 0)) (good-number 1 (pos 0))) x (ap (λ (P : Profile). P .answered) x-profile)
+
+  -- x is answered and holds the exact x.
+  pub x-answered : (p : Pair) × (plain pairs (λ s. is (env s)) x ≡ is p) × (isPair p ≡ true) × Holds p (plain fractions vals x)
+  x-answered = (x-good .answer, x-good .told, x-good .fits .pair, x-good .held)
+
+  -- What follows holds where x's high end is at most 64.
+  module _ (p : Pair) (told : plain pairs (λ s. is (env s)) x ≡ is p) (most : value (p .high) ≤ᶠ sixtyFour) where
+    phi-good : (N : ℕ) → 256 ≤ N → ofPhi .answered ≡ true → Good ofPhi (pairSeries (plain pairs (λ s. is (env s)) x)) (exactSeries N (plain fractions vals x))
+    unfolding ofPhi sixtyFour
+    phi-good N n h =
+        let i : is (x-good .answer) ≡ is p = sym (x-good .told) ∙ told in
+        let e : p ≡ x-good .answer = cc in
+        series-good ofX x-good (subst (λ (q : Pair). value (q .high) ≤ᶠ record { num = 64; den = 1 }) e most) h N n
+
+    worked-good : (f : Formula) → ofFormula f .answered ≡ true → (N : ℕ) → 256 ≤ N → Good (ofFormula f) (worked env f) (exactly N vals f)
+    unfolding ofFormula worked exactly
+    worked-good f h N n =
+        let o : Outcome Pair = pairSeries (plain pairs (λ s. is (env s)) x) in
+        let v : Fraction = exactSeries N (plain fractions vals x) in
+        reads-good (letters ofSlot ofPhi) (letters (λ s. is (env s)) o) (letters vals v) (letter-good ofPhi o v (phi-good N n)) f h
+
+    -- Every formula whose profile says so is answered with one pair, which holds the exact value for every N from 256 up.
+    pub formula-works : (f : Formula) → ofFormula f .answered ≡ true → (r : Pair) × Works env vals f r
+    formula-works f h =
+        let g = worked-good f h 256 (lit≤ tt) in (
+          g .answer,
+          record {
+            told = g .told;
+            pair = g .fits .pair;
+            fits = g .fits;
+            held = λ N n. let i : is (worked-good f h N n .answer) ≡ is (g .answer) = sym (worked-good f h N n .told) ∙ g .told in
+                let e : worked-good f h N n .answer ≡ g .answer = cc in
+                subst (λ (q : Pair). Holds q (exactly N vals f)) e (worked-good f h N n .held);
+          },
+        )
+
+    pub line-works : (e : Effect) (w : Pathway) → (r : Pair) × Works env vals (page.line e w) r
+    line-works e w = formula-works (page.line e w) (line-checked e w .0)
+
+    pub intake-works : (e : Effect) (w : Pathway) → (r : Pair) × Works env vals (page.intake e w) r
+    intake-works e w = formula-works (page.intake e w) (intake-checked e w)
+
+    pub factor-works : (e : Effect) (w : Pathway) → (r : Pair) × Works env vals (page.factor e w) r
+    factor-works e w = formula-works (page.factor e w) (factor-checked e w)
+
+    pub medium-works : (w : Pathway) → (r : Pair) × Works env vals (page.medium w) r
+    medium-works w = formula-works (page.medium w) (medium-checked w)
+
+    pub D-works : (r : Pair) × Works env vals page.D r
+    D-works = formula-works page.D (soil-checked .0)
+
+    pub g-works : (r : Pair) × Works env vals page.g r
+    g-works = formula-works page.g (soil-checked .1)
+
+    pub A-works : (r : Pair) × Works env vals page.A r
+    unfolding page.medium
+    A-works = medium-works Air
+
+    pub C-works : (r : Pair) × Works env vals page.C r
+    unfolding page.medium
+    C-works = medium-works SoilSummer
+
+    pub aboveGround-works : (r : Pair) × Works env vals page.aboveGround r
+    unfolding page.medium
+    aboveGround-works = medium-works AboveGround
+
+    pub belowGround-works : (r : Pair) × Works env vals page.belowGround r
+    unfolding page.medium
+    belowGround-works = medium-works BelowGround
+
+-- A line's high end is at most its low end and one part in 5,000 more.
+few-parts : (u v : Number) (w : ℕ) → w ≤ 9300 → Near w (value u) (value v) → 5000 * value u .num ≤ 5001 * value v .num
+unfolding value
+few-parts u v w l h =
+    cancel (value u .num) (value v .num) (10 ^ depth) (100000000 ^ 9300) (100000001 ^ 9300) (near-more l h .across) (lit≤ tt) (one-le-pow depth 10 (lit< tt)) (one-le-pow 9300 100000000 (lit< tt))
+  where
+    cancel : (a b d m n : ℕ) → a * d * m ≤ b * d * n → n * 5000 ≤ m * 5001 → 0 < d → 0 < m → 5000 * a ≤ 5001 * b
+    cancel a b d m n p q s t =
+        let c : a * m ≤ b * n = le-of-mul-le-mul-right {k = d} (omega arith) s in
+        le-of-mul-le-mul-right {k = m} (omega (arith, mul-le-mul-right b q)) t
+
+pub line-narrow : (env : Slot → Pair) (vals : Slot → Fraction) (e : Effect) (p : Pathway) (r : Pair) → Works env vals (page.line e p) r → 5000 * value (r .high) .num ≤ 5001 * value (r .low) .num
+line-narrow env vals e p r h = few-parts (r .high) (r .low) (ofFormula (page.line e p) .width) (line-checked e p .1) (h .fits .wide)

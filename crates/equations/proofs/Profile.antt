@@ -1,0 +1,275 @@
+-- A third reading of the formulas, on profiles: what is known of a pair before it is worked. A profile tells how large and how wide the
+-- pair can be, whether its low end is above 0, whether it is a share of 1, and whether its calls are all answered. One law for each
+-- operation: operands that fit their profiles give an answer that fits its own and holds the exact result. Assumes nothing.
+use mathlib.Core.Path.{_≡_, refl, sym, subst}
+use mathlib.Core.Bool.{Bool, true, false, _&&_, _||_, false≢true}
+use mathlib.Core.Logic.{_⊎_, inl, inr}
+use Prim.Native.Nat.{ℕ, zero, suc, _+_, _*_, _^_, _≤_, _<_}
+use native.Mathlib.Nat.{mul-le-mul, mul-le-mul-right, mul-pos, one-le-pow}
+use native.Mathlib.Omega.{arith}
+use lib.Dec.{leb, ltb, lit<}
+use lib.IntN.{ℤ, pos, negsuc}
+use lib.Signed.{mag}
+use lib.Pow.{pow-add}
+use borrow.Author.Tests.{leb-true, ltb-true}
+use Rattle.pair.specs.declared.Number.{Number}
+use Rattle.pair.specs.declared.Pair.{Pair}
+use Rattle.pair.specs.Fraction.{Fraction, Proper, _≤ᶠ_, plus, times, over, rest}
+use Rattle.pair.specs.Number.{isPair, value, place, depth}
+use Rattle.pair.specs.Calls.{Outcome, is, after, afterOne, entry, oneMinus}
+use Rattle.pair.specs.Promises.{Operation, sums, products, quotients, call, exactly, lowEnd, highEnd, withLow, withHigh, Holds, Sized, scaled}
+use Rattle.pair.proofs.Promises as promises
+use Rattle.pair.proofs.Promises.{Within, Usable, joint, value-proper, answered-within, rounds, ends-proper, pair-again, holds}
+use Rattle.equations.specs.Formula.{Algebra}
+use Rattle.equations.proofs.Nearness.{Near, near-from, near-through, near-above, near-down, near-up, spread, NearAlong, near-exactly}
+
+-- What is known of a pair: its ends are 0 or from 10^−size to 10^size, its high end is its low end and at most width parts in 10^8 more,
+-- its low end is above 0, it has equal ends at most 1, and it is answered.
+pub record Profile : Type 0 where
+  pub size : ℕ
+  pub width : ℕ
+  pub positive : Bool
+  pub share : Bool
+  pub answered : Bool
+
+-- m × 10^e, of at most nine digits
+unfoldable pub ofNumber : ℕ → ℤ → Profile
+ofNumber m e =
+    record { size = 10 + mag e; width = 0; positive = ltb 0 m; share = false; answered = leb m 999999999 && leb (mag e) 99000 }
+
+-- where the low end of a result is above 0, and where a divisor may stand
+unfoldable pub positives : Operation → Bool → Bool → Bool
+positives sums a b = a || b
+positives products a b = a && b
+positives quotients a b = a
+
+unfoldable pub usable : Operation → Bool → Bool
+usable sums b = true
+usable products b = true
+usable quotients b = b
+
+unfoldable pub joined : Operation → Profile → Profile → Profile
+joined o P Q =
+    let size : ℕ = joint o (P .size) (Q .size) in
+    record {
+      size = size;
+      width = spread o (P .width) (Q .width) + 2;
+      positive = positives o (P .positive) (Q .positive);
+      share = false;
+      answered = P .answered && (Q .answered && (usable o (Q .positive) && leb size 99991));
+    }
+
+-- 1 − f, of a share f
+unfoldable pub ofRest : Profile → Profile
+ofRest P = record { size = 9; width = 2; positive = false; share = false; answered = P .answered && P .share }
+
+unfoldable pub profiles : Algebra Profile
+profiles = record { number = ofNumber; plus = joined sums; times = joined products; over = joined quotients; rest = ofRest }
+
+-- p is as its profile says
+pub record Fits (P : Profile) (p : Pair) : Type 0 where
+  pub pair : isPair p ≡ true
+  pub within : Within (P .size) p
+  pub wide : Near (P .width) (value (p .high)) (value (p .low))
+  pub positive : P .positive ≡ true → 0 < value (p .low) .num
+  pub share : P .share ≡ true → (p .low ≡ p .high) × (value (p .high) .num ≤ value (p .high) .den)
+
+-- the outcome is a pair that fits its profile and holds the exact value
+pub record Good (P : Profile) (o : Outcome Pair) (x : Fraction) : Type 0 where
+  pub answer : Pair
+  pub told : o ≡ is answer
+  pub fits : Fits P answer
+  pub held : Holds answer x
+
+pub both : (a b : Bool) → (a && b) ≡ true → (a ≡ true) × (b ≡ true)
+both true b h = (refl, h)
+both false b h = absurd (false≢true h)
+
+pub either : (a b : Bool) → (a || b) ≡ true → (a ≡ true) ⊎ (b ≡ true)
+either true b h = inl refl
+either false b h = inr h
+
+-- What an operation's profile says of its operands, its divisor and its size.
+pub record Parts (o : Operation) (P Q : Profile) : Type 0 where
+  pub first : P .answered ≡ true
+  pub second : Q .answered ≡ true
+  pub divides : usable o (Q .positive) ≡ true
+  pub few : joint o (P .size) (Q .size) ≤ 99991
+
+pub parts : (o : Operation) (P Q : Profile) → joined o P Q .answered ≡ true → Parts o P Q
+unfolding joined
+parts o P Q h =
+    let k : ℕ = joint o (P .size) (Q .size) in
+    let a = both (P .answered) (Q .answered && (usable o (Q .positive) && leb k 99991)) h in
+    let b = both (Q .answered) (usable o (Q .positive) && leb k 99991) (a .1) in
+    let c = both (usable o (Q .positive)) (leb k 99991) (b .1) in
+    record { first = a .0; second = b .0; divides = c .0; few = leb-true k 99991 (c .1) }
+
+-- A value above 0 may divide.
+usable-from : (o : Operation) (t : Bool) (y : Fraction) → usable o t ≡ true → (t ≡ true → 0 < y .num) → Usable o y
+unfolding usable Usable
+usable-from sums t y u h = tt
+usable-from products t y u h = tt
+usable-from quotients t y u h = h u
+
+ten-above : (k : ℕ) → 0 < 10 ^ k
+ten-above k = one-le-pow k 10 (lit< tt)
+
+value-above : (w : Number) → 0 < value w .den
+value-above w = value-proper w .above-zero
+
+-- The exact low end of a result is above 0 where its operands' profiles say so.
+low-above : (o : Operation) (s t : Bool) (p q : Pair) → positives o s t ≡ true →
+    (s ≡ true → 0 < value (p .low) .num) → (t ≡ true → 0 < value (q .low) .num) → 0 < lowEnd o p q .num
+unfolding positives lowEnd withLow exactly plus times over
+low-above sums s t p q h a b = go (either s t h)
+  where
+    go : (s ≡ true) ⊎ (t ≡ true) → 0 < value (p .low) .num * value (q .low) .den + value (q .low) .num * value (p .low) .den
+    go (inl y) = omega (arith, mul-pos (a y) (value-above (q .low)))
+    go (inr y) = omega (arith, mul-pos (b y) (value-above (p .low)))
+low-above products s t p q h a b = mul-pos (a (both s t h .0)) (b (both s t h .1))
+low-above quotients s t p q h a b = mul-pos (a h) (value-above (q .high))
+
+-- The ends that an operation takes of a pair lie as near as the pair's own.
+near-ends : (o : Operation) (w : ℕ) (q : Pair) → Near w (value (q .high)) (value (q .low)) → NearAlong o w (value (withHigh o q)) (value (withLow o q))
+unfolding withLow withHigh NearAlong
+near-ends sums w q h = h
+near-ends products w q h = h
+near-ends quotients w q h = h
+
+-- Rounding both ends costs two parts.
+two-more : {w : ℕ} {x y u v : Fraction} → Proper x → Proper y → Near 1 u x → Near w x y → Near 1 y v → Near (w + 2) u v
+two-more {w} {u} {v} p q a b c = rw (ends w) at (near-through p a (near-through q b c))
+  where
+    ends : (n : ℕ) → 1 + (n + 1) ≡ n + 2
+    ends n = omega arith
+
+wide-op : (o : Operation) (v w : ℕ) (p q r : Pair) → call o p q ≡ is r → Near v (value (p .high)) (value (p .low)) → Near w (value (q .high)) (value (q .low)) →
+    Near (spread o v w + 2) (value (r .high)) (value (r .low))
+unfolding lowEnd highEnd
+wide-op o v w p q r h a b =
+    let d = rounds o p q r h in
+    let m = ends-proper o p q r h in
+    two-more (m .1) (m .0) (near-up (d .1)) (near-exactly o v w (value (withHigh o q)) (value (withLow o q)) a (near-ends o w q b)) (near-down (d .0))
+
+-- Sums, products and quotients.
+pub good-op : (o : Operation) (P Q : Profile) {f g : Outcome Pair} {x y : Fraction} → Good P f x → Good Q g y → joined o P Q .answered ≡ true →
+    Good (joined o P Q) (after (call o) f g) (exactly o x y)
+unfolding joined after
+good-op o P Q {x} {y} a b h =
+    let p : Pair = a .answer in
+    let q : Pair = b .answer in
+    let e : Parts o P Q = parts o P Q h in
+    let r = answered-within o (P .size) (Q .size) p q (a .fits .pair) (b .fits .pair)
+    (usable-from o (Q .positive) (value (q .low)) (e .divides) (b .fits .positive)) (a .fits .within) (b .fits .within) (e .few) in
+    record {
+      answer = r .0;
+      told = rw (a .told, b .told) (r .1);
+      fits =
+          record {
+            pair = pair-again o p q (r .0) (r .1);
+            within = r .2;
+            wide = wide-op o (P .width) (Q .width) p q (r .0) (r .1) (a .fits .wide) (b .fits .wide);
+            positive =
+                λ t.
+                near-above (value-proper (r .0 .low)) (near-down (rounds o p q (r .0) (r .1) .0))
+                (low-above o (P .positive) (Q .positive) p q t (a .fits .positive) (b .fits .positive));
+            share = λ t. absurd (false≢true t);
+          };
+      held = holds o p q (r .0) x y (r .1) (a .held) (b .held);
+    }
+
+rest-proper : (w : Number) → Proper (rest (value w))
+unfolding rest
+rest-proper w = record { above-zero = value-above w }
+
+-- 1 − f of equal ends is two parts wide.
+wide-rest : (f r : Pair) → oneMinus f ≡ is r → f .low ≡ f .high → Near 2 (value (r .high)) (value (r .low))
+wide-rest f r h e =
+    let d = promises.rest-rounds f r h in
+    near-through (rest-proper (f .low)) (near-up (d .1))
+    (subst (λ (w : Number). Near 1 (rest (value w)) (value (r .low))) (sym e) (near-down (d .0)))
+
+-- 1 − f.
+pub good-rest : (P : Profile) {f : Outcome Pair} {x : Fraction} → Good P f x → ofRest P .answered ≡ true → Good (ofRest P) (afterOne oneMinus f) (rest x)
+unfolding ofRest afterOne
+good-rest P {f} {x} a h =
+    let p : Pair = a .answer in
+    let s = a .fits .share (both (P .answered) (P .share) h .1) in
+    let r = promises.rest-answered p (a .fits .pair) (s .1) in
+    record {
+      answer = r .0;
+      told = rw (a .told) (r .1);
+      fits =
+          record {
+            pair = promises.rest-pair p (r .0) (r .1);
+            within = promises.rest-within p (r .0) (r .1);
+            wide = wide-rest p (r .0) (r .1) (s .0);
+            positive = λ t. absurd (false≢true t);
+            share = λ t. absurd (false≢true t);
+          };
+      held = promises.rest-holds p (r .0) x (r .1) (a .held);
+    }
+
+-- A constant.
+place-up : (n : ℕ) → place (pos n) ≡ depth + n
+unfolding place
+place-up n = refl
+
+place-down : (n : ℕ) → n ≤ 99000 → place (negsuc n) + (1 + n) ≡ depth
+unfolding depth place
+place-down n h = omega arith
+
+down-is : (n : ℕ) → n ≤ 99000 → 10 ^ place (negsuc n) * (10 * 10 ^ n) ≡ 10 ^ depth
+down-is n h = rw (← (pow-add 10 1 n), ← (pow-add 10 (place (negsuc n)) (1 + n)), place-down n h)
+
+number-size : (m : ℕ) (e : ℤ) → m ≤ 999999999 → mag e ≤ 99000 → Sized (10 + mag e) (scaled m e)
+unfolding scaled
+number-size zero e h l = record { sized = inl (omega arith) }
+number-size (suc m) (pos n) h l =
+    record {
+      sized =
+          inr (
+            rw (place-up n, pow-add 10 depth n, pow-add 10 10 n)
+                (omega (arith, mul-le-mul (ten-above n) (ten-above n), mul-le-mul-right (10 ^ depth) (mul-le-mul (mul-pos (ten-above n) (ten-above n)) h))),
+            rw (place-up n, pow-add 10 depth n, pow-add 10 10 n) (omega (arith, mul-le-mul-right (10 ^ depth * 10 ^ n) h)),
+          );
+    }
+number-size (suc m) (negsuc n) h l =
+    let a : ℕ = 10 ^ place (negsuc n) in
+    record {
+      sized =
+          inr (
+            rw (← (down-is n l), pow-add 10 10 n) (omega (arith, mul-le-mul-right (a * 10 ^ n) (mul-pos {m = 1} {n = suc m} (lit< tt) (omega arith)))),
+            rw (← (down-is n l), pow-add 10 10 n) (omega (arith, mul-le-mul-right a h, mul-le-mul-right a (mul-pos (ten-above n) (ten-above n)))),
+          );
+    }
+
+number-above : (m : ℕ) (e : ℤ) (w : Number) → 0 < m → scaled m e ≤ᶠ value w → 0 < value w .num
+unfolding scaled
+number-above m e w p h = near-above (value-proper w) (near-from h) (mul-pos p (ten-above (place e)))
+
+pub equal-ends : (p : Pair) → p .low ≡ p .high → Near 0 (value (p .high)) (value (p .low))
+equal-ends p e = subst (λ (w : Number). Near 0 (value (p .high)) (value w)) (sym e) (near-from (promises.below-itself (value (p .high))))
+
+pub good-number : (m : ℕ) (e : ℤ) → ofNumber m e .answered ≡ true → Good (ofNumber m e) (entry m e) (scaled m e)
+unfolding ofNumber
+good-number m e h =
+    let a = both (leb m 999999999) (leb (mag e) 99000) h in
+    let d : m ≤ 999999999 = leb-true m 999999999 (a .0) in
+    let l : mag e ≤ 99000 = leb-true (mag e) 99000 (a .1) in
+    let r = promises.entry-answered m e d l in
+    let x = promises.entry-exact m e (r .0) (r .1) in
+    record {
+      answer = r .0;
+      told = r .1;
+      fits =
+          record {
+            pair = promises.entry-pair m e (r .0) (r .1);
+            within = promises.entry-within m e (r .0) (10 + mag e) (r .1) (number-size m e d l) (omega arith);
+            wide = equal-ends (r .0) (x .0);
+            positive = λ t. subst (λ (w : Number). 0 < value w .num) (sym (x .0)) (number-above m e (r .0 .high) (ltb-true 0 m t) (x .1 .high));
+            share = λ t. absurd (false≢true t);
+          };
+      held = x .1;
+    }

@@ -1,0 +1,2 @@
+-- What the reading of a line promises.
+pub mod Text
