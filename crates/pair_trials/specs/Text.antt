@@ -12,9 +12,10 @@ unfoldable pub written : List ℕ → ℕ → ℕ → ℕ
 written s at zero = 0
 written s at (suc n) = written s at n * 10 + (getD s (at + n) 0 - 48)
 
--- what was read at a place: digits alone, their number, and at least one where all is good
+-- what was read from a place on: digits alone, their number, and at least one digit where all is good
 pub record Read (s : List ℕ) (at : ℕ) (w : Whole) : Type 0 where
   pub onward : at ≤ w .at
+  pub digits : (k : ℕ) → k < w .at → at ≤ k → (48 ≤ getD s k 0) × (getD s k 0 ≤ 57)
   pub value : w .value ≡ written s at (w .at - at)
   pub most : w .value < 10 ^ 19
   pub some : w .good ≡ true → at < w .at

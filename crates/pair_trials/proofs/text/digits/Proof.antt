@@ -6,6 +6,7 @@ use Prim.Native.Nat.{ℕ, zero, suc, _+_, _-_, _*_, _^_, _≤_, _<_}
 use native.Mathlib.Nat.{sub-self}
 use native.Mathlib.Omega.{arith}
 use lib.ListN.{length, getD}
+use borrow.Author.Count.{below-more}
 use borrow.Author.Needs.{needs}
 use borrow.Author.Tests.{ltb-true}
 use Rattle.pair_trials.specs.Text.{written, Read}
@@ -14,12 +15,13 @@ use Rattle.pair_trials.proofs.text.digits.Tie as tie
 
 record Passed (s : List ℕ) (at value i : ℕ) : Type 0 where
   onward : at ≤ i
+  digits : (k : ℕ) → k < i → at ≤ k → (48 ≤ getD s k 0) × (getD s k 0 ≤ 57)
   number : value ≡ written s at (i - at)
   most : value < 10 ^ 19
 
 start : (s : List ℕ) (at : ℕ) → Passed s at 0 at
 unfolding written
-start s at = record { onward = omega arith; number = rw (sub-self at); most = omega arith }
+start s at = record { onward = omega arith; digits = λ k b h. absurd (omega arith); number = rw (sub-self at); most = omega arith }
 
 step : (s : List ℕ) (at value i d : ℕ) → Passed s at value i → getD s i 0 ≡ 48 + d → d ≤ 9 → value ≤ 999999999999999999 → Passed s at (value * 10 + d) (i + 1)
 unfolding written
@@ -27,10 +29,15 @@ step s at value i d p b h m =
     let onward : at ≤ i = p .onward in
     let next : i + 1 - at ≡ suc (i - at) = omega arith in
     let here : at + (i - at) ≡ i = omega arith in
-    record { onward = omega arith; number = rw (next, ← p .number, here, b) (omega arith); most = omega arith }
+    record {
+      onward = omega arith;
+      digits = below-more (λ (k : ℕ). at ≤ k → (48 ≤ getD s k 0) × (getD s k 0 ≤ 57)) i (p .digits) (λ l. (omega arith, omega arith));
+      number = rw (next, ← p .number, here, b) (omega arith);
+      most = omega arith;
+    }
 
 told : {s : List ℕ} {at value i : ℕ} → Passed s at value i → (g : Bool) → (g ≡ true → at < i) → Read s at (record { value = value; at = i; good = g })
-told p g some = record { onward = p .onward; value = p .number; most = p .most; some = some }
+told p g some = record { onward = p .onward; digits = p .digits; value = p .number; most = p .most; some = some }
 
 abbrev Inv-loop : tie.InvT-loop
 Inv-loop s at good value₀ i₀ value i = Passed s at value i
