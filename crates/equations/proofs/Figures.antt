@@ -6,11 +6,11 @@ use Rattle.pair.specs.Number.{nineFigures, inReach, zeroExponent, isZero, isNum
 use Rattle.pair.specs.Rounding.{extra, divided, excessFrom, excess, carried, rounded, sumEnd, productEnd, quotientEnd}
 use Rattle.pair.specs.Calls as calls
 use Rattle.pair.specs.Calls.{Outcome, is, provided, after, afterOne, zeroPair, onePair, entry, sum, product, quotient}
-use Rattle.equations.specs.Formula.{Slot, Algebra, read, pairs}
+use Rattle.equations.specs.Formula.{Slot, read, pairs}
 use Rattle.equations.specs.Series.{terms, fromZero, pairSeries}
-use Rattle.equations.specs.Page as page
 use Rattle.equations.specs.Page.{x, g}
 use Rattle.equations.specs.Readings.{letters, plain, worked}
+use Rattle.equations.proofs.LineLaws.{x-plain}
 
 -- φ at x = 0 is 1.
 pub series-at-zero : pairSeries (is zeroPair) ≡ is onePair
@@ -20,11 +20,6 @@ series-at-zero = refl
 one-over : after quotient (entry 1 (pos 0)) (after sum (after quotient (entry 1 (pos 0)) (is onePair)) (is zeroPair)) ≡ is onePair
 unfolding nineFigures inReach zeroExponent isZero isNumber zero one lesser rise unitsAt lower atMost isPair extra divided excessFrom excess carried rounded sumEnd quotientEnd provided calls.ends after zeroPair onePair entry sum quotient
 one-over = refl
-
--- φ does not stand in x.
-pub x-plain : {A : Type 0} (alg : Algebra A) (env : Slot → A) (series : A) → read alg (letters env series) x ≡ plain alg env x
-unfolding plain read letters x page.k page.u page.kse page.ksr page.ksl
-x-plain alg env series = refl
 
 -- g at x = 0 is 1.
 pub g-at-zero : (env : Slot → Pair) → plain pairs (λ s. is (env s)) x ≡ is zeroPair → worked env g ≡ is onePair

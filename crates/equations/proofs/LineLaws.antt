@@ -21,7 +21,7 @@ use Rattle.equations.specs.declared.Pathway.{Pathway}
 use Rattle.equations.specs.declared.Pathway.the-variants.{Air, SoilSummer, SoilWinter, Skin, AboveGround, BelowGround}
 use Rattle.equations.specs.declared.Effect.{Effect}
 use Rattle.equations.specs.declared.Effect.the-variants.{Hazard, Cancer}
-use Rattle.equations.specs.Formula.{Slot, Letter, slot, phi, Formula, read, pairs, fractions}
+use Rattle.equations.specs.Formula.{Slot, Letter, slot, phi, Formula, Algebra, read, pairs, fractions}
 use Rattle.equations.specs.Series.{terms, pairSeries, exactSeries}
 use Rattle.equations.specs.Letters.{tD}
 use Rattle.equations.specs.Page as page
@@ -37,11 +37,15 @@ use Rattle.equations.proofs.SeriesLaws.{seriesProfile, series-good}
 unfoldable pub ofSlot : Slot → Profile
 ofSlot s = record { size = 20; width = 0; positive = neverZero s; share = atMostOne s; answered = true }
 
+-- an answered pair of this size and width
+abbrev pub answeredAs : ℕ → ℕ → Bool → Profile
+answeredAs size width positive = record { size = size; width = width; positive = positive; share = false; answered = true }
+
 -- the profile of x, read from the slots alone
 unfoldable pub ofX : Profile
 ofX = plain profiles ofSlot x
 
-x-profile : ofX ≡ record { size = 215; width = 30; positive = false; share = false; answered = true }
+pub x-profile : ofX ≡ answeredAs 215 30 false
 unfolding ofX plain read profiles letters x page.k page.u page.kse page.ksr page.ksl ofNumber joined ofRest joint spread positives usable ofSlot siteBound chemicalBound receptorBound bound isNonzero isShare neverZero atMostOne
 x-profile = refl
 
@@ -58,16 +62,16 @@ ofPhi = seriesProfile ofX
 unfoldable pub ofFormula : Formula → Profile
 ofFormula f = profile (letters ofSlot ofPhi) f
 
-series-profile : seriesProfile (record { size = 215; width = 30; positive = false; share = false; answered = true }) ≡ record { size = 57387; width = 8675; positive = true; share = false; answered = true }
+series-profile : seriesProfile (answeredAs 215 30 false) ≡ answeredAs 57387 8675 true
 unfolding seriesProfile terms profiles ofNumber joined ofRest joint spread positives usable
 series-profile = refl
 
-pub phi-profile : ofPhi ≡ record { size = 57387; width = 8675; positive = true; share = false; answered = true }
+pub phi-profile : ofPhi ≡ answeredAs 57387 8675 true
 unfolding ofPhi
 phi-profile = ap seriesProfile x-profile ∙ series-profile
 
 -- The profiles of the lines, and with them of all that stands in a line.
-line-computed : (e : Effect) (p : Pathway) → lineCheck (record { size = 57387; width = 8675; positive = true; share = false; answered = true }) e p ≡ true
+line-computed : (e : Effect) (p : Pathway) → lineCheck (answeredAs 57387 8675 true) e p ≡ true
 unfolding lineCheck profile read profiles letters page.line page.intake page.factor page.medium page.exposure page.B page.AT page.reference page.byRoute page.A page.C page.D page.g page.aboveGround page.belowGround x page.k page.u page.kse page.ksr page.ksl ofNumber joined ofRest joint spread positives usable ofSlot siteBound chemicalBound receptorBound bound isNonzero isShare neverZero atMostOne
 line-computed Hazard Air = refl
 line-computed Hazard SoilSummer = refl
@@ -116,6 +120,11 @@ pub record Works (env : Slot → Pair) (vals : Slot → Fraction) (f : Formula) 
   pub pair : isPair r ≡ true
   pub fits : Fits (ofFormula f) r
   pub held : (N : ℕ) → 256 ≤ N → Holds r (exactly N vals f)
+
+-- φ does not stand in x, so that x is read alike with it and without.
+pub x-plain : {A : Type 0} (alg : Algebra A) (env : Slot → A) (series : A) → read alg (letters env series) x ≡ plain alg env x
+unfolding plain read letters x page.k page.u page.kse page.ksr page.ksl
+x-plain alg env series = refl
 
 -- Inputs in range are pairs that fit their slots' profiles.
 module _ (env : Slot → Pair) (vals : Slot → Fraction) (inputs : (s : Slot) → InRange s (env s) (vals s)) where
@@ -178,7 +187,9 @@ module _ (env : Slot → Pair) (vals : Slot → Fraction) (inputs : (s : Slot) �
             told = g .told;
             pair = g .fits .pair;
             fits = g .fits;
-            held = λ N n. let i : is (worked-good f h N n .answer) ≡ is (g .answer) = sym (worked-good f h N n .told) ∙ g .told in
+            held =
+                λ N n.
+                let i : is (worked-good f h N n .answer) ≡ is (g .answer) = sym (worked-good f h N n .told) ∙ g .told in
                 let e : worked-good f h N n .answer ≡ g .answer = cc in
                 subst (λ (q : Pair). Holds q (exactly N vals f)) e (worked-good f h N n .held);
           },

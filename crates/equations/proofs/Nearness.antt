@@ -19,9 +19,6 @@ pub record Near (w : ℕ) (x y : Fraction) : Type 0 where
 pub near-from : {x y : Fraction} → x ≤ᶠ y → Near 0 x y
 near-from h = record { across = mul-le-mul-right 1 (h .across) }
 
-pub near-to : {x y : Fraction} → Near 0 x y → x ≤ᶠ y
-near-to h = record { across = omega (arith, h .across) }
-
 pub near-through : {v w : ℕ} {x y z : Fraction} → Proper y → Near v x y → Near w y z → Near (v + w) x z
 near-through {v} {w} {x} {y} {z} p h k =
     record {
@@ -42,7 +39,7 @@ near-more {v} {w} {x} {y} l h = go (le-dest l)
               (omega (arith, mul-le-mul (h .across) (pow-le-pow-left {n = 100000000} {m = 100000001} (lit≤ tt) k)));
         }
 
--- What stands above 0 is near nothing else.
+-- A fraction to which one above 0 is near is above 0.
 pub near-above : {w : ℕ} {x y : Fraction} → Proper y → Near w x y → 0 < x .num → 0 < y .num
 near-above {w} {x} {y} p h l =
     lt-of-mul-lt-mul-right (x .den * 100000001 ^ w) {m = 0}

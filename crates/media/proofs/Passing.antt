@@ -1,13 +1,10 @@
--- x passes as it is, or not at all; and x, which names no φ, reads the same beside any φ. Assumes nothing.
+-- x passes as it is, or not at all. Assumes nothing.
 use mathlib.Core.Path.{_≡_, refl, sym, _∙_, ap}
 use mathlib.Core.Bool.{Bool, true, false}
 use native.Mathlib.Omega.{arith}
 use Prim.Native.Nat.{ℕ}
 use Rattle.pair.specs.declared.Pair.{Pair}
 use Rattle.pair.specs.Calls.{Outcome, is, refused, compared}
-use Rattle.equations.specs.Formula.{Slot, Algebra, read}
-use Rattle.equations.specs.Page.{u, kse, ksr, ksl, k, x}
-use Rattle.equations.specs.Readings.{letters, plain}
 use Rattle.media.specs.Media.{bounded, slow, sixtyFour, given}
 use Rattle.media.specs.declared.Media.{Media}
 
@@ -31,10 +28,6 @@ pub slow-is : (o : Outcome Pair) (p : Pair) → slow o ≡ is p → o ≡ is p
 unfolding slow
 slow-is (is q) p h = bounded-is (compared (q .high) sixtyFour) q p h
 slow-is (refused n) p h = h
-
-pub x-plain : {A : Type 0} (alg : Algebra A) (env : Slot → A) (series : A) → read alg (letters env series) x ≡ plain alg env x
-unfolding read letters plain x k kse ksr ksl u
-x-plain alg env series = refl
 
 pub given-is : (o : Outcome Pair) (p : Pair) (m : Outcome Media) → o ≡ is p → m ≡ given o m
 unfolding given

@@ -8,7 +8,7 @@ use Rattle.equations.specs.Readings.{plain, letters, worked}
 use Rattle.equations.specs.Series.{pairSeries}
 use Rattle.media.specs.Media.{ofSlots, ofMedia}
 use Rattle.media.specs.Slots.{mediaSlots}
-use Rattle.media.proofs.Passing.{x-plain}
+use Rattle.equations.proofs.LineLaws.{x-plain}
 use Rattle.media.proofs.compartments.build_up.Statement.{statement}
 use Rattle.media.proofs.compartments.build_up.Tie as tie
 use Rattle.media.proofs.compartments.build_up.Reads as reads
