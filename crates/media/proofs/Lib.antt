@@ -1,2 +1,3 @@
 -- The crate's laws. Assumes nothing.
 mod Passing
+pub mod Figures

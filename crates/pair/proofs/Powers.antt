@@ -34,9 +34,9 @@ pub ten-falls : {i j : ℕ} → 10 ^ i ≤ 10 ^ j → i ≤ j
 ten-falls {i} {j} h =
     by-cases (ltb j i)
     (λ t.
-        let l : j < i = ltb-true j i t in
-        let m : 10 ^ (1 + j) ≤ 10 ^ i = ten-rises (omega arith) in
-        absurd (omega (arith, ten-add 1 j, ten-above j)))
+    let l : j < i = ltb-true j i t in
+    let m : 10 ^ (1 + j) ≤ 10 ^ i = ten-rises (omega arith) in
+    absurd (omega (arith, ten-add 1 j, ten-above j)))
     (λ t. ltb-false j i t)
 
 -- 10^g, for at most nine places, as the code has it

@@ -1,0 +1,130 @@
+-- Laws of the case that is read off a deck by position: lines and fields that the deck lacks, and arrays that a loop fills.
+-- Assumes nothing.
+use Prim.Native.Nat.{ℕ, zero, suc, _+_, _*_, _-_, _/_, _%_, _≤_, _<_}
+use native.Mathlib.Nat.{le-antisymm}
+use native.Mathlib.Numerals.{add-one}
+use native.Mathlib.Omega.{arith}
+use mathlib.Core.Path.{_≡_, refl, sym, ap, _∙_}
+use mathlib.Core.Bool.{Bool, true, false, cond}
+use mathlib.Core.List.{List, [], _∷_, _++_}
+use lib.IntN.{ℤ}
+use lib.ListN.{length, take, drop, set, replicate, length-append, length-take, length-drop, drop-of-length-le}
+use lib.Seq.{set-at, append-snoc}
+use Rattle.deck.specs.Parts.{within, leading, linesOf, lineOf, fieldIn, fieldOf}
+use Rattle.deck.specs.Numbers.{idIn, idSpelled, wordOf}
+use Rattle.deck.specs.Conditions.{idOf}
+use Rattle.deck.specs.Cases.{tabulate, valueOf, noSlot, slotOf, noRecord, recordOf, recordsOf, caseWith, noCase}
+use Rattle.deck.specs.declared.Word.{Word}
+use Rattle.deck.specs.declared.Word.the-variants.{Number}
+use Rattle.deck.specs.declared.Value.{Value}
+use Rattle.deck.specs.declared.Value.the-variants.{Absent, Printed}
+use Rattle.deck.specs.declared.Slot.{Slot}
+use Rattle.deck.specs.declared.Record.{Record}
+use Rattle.deck.specs.declared.Case.{Case}
+use Rattle.deck.proofs.Digits.{within-bounds}
+
+-- ---- a line is whole or lacking
+none : (l : List ℕ) → length l ≡ 0 → l ≡ []
+none [] h = refl
+none (x ∷ xs) h = absurd (omega arith)
+
+module _ (deck : List ℕ) (n : ℕ) where
+  full : (t : Bool) → within 1 (linesOf deck) n ≡ t → (length (cond t (take 81 (drop (81 * (n - 1)) deck)) []) ≡ 0 → ⊥)
+      → length (cond t (take 81 (drop (81 * (n - 1)) deck)) []) ≡ 81
+  unfolding linesOf
+  full true e h =
+      let b = within-bounds 1 (length deck / 81) n e in
+      length-take 81 (drop (81 * (n - 1)) deck) ∙ omega (arith, b, length-drop (81 * (n - 1)) deck)
+  full false e h = absurd (h refl)
+
+  pub line-full : (l : List ℕ) → l ≡ lineOf deck n → (length l ≡ 0 → ⊥) → length l ≡ 81
+  unfolding lineOf
+  line-full l e h = ap length e ∙ full (within 1 (linesOf deck) n) refl (λ q. h (ap length e ∙ q))
+
+  field-nil : (f : ℕ) (l : List ℕ) → length l ≡ 0 → (t : Bool) → cond t (take 12 (drop (8 + 12 * (f - 1)) l)) [] ≡ []
+  field-nil f l h true = ap (take 12) (drop-of-length-le l {i = 8 + 12 * (f - 1)} (omega arith))
+  field-nil f l h false = refl
+
+  pub field-none : (f : ℕ) (l : List ℕ) → l ≡ lineOf deck n → length l ≡ 0 → l ≡ fieldOf deck n f
+  unfolding fieldOf fieldIn
+  field-none f l e h = none l h ∙ sym (field-nil f l h (within 1 6 f)) ∙ ap (λ (m : List ℕ). fieldIn m f) e
+
+  pub field-some : (f : ℕ) (l r : List ℕ) → l ≡ lineOf deck n → r ≡ fieldIn l f → r ≡ fieldOf deck n f
+  unfolding fieldOf
+  field-some f l r e g = g ∙ ap (λ (m : List ℕ). fieldIn m f) e
+
+  id-nil : idOf [] ≡ 0
+  unfolding idOf idIn idSpelled leading
+  id-nil = refl
+
+  pub id-lacking : (l : List ℕ) → l ≡ lineOf deck n → length l ≡ 0 → 0 ≡ idOf (lineOf deck n)
+  id-lacking l e h = sym id-nil ∙ ap idOf (sym (none l h) ∙ e)
+
+-- ---- a value
+pub value-none : (w v : Word) → w ≡ v → Absent ≡ valueOf v → Absent ≡ valueOf w
+value-none w v e h = h ∙ sym (ap valueOf e)
+
+pub value-number : (w : Word) (d : ℕ) (p q : ℤ) → w ≡ Number d p → q ≡ p → Printed d q ≡ valueOf w
+unfolding valueOf
+value-number w d p q e h = ap (Printed d) h ∙ sym (ap valueOf e)
+
+pub slot-is : (deck part : List ℕ) (n k : ℕ) (w : Word) (v : Value) → v ≡ valueOf w → w ≡ wordOf part
+    → part ≡ fieldOf deck (n + k / 6) (k % 6 + 1) → _≡_ {A = Slot} (record { value = v }) (slotOf deck n k)
+unfolding slotOf
+slot-is deck part n k w v e f g = ap (λ (x : Value). record { value = x }) (e ∙ ap valueOf (f ∙ ap wordOf g))
+
+-- ---- an array that a loop fills
+module _ {A : Type 0} (f : ℕ → A) (none : A) (room : ℕ) where
+  pub length-tabulate : (k : ℕ) → length (tabulate k f) ≡ k
+  unfolding tabulate
+  length-tabulate zero = refl
+  length-tabulate (suc k) = length-append (tabulate k f) (f k ∷ []) ∙ omega (arith, length-tabulate k)
+
+  one-less : (k : ℕ) → k < room → replicate (room - k) none ≡ none ∷ replicate (room - (k + 1)) none
+  one-less k h = let e : room - k ≡ suc (room - (k + 1)) = omega arith in ap (λ (m : ℕ). replicate m none) e
+
+  pub filled-start : replicate room none ≡ tabulate 0 f ++ replicate (room - 0) none
+  unfolding tabulate
+  filled-start = let e : room ≡ room - 0 = omega arith in ap (λ (m : ℕ). replicate m none) e
+
+  pub filled-more : (k : ℕ) → k < room → (xs : List A) → xs ≡ tabulate k f ++ replicate (room - k) none → (v : A) → v ≡ f k
+      → set xs k v ≡ tabulate (k + 1) f ++ replicate (room - (k + 1)) none
+  unfolding tabulate
+  filled-more k h xs e v g =
+      ap (λ (l : List A). set l k v) (e ∙ ap (λ (l : List A). tabulate k f ++ l) (one-less k h))
+      ∙ set-at (tabulate k f) none (replicate (room - (k + 1)) none) v k (length-tabulate k)
+      ∙ ap (λ (x : A). tabulate k f ++ (x ∷ replicate (room - (k + 1)) none)) g
+      ∙ sym (ap (λ (m : ℕ). tabulate m f ++ replicate (room - (k + 1)) none) (add-one k) ∙ append-snoc (tabulate k f) (f k) (replicate (room - (k + 1)) none))
+
+-- ---- records and cases
+pub record-is : (deck : List ℕ) (n lines k id : ℕ) (slots : List Slot) → id ≡ idOf (lineOf deck n) → k ≤ lines * 6 → lines * 6 ≤ k
+    → slots ≡ tabulate k (slotOf deck n) ++ replicate (24 - k) noSlot
+    → _≡_ {A = Record} (record { id = id; slots = slots }) (recordOf deck n lines)
+unfolding recordOf
+record-is deck n lines k id slots e p q f =
+    let s : slots ≡ tabulate (lines * 6) (slotOf deck n) ++ replicate (24 - lines * 6) noSlot =
+    f ∙ ap (λ (m : ℕ). tabulate m (slotOf deck n) ++ replicate (24 - m) noSlot) (le-antisymm p q) in
+    λ i. record { id = e i; slots = s i }
+
+pub records-are : (deck : List ℕ) (n count room i : ℕ) (xs : List Record) → i ≤ count → count ≤ i
+    → xs ≡ tabulate i (λ j. recordOf deck (n + 4 * j) 4) ++ replicate (room - i) noRecord → xs ≡ recordsOf deck n count room
+unfolding recordsOf
+records-are deck n count room i xs p q f =
+    f ∙ ap (λ (m : ℕ). tabulate m (λ j. recordOf deck (n + 4 * j) 4) ++ replicate (room - m) noRecord) (le-antisymm p q)
+
+pub no-case-is : (r : Record) → r ≡ noRecord
+    → _≡_ {A = Case}
+    (record { site = r; chemicals = record { count = 0; records = replicate 16 r }; receptors = record { count = 0; records = replicate 4 r } })
+    noCase
+unfolding noCase
+no-case-is r e =
+    ap (λ (x : Record). record { site = x; chemicals = record { count = 0; records = replicate 16 x }; receptors = record { count = 0; records = replicate 4 x } }) e
+
+pub case-is : (deck : List ℕ) (m n : ℕ) (site : Record) (cs rs : List Record) → site ≡ recordOf deck 1 2 → cs ≡ recordsOf deck 3 m 16
+    → rs ≡ recordsOf deck (3 + 4 * m) n 4
+    → _≡_ {A = Case}
+    (record { site = site; chemicals = record { count = m; records = cs }; receptors = record { count = n; records = rs } })
+    (caseWith deck m n)
+unfolding caseWith
+case-is deck m n site cs rs a b c =
+    λ i. record { site = a i; chemicals = record { count = m; records = b i }; receptors = record { count = n; records = c i } }

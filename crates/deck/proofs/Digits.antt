@@ -1,0 +1,112 @@
+-- Laws of digits: each byte that was counted as one is one, the number they spell, and that nine of them fit.
+-- Assumes nothing.
+use Prim.Native.Nat.{ℕ, zero, suc, _+_, _*_, _-_, _^_, _≤_, _<_}
+use native.Mathlib.Nat.{not-suc-le-zero, le-of-suc-le-suc, le-trans, mul-le-mul-left, mul-le-mul-right, mul-comm, mul-assoc, pow-suc, one-le-pow, mul-one, pow-zero}
+use native.Mathlib.Numerals.{add-one}
+use native.Mathlib.Omega.{arith}
+use mathlib.Core.Path.{_≡_, refl, sym, ap, _∙_, subst}
+use mathlib.Core.Bool.{Bool, true, false, cond, _&&_, false≢true}
+use mathlib.Core.List.{List, [], _∷_, _++_}
+use borrow.Author.Tests.{leb-true}
+use lib.Dec.{leb, lit≤}
+use lib.ListN.{length, take, drop, getD, drop-of-length-le}
+use lib.Seq.{drop-cons}
+use Rattle.deck.specs.Parts.{within, leading}
+use Rattle.deck.specs.Numbers.{decimal}
+
+pub both : (a b : Bool) → (a && b) ≡ true → (a ≡ true) × (b ≡ true)
+both true b h = (refl, h)
+both false b h = absurd (false≢true h)
+
+pub within-bounds : (lo hi b : ℕ) → within lo hi b ≡ true → (lo ≤ b) × (b ≤ hi)
+unfolding within
+within-bounds lo hi b h =
+    let p = both (leb lo b) (leb b hi) h in
+    (leb-true lo b (p .0), leb-true b hi (p .1))
+
+-- ---- the bytes that `leading` counts
+counted : (t : Bool) (n i : ℕ) → i < cond t (suc n) 0 → t ≡ true
+counted true n i h = refl
+counted false n i h = absurd (not-suc-le-zero h)
+
+rest : (t : Bool) (n i : ℕ) → suc i < cond t (suc n) 0 → i < n
+rest true n i h = le-of-suc-le-suc h
+rest false n i h = absurd (not-suc-le-zero h)
+
+pub in-leading : (lo hi : ℕ) (s : List ℕ) (i : ℕ) → i < leading lo hi s → within lo hi (getD s i 0) ≡ true
+unfolding leading
+in-leading lo hi [] i h = absurd (not-suc-le-zero h)
+in-leading lo hi (b ∷ bs) zero h = counted (within lo hi b) (leading lo hi bs) 0 h
+in-leading lo hi (b ∷ bs) (suc i) h = in-leading lo hi bs i (rest (within lo hi b) (leading lo hi bs) i h)
+
+leading-cons-le : (t : Bool) (n m : ℕ) → n ≤ m → cond t (suc n) 0 ≤ suc m
+leading-cons-le true n m h = omega arith
+leading-cons-le false n m h = omega arith
+
+pub leading-le : (lo hi : ℕ) (s : List ℕ) → leading lo hi s ≤ length s
+unfolding leading
+leading-le lo hi [] = omega arith
+leading-le lo hi (b ∷ bs) = leading-cons-le (within lo hi b) (leading lo hi bs) (length bs) (leading-le lo hi bs)
+
+take-cons : (lo hi b : ℕ) (bs : List ℕ) (t : Bool) → within lo hi b ≡ t
+    → leading lo hi (take (leading lo hi bs) bs) ≡ length (take (leading lo hi bs) bs)
+    → leading lo hi (take (cond t (suc (leading lo hi bs)) 0) (b ∷ bs)) ≡ length (take (cond t (suc (leading lo hi bs)) 0) (b ∷ bs))
+unfolding leading
+take-cons lo hi b bs true e h = simp e (ap suc h)
+take-cons lo hi b bs false e h = refl
+
+-- the part that was counted holds nothing else
+pub leading-take : (lo hi : ℕ) (s : List ℕ) → leading lo hi (take (leading lo hi s) s) ≡ length (take (leading lo hi s) s)
+unfolding leading
+leading-take lo hi [] = refl
+leading-take lo hi (b ∷ bs) = take-cons lo hi b bs (within lo hi b) refl (leading-take lo hi bs)
+
+pub digit-at : (s : List ℕ) → leading 48 57 s ≡ length s → (i : ℕ) → i < length s → (48 ≤ getD s i 0) × (getD s i 0 ≤ 57)
+digit-at s e i h = within-bounds 48 57 (getD s i 0) (in-leading 48 57 s i (subst (λ (n : ℕ). i < n) (sym e) h))
+
+-- ---- the number that digits spell
+pub decimal-turn : (s : List ℕ) (from v i : ℕ) → i < length s → decimal v (drop i s) ≡ decimal from s
+    → decimal (v * 10 + (getD s i 0 - 48)) (drop (i + 1) s) ≡ decimal from s
+unfolding decimal
+decimal-turn s from v i h e = rw add-one (sym (ap (decimal v) (drop-cons s i 0 h)) ∙ e)
+
+pub decimal-end : (s : List ℕ) (from v i : ℕ) → length s ≤ i → decimal v (drop i s) ≡ decimal from s → v ≡ decimal from s
+unfolding decimal
+decimal-end s from v i h e = sym (ap (decimal v) (drop-of-length-le s h)) ∙ e
+
+pub decimal-append : (n : ℕ) (xs ys : List ℕ) → decimal n (xs ++ ys) ≡ decimal (decimal n xs) ys
+unfolding decimal
+decimal-append n [] ys = refl
+decimal-append n (x ∷ xs) ys = decimal-append (n * 10 + (x - 48)) xs ys
+
+-- room for k digits more
+pub room-turn : (v d k M : ℕ) → d ≤ 9 → (v + 1) * 10 ^ suc k ≤ M → (v * 10 + d + 1) * 10 ^ k ≤ M
+room-turn v d k M h r =
+    le-trans (mul-le-mul-right (10 ^ k) (omega arith))
+    (subst (λ (n : ℕ). n ≤ M) (ap (λ (n : ℕ). (v + 1) * n) (pow-suc 10 k ∙ mul-comm (10 ^ k) 10) ∙ sym (mul-assoc (v + 1) 10 (10 ^ k))) r)
+
+pub room-now : (v k M : ℕ) → (v + 1) * 10 ^ k ≤ M → v + 1 ≤ M
+room-now v k M r = le-trans (subst (λ (n : ℕ). n ≤ (v + 1) * 10 ^ k) (mul-one (v + 1)) (mul-le-mul-left (v + 1) (one-le-pow k 10 (lit≤ tt)))) r
+
+pub room-loop : (v d i n M : ℕ) → d ≤ 9 → i < n → (v + 1) * 10 ^ (n - i) ≤ M → (v * 10 + d + 1) * 10 ^ (n - (i + 1)) ≤ M
+room-loop v d i n M h l r =
+    let e : n - i ≡ suc (n - (i + 1)) = omega arith in
+    room-turn v d (n - (i + 1)) M h (subst (λ (k : ℕ). (v + 1) * 10 ^ k ≤ M) e r)
+
+pub room-start : (v : ℕ) (s : List ℕ) (M : ℕ) → (v + 1) * 10 ^ length s ≤ M → (v + 1) * 10 ^ (length s - 0) ≤ M
+room-start v s M r = let e : length s - 0 ≡ length s = omega arith in rw e r
+
+digit-first : (t : Bool) (n m : ℕ) → cond t (suc n) 0 ≡ suc m → (t ≡ true) × (n ≡ m)
+digit-first true n m e = (refl, omega arith)
+digit-first false n m e = absurd (let z : 0 ≡ suc m = e in omega arith)
+
+-- what digits spell lies below the power of ten with as many zeros
+pub decimal-below : (s : List ℕ) → leading 48 57 s ≡ length s → (v n : ℕ) → v + 1 ≤ n → decimal v s + 1 ≤ n * 10 ^ length s
+unfolding decimal leading
+decimal-below [] e v n h = subst (λ (k : ℕ). v + 1 ≤ k) (sym (ap (λ (k : ℕ). n * k) (pow-zero 10) ∙ mul-one n)) h
+decimal-below (d ∷ ds) e v n h =
+    let f = digit-first (within 48 57 d) (leading 48 57 ds) (length ds) e in
+    let b = within-bounds 48 57 d (f .0) in
+    subst (λ (k : ℕ). decimal (v * 10 + (d - 48)) ds + 1 ≤ k)
+    (mul-assoc n 10 (10 ^ length ds) ∙ ap (λ (k : ℕ). n * k) (mul-comm 10 (10 ^ length ds) ∙ sym (pow-suc 10 (length ds))))
+    (decimal-below ds (f .1) (v * 10 + (d - 48)) (n * 10) (omega arith))

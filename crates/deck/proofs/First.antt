@@ -1,0 +1,106 @@
+-- Laws of the first condition that holds, in lists that are put together, and of the fields' conditions.
+-- Assumes nothing.
+use Prim.Native.Nat.{ℕ, zero, suc, _+_, _-_, _<_}
+use native.Mathlib.Nat.{add-zero, add-suc, add-sub-cancel}
+use native.Mathlib.Numerals.{add-one}
+use native.Mathlib.Omega.{arith}
+use mathlib.Core.Path.{_≡_, refl, sym, ap, _∙_, subst}
+use mathlib.Core.Bool.{Bool, true, false, cond, not}
+use mathlib.Core.List.{List, [], _∷_, _++_}
+use lib.IntN.{ℤ}
+use lib.ListN.{getD}
+use Rattle.deck.specs.Parts.{fieldIn}
+use Rattle.deck.specs.Numbers.{wordOf}
+use Rattle.deck.specs.Slots.{rulesOf, unused, inRange}
+use Rattle.deck.specs.Conditions.{Condition, first, upTo, fieldConditions, misspelled, misplaced, outOfRange, fieldAt}
+use Rattle.deck.specs.declared.Rule.{Rule}
+use Rattle.deck.specs.declared.Status.{Status}
+use Rattle.deck.specs.declared.Status.the-variants.{Read, Stopped}
+use Rattle.deck.specs.declared.Word.{Word}
+use Rattle.deck.specs.declared.Word.the-variants.{Blank, Dash, Number, Other}
+
+-- a status, and what comes after it where it goes on
+unfoldable pub orElse : Status → Status → Status
+orElse Read s = s
+orElse (Stopped number line field) s = Stopped number line field
+
+orElse-cond : (b : Bool) (s t u : Status) → orElse s u ≡ s → cond b s (orElse t u) ≡ orElse (cond b s t) u
+orElse-cond true s t u e = sym e
+orElse-cond false s t u e = refl
+
+pub first-append : (xs ys : List Condition) → first (xs ++ ys) ≡ orElse (first xs) (first ys)
+unfolding first orElse
+first-append [] ys = refl
+first-append (c ∷ cs) ys =
+    ap (λ (t : Status). cond (c .holds) (Stopped (c .number) (c .line) (c .field)) t) (first-append cs ys)
+    ∙ orElse-cond (c .holds) (Stopped (c .number) (c .line) (c .field)) (first cs) (first ys) refl
+
+-- ---- f 1, f 2, .. in turn
+module _ (f : ℕ → List Condition) where
+  upTo-next : (k : ℕ) → first (upTo f (k + 1)) ≡ orElse (first (upTo f k)) (first (f (k + 1)))
+  unfolding upTo
+  upTo-next k = rw add-one (first-append (upTo f k) (f (suc k)))
+
+  pub turn-on : (k : ℕ) → first (upTo f k) ≡ Read → (s : Status) → s ≡ first (f (k + 1)) → s ≡ Read → first (upTo f (k + 1)) ≡ Read
+  unfolding orElse
+  turn-on k e s p q = upTo-next k ∙ ap (λ (t : Status). orElse t (first (f (k + 1)))) e ∙ sym p ∙ q
+
+  stays : (k j number line field : ℕ) → first (upTo f k) ≡ Stopped number line field → first (upTo f (k + j)) ≡ Stopped number line field
+  unfolding orElse upTo
+  stays k zero number line field e = rw add-zero e
+  stays k (suc j) number line field e =
+      rw add-suc (first-append (upTo f (k + j)) (f (suc (k + j))) ∙ ap (λ (t : Status). orElse t (first (f (suc (k + j))))) (stays k j number line field e))
+
+  pub turn-out : (k m : ℕ) → k < m → first (upTo f k) ≡ Read → (s : Status) → s ≡ first (f (k + 1)) → (number line field : ℕ) → s ≡ Stopped number line field
+      → s ≡ first (upTo f m)
+  unfolding orElse
+  turn-out k m h e s p number line field q =
+      let here : first (upTo f (k + 1)) ≡ Stopped number line field = upTo-next k ∙ ap (λ (t : Status). orElse t (first (f (k + 1)))) e ∙ sym p ∙ q in
+      let r : k + 1 + (m - (k + 1)) ≡ m = omega arith in
+      q ∙ sym (subst (λ (n : ℕ). first (upTo f n) ≡ Stopped number line field) r (stays (k + 1) (m - (k + 1)) number line field here))
+
+-- ---- a field
+module _ (rule : Rule) (w : Word) (n f : ℕ) where
+  pub field-other : w ≡ Other → Stopped 31 n f ≡ first (fieldConditions rule w n f)
+  unfolding first fieldConditions misspelled misplaced outOfRange
+  field-other e = rw e
+
+  pub field-missing : w ≡ Blank → rule .used ≡ true → Stopped 32 n f ≡ first (fieldConditions rule w n f)
+  unfolding first fieldConditions misspelled misplaced outOfRange
+  field-missing e u = rw (e, u)
+
+  pub field-blank : w ≡ Blank → rule .used ≡ false → Read ≡ first (fieldConditions rule w n f)
+  unfolding first fieldConditions misspelled misplaced outOfRange
+  field-blank e u = rw (e, u)
+
+  pub field-dash : w ≡ Dash → rule .dash ≡ true → Read ≡ first (fieldConditions rule w n f)
+  unfolding first fieldConditions misspelled misplaced outOfRange
+  field-dash e u = rw (e, u)
+
+  pub field-no-dash : w ≡ Dash → rule .dash ≡ false → Stopped 32 n f ≡ first (fieldConditions rule w n f)
+  unfolding first fieldConditions misspelled misplaced outOfRange
+  field-no-dash e u = rw (e, u)
+
+  ranged : (b : Bool) → cond b Read (Stopped 33 n f) ≡ cond (not b) (Stopped 33 n f) Read
+  ranged true = refl
+  ranged false = refl
+
+  pub field-number : (d : ℕ) (p q : ℤ) → w ≡ Number d p → rule .used ≡ true → q ≡ p → (s : Status)
+      → s ≡ cond (inRange rule d q) Read (Stopped 33 n f) → s ≡ first (fieldConditions rule w n f)
+  unfolding first fieldConditions misspelled misplaced outOfRange
+  field-number d p q e u g s h =
+      rw e
+      (h
+      ∙ ap (λ (z : ℤ). cond (inRange rule d z) Read (Stopped 33 n f)) g
+      ∙ ranged (inRange rule d p)
+      ∙ sym (ap (λ (b : Bool). cond (not b) (Stopped 32 n f) (cond (not (inRange rule d p)) (Stopped 33 n f) Read)) u))
+
+  pub field-later : (d : ℕ) (p : ℤ) → w ≡ Number d p → rule .used ≡ false → Stopped 32 n f ≡ first (fieldConditions rule w n f)
+  unfolding first fieldConditions misspelled misplaced outOfRange
+  field-later d p e u = rw (e, u)
+
+-- the field that the code reads is the one that the list has
+pub field-turn : (kind n f : ℕ) (line part : List ℕ) (rules : List Rule) (s : Status) → rules ≡ rulesOf kind → part ≡ fieldIn line (f + 1)
+    → s ≡ first (fieldConditions (getD rules f unused) (wordOf part) n (f + 1)) → s ≡ first (fieldAt kind line n (f + 1))
+unfolding fieldAt
+field-turn kind n f line part rules s r p e = rw (← r, ← p, add-sub-cancel f 1) e

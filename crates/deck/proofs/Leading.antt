@@ -1,0 +1,50 @@
+-- Laws of `leading`, the number of bytes at the front that lie in a range: one for each turn and each end of the loop that counts them.
+-- Assumes nothing.
+use Prim.Native.Nat.{ℕ, suc, _+_, _≤_, _<_}
+use native.Mathlib.Numerals.{add-one}
+use native.Mathlib.Omega.{arith}
+use mathlib.Core.Path.{_≡_, refl, ap, _∙_}
+use mathlib.Core.Bool.{Bool, true, false, cond, _&&_}
+use mathlib.Core.List.{List}
+use borrow.Author.Tests.{le-leb, lt-leb}
+use lib.ListN.{length, drop, getD, drop-of-length-le}
+use lib.Seq.{drop-cons}
+use Rattle.deck.specs.Parts.{within, leading}
+
+pub within-yes : (lo hi b : ℕ) → lo ≤ b → b ≤ hi → within lo hi b ≡ true
+unfolding within
+within-yes lo hi b p q = simp (le-leb lo b p, le-leb b hi q)
+
+pub within-low : (lo hi b : ℕ) → b < lo → within lo hi b ≡ false
+unfolding within
+within-low lo hi b p = simp (lt-leb lo b p)
+
+pub and-false : (a : Bool) → (a && false) ≡ false
+and-false true = refl
+and-false false = refl
+
+pub within-high : (lo hi b : ℕ) → hi < b → within lo hi b ≡ false
+unfolding within
+within-high lo hi b p = simp (lt-leb b hi p, and-false)
+
+module _ (lo hi : ℕ) (s : List ℕ) where
+  leading-at : (i : ℕ) → i < length s → leading lo hi (drop i s) ≡ cond (within lo hi (getD s i 0)) (suc (leading lo hi (drop (suc i) s))) 0
+  unfolding leading
+  leading-at i h = rw (drop-cons s i 0 h)
+
+  pub turn : (i : ℕ) → i < length s → within lo hi (getD s i 0) ≡ true → i + leading lo hi (drop i s) ≡ leading lo hi s
+      → (i + 1) + leading lo hi (drop (i + 1) s) ≡ leading lo hi s
+  turn i h w e =
+      let step : leading lo hi (drop i s) ≡ suc (leading lo hi (drop (suc i) s)) = leading-at i h ∙ simp w in
+      rw add-one (omega (arith, step))
+
+  pub stop : (i : ℕ) → i < length s → within lo hi (getD s i 0) ≡ false → i + leading lo hi (drop i s) ≡ leading lo hi s → i ≡ leading lo hi s
+  stop i h w e =
+      let none : leading lo hi (drop i s) ≡ 0 = leading-at i h ∙ simp w in
+      omega (arith, none)
+
+  pub whole : (i : ℕ) → length s ≤ i → i + leading lo hi (drop i s) ≡ leading lo hi s → i ≡ leading lo hi s
+  unfolding leading
+  whole i h e =
+      let none : leading lo hi (drop i s) ≡ 0 = ap (leading lo hi) (drop-of-length-le s h) in
+      omega (arith, none)

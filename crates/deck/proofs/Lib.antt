@@ -1,0 +1,14 @@
+pub mod Accepted
+pub mod CaseLaws
+pub mod Digits
+pub mod Exactly
+pub mod First
+pub mod Leading
+pub mod LineLaws
+pub mod Parts
+pub mod Places
+pub mod Ranges
+pub mod ReadLaws
+pub mod Scan
+pub mod Signed
+pub mod Words

@@ -1,0 +1,132 @@
+-- Laws of a line's conditions: one for each way out of the functions that test them.
+-- Assumes nothing.
+use Prim.Native.Nat.{ℕ, suc, _+_, _-_, _/_}
+use native.Mathlib.Omega.{arith}
+use mathlib.Core.Path.{_≡_, refl, sym, ap, _∙_}
+use mathlib.Core.Bool.{Bool, true, false, cond, not, or-false}
+use mathlib.Core.List.{List, [], _∷_}
+use borrow.Author.Tests.{eq-eqb, ne-eqb, not-true, not-false}
+use lib.Dec.{leb, eqb}
+use lib.ListN.{length, getD, take, drop}
+use Rattle.deck.specs.Parts.{leading, fieldsPerLine}
+use Rattle.deck.specs.Slots.{kindOf, S1, S2, C1, C2, C3, C4, R1, R2, R3, R4, EN, order, befores, among}
+use Rattle.deck.specs.Conditions.{first, upTo, fieldAt, badBytes, badKind, begins, idOf, sameLetter, wrongId, badId, lineConditionsAfter}
+use Rattle.deck.specs.declared.Status.{Status}
+use Rattle.deck.specs.declared.Status.the-variants.{Stopped}
+use Rattle.deck.proofs.Words.{tail-part}
+
+-- ---- one of a few kinds
+itself : (b : Bool) → b ≡ cond b true false
+itself true = refl
+itself false = refl
+
+pub among-one : (x a : ℕ) → eqb x a ≡ among x (a ∷ [])
+unfolding among
+among-one x a = itself (eqb x a)
+
+pub among-first : (x a : ℕ) (ks : List ℕ) → x ≡ a → true ≡ among x (a ∷ ks)
+unfolding among
+among-first x a ks e = simp (eq-eqb x a e)
+
+pub among-later : (x a : ℕ) (ks : List ℕ) (r : Bool) → (x ≡ a → ⊥) → r ≡ among x ks → r ≡ among x (a ∷ ks)
+unfolding among
+among-later x a ks r n e = simp (ne-eqb x a n) e
+
+pub follows-none : (before k : ℕ) → (k ≡ S1 → ⊥) → (k ≡ S2 → ⊥) → (k ≡ C1 → ⊥) → (k ≡ C2 → ⊥) → (k ≡ C3 → ⊥) → (k ≡ C4 → ⊥)
+    → (k ≡ R1 → ⊥) → (k ≡ R2 → ⊥) → (k ≡ R3 → ⊥) → (k ≡ R4 → ⊥) → (k ≡ EN → ⊥) → false ≡ among before (befores order k)
+unfolding befores order among
+follows-none before k a b c d e f g h i j l =
+    simp (ne-eqb k S1 a, ne-eqb k S2 b, ne-eqb k C1 c, ne-eqb k C2 d, ne-eqb k C3 e, ne-eqb k C4 f, ne-eqb k R1 g, ne-eqb k R2 h, ne-eqb k R3 i, ne-eqb k R4 j, ne-eqb k EN l)
+
+-- ---- 12
+pub bytes-count : (line : List ℕ) (n : ℕ) → n ≡ leading 32 126 line → (n ≡ 80 → ⊥) → true ≡ badBytes line
+unfolding badBytes
+bytes-count line n e h = simp (ne-eqb (leading 32 126 line) 80 (λ q. h (e ∙ q)))
+
+pub bytes-feed : (line : List ℕ) (n : ℕ) → n ≡ leading 32 126 line → n ≡ 80 → not (eqb (getD line 80 0) 10) ≡ badBytes line
+unfolding badBytes
+bytes-feed line n e h = simp (sym e ∙ h)
+
+-- ---- 21
+module _ (before kind chemicals receptors : ℕ) (r : Bool) (e : r ≡ among before (befores order kind)) where
+  pub kind-out : not r ≡ true → true ≡ badKind before kind chemicals receptors
+  unfolding badKind
+  kind-out h = simp (sym e ∙ not-true r h)
+
+  pub kind-chemical : not r ≡ false → kind ≡ C1 → leb 16 chemicals ≡ badKind before kind chemicals receptors
+  unfolding badKind
+  kind-chemical h k =
+      simp (sym e ∙ not-false r h, eq-eqb kind C1 k, ne-eqb kind R1 (λ q. omega arith), or-false)
+
+  pub kind-receptor : not r ≡ false → (kind ≡ C1 → ⊥) → kind ≡ R1 → leb 4 receptors ≡ badKind before kind chemicals receptors
+  unfolding badKind
+  kind-receptor h n k = simp (sym e ∙ not-false r h, ne-eqb kind C1 n, eq-eqb kind R1 k)
+
+  pub kind-other : not r ≡ false → (kind ≡ C1 → ⊥) → (kind ≡ R1 → ⊥) → false ≡ badKind before kind chemicals receptors
+  unfolding badKind
+  kind-other h n m = simp (sym e ∙ not-false r h, ne-eqb kind C1 n, ne-eqb kind R1 m)
+
+-- ---- 22
+module _ (before idBefore kind id : ℕ) where
+  pub id-none : id ≡ 0 → true ≡ wrongId before idBefore kind id
+  unfolding wrongId
+  id-none h = simp (eq-eqb id 0 h)
+
+  module _ (some : id ≡ 0 → ⊥) (r : Bool) (e : r ≡ begins kind) where
+    pub id-rises : r ≡ true → before / 256 ≡ kind / 256 → leb id idBefore ≡ wrongId before idBefore kind id
+    unfolding wrongId sameLetter
+    id-rises h l = simp (ne-eqb id 0 some, sym e ∙ h, eq-eqb (before / 256) (kind / 256) l)
+
+    pub id-first : r ≡ true → (before / 256 ≡ kind / 256 → ⊥) → false ≡ wrongId before idBefore kind id
+    unfolding wrongId sameLetter
+    id-first h l = simp (ne-eqb id 0 some, sym e ∙ h, ne-eqb (before / 256) (kind / 256) l)
+
+    pub id-same : r ≡ false → not (eqb id idBefore) ≡ wrongId before idBefore kind id
+    unfolding wrongId
+    id-same h = simp (ne-eqb id 0 some, sym e ∙ h)
+
+module _ (before idBefore kind : ℕ) (line : List ℕ) where
+  pub end-blank : kind ≡ EN → (n : ℕ) → n ≡ leading 32 32 (take (length line - 2) (drop 2 line)) → not (eqb n 78) ≡ badId before idBefore kind line
+  unfolding badId
+  end-blank h n e = simp (eq-eqb kind EN h) (ap (λ (m : ℕ). not (eqb m 78)) (e ∙ ap (leading 32 32) (tail-part line 2)))
+
+  pub other-id : (kind ≡ EN → ⊥) → (id : ℕ) → id ≡ idOf line → (r : Bool) → r ≡ wrongId before idBefore kind id → r ≡ badId before idBefore kind line
+  unfolding badId
+  other-id h id e r f = simp (ne-eqb kind EN h) (f ∙ ap (wrongId before idBefore kind) e)
+
+-- ---- a line
+module _ (before idBefore chemicals receptors n kind : ℕ) (line : List ℕ) (k : kind ≡ kindOf line) where
+  pub line-bytes : (r : Bool) → r ≡ badBytes line → r ≡ true → Stopped 12 n 0 ≡ first (lineConditionsAfter before idBefore chemicals receptors line n)
+  unfolding first lineConditionsAfter
+  line-bytes r e h = simp (sym e ∙ h)
+
+  module _ (r : Bool) (e : r ≡ badBytes line) (h : r ≡ false) (q : Bool) (f : q ≡ badKind before kind chemicals receptors) where
+    kind-is : q ≡ badKind before (kindOf line) chemicals receptors
+    kind-is = f ∙ ap (λ (m : ℕ). badKind before m chemicals receptors) k
+
+    pub line-kind : q ≡ true → Stopped 21 n 0 ≡ first (lineConditionsAfter before idBefore chemicals receptors line n)
+    unfolding first lineConditionsAfter
+    line-kind g = simp (sym e ∙ h, sym kind-is ∙ g)
+
+    module _ (g : q ≡ false) (p : Bool) (i : p ≡ badId before idBefore kind line) where
+      id-is : p ≡ badId before idBefore (kindOf line) line
+      id-is = i ∙ ap (λ (m : ℕ). badId before idBefore m line) k
+
+      pub line-id : p ≡ true → Stopped 22 n 0 ≡ first (lineConditionsAfter before idBefore chemicals receptors line n)
+      unfolding first lineConditionsAfter
+      line-id j = simp (sym e ∙ h, sym kind-is ∙ g, sym id-is ∙ j)
+
+      pub line-fields : p ≡ false → (s : Status) → s ≡ first (upTo (fieldAt kind line n) fieldsPerLine)
+          → s ≡ first (lineConditionsAfter before idBefore chemicals receptors line n)
+      unfolding first lineConditionsAfter
+      line-fields j s t = simp (sym e ∙ h, sym kind-is ∙ g, sym id-is ∙ j) (t ∙ ap (λ (m : ℕ). first (upTo (fieldAt m line n) fieldsPerLine)) k)
+
+-- ---- the lines before, with one more
+pub count-more : (kind k n : ℕ) → kind ≡ k → n + 1 ≡ cond (eqb kind k) (suc n) n
+count-more kind k n e = simp (eq-eqb kind k e) (omega arith)
+
+pub count-same : (kind k n : ℕ) → (kind ≡ k → ⊥) → n ≡ cond (eqb kind k) (suc n) n
+count-same kind k n h = simp (ne-eqb kind k h)
+
+pub no-receptor : (kind n : ℕ) → kind ≡ C1 → n ≡ cond (eqb kind R1) (suc n) n
+no-receptor kind n e = count-same kind R1 n (λ q. omega arith)

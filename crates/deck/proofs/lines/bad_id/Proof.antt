@@ -1,0 +1,40 @@
+-- `deck::lines::bad_id` meets its contract. EN, or any other kind.
+-- Assumes nothing.
+use borrow.Author.Needs.{needs}
+use Rattle.deck.proofs.LineLaws.{end-blank, other-id}
+use denote.Ref.{now}
+use Rattle.deck.proofs.lines.bad_id.Statement.{statement}
+use Rattle.deck.proofs.lines.bad_id.Tie as tie
+
+sub-leading-bytes : tie.Need-sub-leading-bytes
+sub-leading-bytes c = search needs
+
+part-leading-bytes-start : tie.Need-part-leading-bytes-start
+part-leading-bytes-start c = search needs
+
+part-leading-bytes-end : tie.Need-part-leading-bytes-end
+part-leading-bytes-end c = search needs
+
+leading-bytes-requires : tie.Need-leading-bytes-requires
+leading-bytes-requires c κs = search needs
+
+returns : tie.Need-returns
+returns c = end-blank (c .before .before .before .before .args .seen .kind) (c .before .before .before .before .args .seen .id) (c .before .before .before .before .args .kind) (now (c .before .before .before .before .args .line)) (c .before .before .if1 .taken) _ (c .leading-bytes .ensures)
+
+wrong-id-requires : tie.Need-wrong-id-requires
+wrong-id-requires c κs = search needs
+
+returns-2 : tie.Need-returns-2
+returns-2 c = other-id (c .before .before .before .args .seen .kind) (c .before .before .before .args .seen .id) (c .before .before .before .args .kind) (now (c .before .before .before .args .line)) (c .before .if1 .left) _ (c .before .before .before .pre .0) _ (c .wrong-id .ensures)
+
+pub bad-id-spec : {M : Type 1} → statement M
+bad-id-spec =
+    tie.close
+    (tie.spec
+    sub-leading-bytes
+    part-leading-bytes-start
+    part-leading-bytes-end
+    leading-bytes-requires
+    returns
+    wrong-id-requires
+    returns-2)

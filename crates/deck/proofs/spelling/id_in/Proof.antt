@@ -1,0 +1,56 @@
+-- `deck::spelling::id_in` meets its contract: one law for each way out.
+-- Assumes nothing.
+use borrow.Author.Needs.{needs}
+use Rattle.deck.proofs.Words.{text-within, id-blank, id-first, id-other, id-ask, id-digits}
+use denote.Ref.{now}
+use Rattle.deck.proofs.spelling.id_in.Statement.{statement}
+use Rattle.deck.proofs.spelling.id_in.Tie as tie
+
+leading-bytes-requires : tie.Need-leading-bytes-requires
+leading-bytes-requires c κs = search needs
+
+sub-text : tie.Need-sub-text
+sub-text c = text-within _ _ (c .leading-bytes .ensures)
+
+part-text-start : tie.Need-part-text-start
+part-text-start c = text-within _ _ (c .leading-bytes .ensures)
+
+part-text-end : tie.Need-part-text-end
+part-text-end c = search needs
+
+returns : tie.Need-returns
+returns c = id-blank (now (c .before .before .before .before .args .columns)) _ (c .before .before .leading-bytes .ensures) (c .if1 .taken)
+
+shared-slice-read-if2 : tie.Need-shared-slice-read-if2
+shared-slice-read-if2 c = search needs
+
+returns-2 : tie.Need-returns-2
+returns-2 c = id-first (now (c .before .before .before .before .before .before .args .columns)) _ (c .before .before .before .before .leading-bytes .ensures) (c .if2 .taken)
+
+leading-bytes-requires-2 : tie.Need-leading-bytes-requires-2
+leading-bytes-requires-2 c κs = search needs
+
+returns-3 : tie.Need-returns-3
+returns-3 c = id-other (now (c .before .before .before .before .before .before .before .before .args .columns)) _ (c .before .before .before .before .before .before .leading-bytes .ensures) _ (c .before .leading-bytes2 .ensures) (c .if3 .taken)
+
+digits-value-requires : tie.Need-digits-value-requires
+digits-value-requires c κs = id-ask (now (c .before .before .before .before .before .before .before .before .args .columns)) _ (c .before .before .before .before .before .before .leading-bytes .ensures) _ (c .before .leading-bytes2 .ensures) (c .before .before .before .before .before .before .before .before .pre) (c .if3 .left)
+
+returns-4 : tie.Need-returns-4
+returns-4 c = id-digits (now (c .before .before .before .before .before .before .before .before .before .args .columns)) _ (c .before .before .before .before .before .before .before .leading-bytes .ensures) _ (c .before .before .leading-bytes2 .ensures) (c .before .before .before .if2 .left) (c .before .if3 .left) _ (c .digits-value .ensures)
+
+pub id-in-spec : {M : Type 1} → statement M
+id-in-spec =
+    tie.close
+    (tie.spec
+    leading-bytes-requires
+    sub-text
+    part-text-start
+    part-text-end
+    returns
+    shared-slice-read-if2
+    returns-2
+    leading-bytes-requires-2
+    returns-3
+    digits-value-requires
+    returns-4)

@@ -1,0 +1,95 @@
+-- The case that a deck spells: its records, read off the bytes by position (document 01, "Deck").
+-- Assumes nothing.
+use Prim.Native.Nat.{ℕ, zero, suc, _+_, _*_, _-_, _/_, _%_}
+use mathlib.Core.List.{List, [], _∷_, _++_}
+use lib.ListN.{replicate}
+use Rattle.deck.specs.Parts.{fieldsPerLine, linesOf, lineOf, fieldOf}
+use Rattle.deck.specs.Numbers.{wordOf}
+use Rattle.deck.specs.Slots.{C1, R1, maxChemicals, maxReceptors, siteLines, recordLines}
+use Rattle.deck.specs.Conditions.{first, conditions, countOf, idOf}
+use Rattle.deck.specs.declared.Word.{Word}
+use Rattle.deck.specs.declared.Word.the-variants.{Blank, Dash, Number, Other}
+use Rattle.deck.specs.declared.Value.{Value}
+use Rattle.deck.specs.declared.Value.the-variants.{Absent, Printed}
+use Rattle.deck.specs.declared.Slot.{Slot}
+use Rattle.deck.specs.declared.Record.{Record}
+use Rattle.deck.specs.declared.Case.{Case}
+use Rattle.deck.specs.declared.Reading.{Reading}
+use Rattle.deck.specs.declared.Told.{Told}
+use Rattle.deck.specs.declared.Status.{Status}
+use Rattle.deck.specs.declared.Status.the-variants.{Read, Stopped}
+
+abbrev pub slotsPerRecord : ℕ
+slotsPerRecord = 24
+
+-- f 0, f 1, .., f (n - 1)
+unfoldable pub tabulate : {A : Type 0} → ℕ → (ℕ → A) → List A
+tabulate zero f = []
+tabulate (suc n) f = tabulate n f ++ (f n ∷ [])
+
+-- the value as printed; a blank or a lone - has none
+unfoldable pub valueOf : Word → Value
+valueOf Blank = Absent
+valueOf Dash = Absent
+valueOf (Number digits power) = Printed digits power
+valueOf Other = Absent
+
+abbrev pub noSlot : Slot
+noSlot = record { value = Absent }
+
+-- slot k, from 0, of the record that begins at line n
+unfoldable pub slotOf : List ℕ → ℕ → ℕ → Slot
+slotOf deck n k = record { value = valueOf (wordOf (fieldOf deck (n + k / fieldsPerLine) (k % fieldsPerLine + 1))) }
+
+abbrev pub noRecord : Record
+noRecord = record { id = 0; slots = replicate slotsPerRecord noSlot }
+
+-- the record that begins at line n and has so many lines
+unfoldable pub recordOf : List ℕ → ℕ → ℕ → Record
+recordOf deck n lines =
+    record {
+      id = idOf (lineOf deck n);
+      slots = tabulate (lines * fieldsPerLine) (slotOf deck n) ++ replicate (slotsPerRecord - lines * fieldsPerLine) noSlot;
+    }
+
+-- count records of four lines from line n on, in room for so many
+unfoldable pub recordsOf : List ℕ → ℕ → ℕ → ℕ → List Record
+recordsOf deck n count room = tabulate count (λ i. recordOf deck (n + recordLines * i) recordLines) ++ replicate (room - count) noRecord
+
+abbrev pub chemicalsStart : ℕ
+chemicalsStart = siteLines + 1
+
+-- the site, and so many chemicals and receptors after it
+unfoldable pub caseWith : List ℕ → ℕ → ℕ → Case
+caseWith deck chemicals receptors =
+    record {
+      site = recordOf deck 1 siteLines;
+      chemicals = record { count = chemicals; records = recordsOf deck chemicalsStart chemicals maxChemicals };
+      receptors = record { count = receptors; records = recordsOf deck (chemicalsStart + recordLines * chemicals) receptors maxReceptors };
+    }
+
+-- chemicals and receptors are counted by their first lines
+unfoldable pub caseOf : List ℕ → Case
+caseOf deck = caseWith deck (countOf deck C1 (linesOf deck)) (countOf deck R1 (linesOf deck))
+
+-- no site, chemical or receptor
+unfoldable pub noCase : Case
+noCase =
+    record {
+      site = noRecord;
+      chemicals = record { count = 0; records = replicate maxChemicals noRecord };
+      receptors = record { count = 0; records = replicate maxReceptors noRecord };
+    }
+
+unfoldable pub caseFor : Status → List ℕ → Case
+caseFor Read deck = caseOf deck
+caseFor (Stopped number line field) deck = noCase
+
+-- the first condition met, or the case
+unfoldable pub readOf : List ℕ → Reading
+readOf deck = record { status = first (conditions deck); case = caseFor (first (conditions deck)) deck }
+
+-- number, line and field as document 01 tells them; all 0 where the deck is read
+unfoldable pub toldOf : Status → Told
+toldOf Read = record { number = 0; line = 0; field = 0 }
+toldOf (Stopped number line field) = record { number = number; line = line; field = field }

@@ -1,0 +1,5 @@
+pub mod Parts
+pub mod Numbers
+pub mod Slots
+pub mod Conditions
+pub mod Cases

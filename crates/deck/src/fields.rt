@@ -1,0 +1,228 @@
+// A line's fields: the rules of their slots, and the conditions 31, 32 and 33.
+ghost use mathlib.Core.Path.{_≡_};
+ghost use mathlib.Core.Bool.{cond};
+ghost use Prim.Native.Nat.{_+_, _*_, _-_, _^_, _<_, _≤_};
+ghost use lib.ListN.{length, getD};
+ghost use Rattle.deck.specs.Parts.{fieldIn, fieldsPerLine};
+ghost use Rattle.deck.specs.Numbers.{wordOf};
+ghost use Rattle.deck.specs.Slots.{rulesOf, unused, atMost, atLeast, inRange};
+ghost use Rattle.deck.specs.Conditions.{first, upTo, fieldConditions, fieldAt};
+use crate::FIELD_WIDTH;
+use crate::FIELDS;
+use crate::FIELDS_START;
+use crate::Rule;
+use crate::Status;
+use crate::Word;
+use crate::lines::C1;
+use crate::lines::C2;
+use crate::lines::C3;
+use crate::lines::C4;
+use crate::lines::R1;
+use crate::lines::R2;
+use crate::lines::R3;
+use crate::lines::R4;
+use crate::lines::S1;
+use crate::lines::S2;
+use crate::spelling::lowered;
+use crate::spelling::raised;
+use crate::spelling::word;
+
+const PLAIN: Rule = Rule {
+    used: true,
+    dash: false,
+    zero: true,
+    most: 1000000000,
+};
+
+const POSITIVE: Rule = Rule {
+    used: true,
+    dash: false,
+    zero: false,
+    most: 1000000000,
+};
+
+const SHARE: Rule = Rule {
+    used: true,
+    dash: false,
+    zero: true,
+    most: 1,
+};
+
+const DAYS: Rule = Rule {
+    used: true,
+    dash: false,
+    zero: true,
+    most: 366,
+};
+
+const REFERENCE: Rule = Rule {
+    used: true,
+    dash: true,
+    zero: false,
+    most: 1000000000,
+};
+
+const SLOPE: Rule = Rule {
+    used: true,
+    dash: true,
+    zero: true,
+    most: 1000000000,
+};
+
+const UNUSED: Rule = Rule {
+    used: false,
+    dash: false,
+    zero: false,
+    most: 0,
+};
+
+// The rules of the six fields of a line, by its kind.
+fn rules(kind: u32) -> [Rule; FIELDS]
+    ensures { λ r. ⌜ r ≡ rulesOf kind ⌝ }
+{
+    match kind {
+        S1 => [POSITIVE, POSITIVE, POSITIVE, POSITIVE, PLAIN, PLAIN],
+        S2 => [PLAIN, PLAIN, PLAIN, SHARE, SHARE, UNUSED],
+        C1 => [PLAIN, SHARE, SHARE, SHARE, PLAIN, PLAIN],
+        C2 => [PLAIN, PLAIN, PLAIN, PLAIN, POSITIVE, PLAIN],
+        C3 => [PLAIN, PLAIN, PLAIN, SHARE, SHARE, SHARE],
+        C4 => [REFERENCE, REFERENCE, SLOPE, SLOPE, UNUSED, UNUSED],
+        R1 => [POSITIVE, POSITIVE, POSITIVE, PLAIN, SHARE, DAYS],
+        R2 => [PLAIN, SHARE, DAYS, DAYS, PLAIN, PLAIN],
+        R3 => [PLAIN, PLAIN, SHARE, PLAIN, SHARE, PLAIN],
+        R4 => [SHARE, SHARE, DAYS, UNUSED, UNUSED, UNUSED],
+        _ => [UNUSED, UNUSED, UNUSED, UNUSED, UNUSED, UNUSED],
+    }
+}
+
+// 10 ^ n.
+fn ten_to(n: u32) -> u64
+    requires { ⌜ n ≤ 9 ⌝ }
+    ensures { λ r. ⌜ r ≡ 10 ^ n ⌝ }
+{
+    let mut power: u64 = 1;
+    let mut i: u32 = 0;
+    while i < n {
+        power = power * 10;
+        i += 1;
+    }
+    power
+}
+
+// digits × 10 ^ power is at most `most`. Past nine figures the digits, which fit 32 bits, do not count.
+fn at_most(most: u32, digits: u32, power: i32) -> bool
+    requires { ⌜ 0 < digits ⌝ }
+    ensures { λ r. ⌜ r ≡ atMost most digits power ⌝ }
+{
+    let up = raised(power);
+    let down = lowered(power);
+    if 9 < up {
+        return false;
+    }
+    if 9 < down {
+        return 0 < most;
+    }
+    digits as u64 * ten_to(up) <= most as u64 * ten_to(down)
+}
+
+// digits × 10 ^ power is at least 1E-20.
+fn at_least(digits: u32, power: i32) -> bool
+    requires { ⌜ 0 < digits ⌝ }
+    ensures { λ r. ⌜ r ≡ atLeast digits power ⌝ }
+{
+    let down = lowered(power);
+    if down <= 20 {
+        return true;
+    }
+    let short = down - 20;
+    if 9 < short {
+        return false;
+    }
+    ten_to(short) <= digits as u64
+}
+
+fn in_range(rule: Rule, digits: u32, power: i32) -> bool
+    ensures { λ r. ⌜ r ≡ inRange rule digits power ⌝ }
+{
+    if digits == 0 {
+        return rule.zero;
+    }
+    if !at_least(digits, power) {
+        return false;
+    }
+    at_most(rule.most, digits, power)
+}
+
+// Field f of a full line.
+pub(crate) fn field_part(line: &[u8], f: usize) -> &[u8]
+    requires { ⌜ length (now line) ≡ 81 ⌝ }
+    ensures { λ r. ⌜ now r ≡ fieldIn (now (line .entry)) f ⌝ }
+{
+    if f == 0 {
+        return &line[..0];
+    }
+    if FIELDS < f {
+        return &line[..0];
+    }
+    let at = FIELDS_START + FIELD_WIDTH * (f - 1);
+    &line[at..at + FIELD_WIDTH]
+}
+
+// The conditions of field f of line n.
+fn field_status(rule: Rule, part: &[u8], n: usize, f: usize) -> Status
+    ensures { λ r. ⌜ r ≡ first (fieldConditions rule (wordOf (now (part .entry))) n f) ⌝ }
+{
+    let w = word(part);
+    match w {
+        Word::Other => Status::Stopped(31, n, f),
+        Word::Blank => {
+            if rule.used {
+                Status::Stopped(32, n, f)
+            } else {
+                Status::Read
+            }
+        }
+        Word::Dash => {
+            if rule.dash {
+                Status::Read
+            } else {
+                Status::Stopped(32, n, f)
+            }
+        }
+        Word::Number { digits, power } => {
+            if rule.used {
+                range_status(rule, digits, power, n, f)
+            } else {
+                Status::Stopped(32, n, f)
+            }
+        }
+    }
+}
+
+fn range_status(rule: Rule, digits: u32, power: i32, n: usize, f: usize) -> Status
+    ensures { λ r. ⌜ r ≡ cond (inRange rule digits power) Status.Read (Status.Stopped 33 n f) ⌝ }
+{
+    if in_range(rule, digits, power) {
+        return Status::Read;
+    }
+    Status::Stopped(33, n, f)
+}
+
+// The conditions of the six fields of line n, from the left.
+pub(crate) fn fields_status(line: &[u8], kind: u32, n: usize) -> Status
+    requires { ⌜ length (now line) ≡ 81 ⌝ }
+    ensures { λ r. ⌜ r ≡ first (upTo (fieldAt kind (now (line .entry)) n) fieldsPerLine) ⌝ }
+{
+    let rules = rules(kind);
+    let mut f: usize = 0;
+    while f < FIELDS {
+        let rule = rules[f];
+        let part = field_part(line, f + 1);
+        let status = field_status(rule, part, n, f + 1);
+        let Status::Read = status else {
+            return status;
+        };
+        f += 1;
+    }
+    Status::Read
+}

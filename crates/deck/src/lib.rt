@@ -1,0 +1,187 @@
+// A deck, as document 01 calls the input: lines of 80 bytes and a line feed that hold one site, chemicals and receptors.
+// `read` answers the case that a deck spells, or the first condition that stops it.
+mod fields;
+mod lines;
+mod records;
+mod scanning;
+mod spelling;
+
+use fields::field_part;
+use records::case_with;
+use records::no_case;
+use scanning::bad_length;
+use scanning::scan_lines;
+pub use spelling::lowered;
+pub use spelling::raised;
+use spelling::word;
+ghost use mathlib.Core.Path.{_≡_};
+ghost use Rattle.deck.specs.Parts.{lineOf, fieldOf};
+ghost use Rattle.deck.specs.Numbers.{wordOf};
+ghost use Rattle.deck.specs.Cases.{noCase, readOf, toldOf};
+
+// A line: 80 bytes and a line feed. Its fields start after the kind and the id.
+pub const LINE_WIDTH: usize = 81;
+
+pub const FIELDS: usize = 6;
+
+pub const FIELD_WIDTH: usize = 12;
+
+pub const FIELDS_START: usize = 8;
+
+// Lines of the site's record, and of a chemical's or a receptor's; slots of each record.
+pub const SITE_LINES: usize = 2;
+
+pub const RECORD_LINES: usize = 4;
+
+pub const SLOTS: usize = 24;
+
+pub const MAX_CHEMICALS: usize = 16;
+
+pub const MAX_RECEPTORS: usize = 4;
+
+// The site, all chemicals and receptors, and EN.
+pub const MAX_LENGTH: usize = LINE_WIDTH
+    * (SITE_LINES + RECORD_LINES * (MAX_CHEMICALS + MAX_RECEPTORS) + 1);
+
+// What a field's columns hold.
+pub enum Word {
+    Blank,
+    // A lone -.
+    Dash,
+    // digits × 10 ^ power.
+    Number { digits: u32, power: i32 },
+    // None of these.
+    Other,
+}
+
+// A slot's value as printed: digits × 10 ^ power. Absent where a lone - stands, and in slots that no record has.
+pub enum Value {
+    Absent,
+    Printed { digits: u32, power: i32 },
+}
+
+// A slot, as document 01 calls a field's place in its record.
+pub struct Slot {
+    pub value: Value,
+}
+
+pub struct Record {
+    pub id: u32,
+    pub slots: [Slot; SLOTS],
+}
+
+pub struct Chemicals {
+    pub count: usize,
+    pub records: [Record; MAX_CHEMICALS],
+}
+
+pub struct Receptors {
+    pub count: usize,
+    pub records: [Record; MAX_RECEPTORS],
+}
+
+pub struct Case {
+    pub site: Record,
+    pub chemicals: Chemicals,
+    pub receptors: Receptors,
+}
+
+// Read, or the first condition that holds: its number, line and field.
+pub enum Status {
+    Read,
+    Stopped(u32, usize, usize),
+}
+
+// Number, line and field as document 01 tells them; all 0 where the deck is read.
+pub struct Told {
+    pub number: u32,
+    pub line: usize,
+    pub field: usize,
+}
+
+// The case is empty where the deck is stopped.
+pub struct Reading {
+    pub status: Status,
+    pub case: Case,
+}
+
+// A slot's rule: whether it is used, whether - and 0 are allowed, and its largest value.
+pub struct Rule {
+    pub used: bool,
+    pub dash: bool,
+    pub zero: bool,
+    pub most: u32,
+}
+
+// Line n, counted from 1: 81 bytes, or nothing where the deck lacks it.
+pub fn line(deck: &[u8], n: usize) -> &[u8]
+    ensures { λ r. ⌜ now r ≡ lineOf (now (deck .entry)) n ⌝ }
+{
+    if n == 0 {
+        return &deck[..0];
+    }
+    if deck.len() / LINE_WIDTH < n {
+        return &deck[..0];
+    }
+    let at = LINE_WIDTH * (n - 1);
+    &deck[at..at + LINE_WIDTH]
+}
+
+// Field f of line n, both counted from 1: twelve bytes, or nothing where the deck lacks it.
+pub fn field(deck: &[u8], n: usize, f: usize) -> &[u8]
+    ensures { λ r. ⌜ now r ≡ fieldOf (now (deck .entry)) n f ⌝ }
+{
+    let l = line(deck, n);
+    if l.len() == 0 {
+        return l;
+    }
+    field_part(l, f)
+}
+
+// What a part holds: nothing but spaces, a lone -, a number, or none of these.
+pub fn number(part: &[u8]) -> Word
+    ensures { λ r. ⌜ r ≡ wordOf (now (part .entry)) ⌝ }
+{
+    word(part)
+}
+
+fn stopped(status: Status) -> Reading
+    ensures { λ r. ⌜ (r .status ≡ status) × (r .case ≡ noCase) ⌝ }
+{
+    let case = no_case();
+    Reading { status, case }
+}
+
+// The case that the deck spells, or the first condition that holds, in document 01's order.
+pub fn read(deck: &[u8]) -> Reading
+    ensures { λ r. ⌜ r ≡ readOf (now (deck .entry)) ⌝ }
+{
+    if bad_length(deck) {
+        return stopped(Status::Stopped(11, 0, 0));
+    }
+    let scan = scan_lines(deck);
+    let status = scan.status;
+    let Status::Read = status else {
+        return stopped(status);
+    };
+    let case = case_with(deck, scan.chemicals, scan.receptors);
+    Reading { status, case }
+}
+
+// What document 01 has a refusal return.
+pub fn tell(status: Status) -> Told
+    ensures { λ r. ⌜ r ≡ toldOf status ⌝ }
+{
+    match status {
+        Status::Read => Told {
+            number: 0,
+            line: 0,
+            field: 0,
+        },
+        Status::Stopped(number, line, field) => Told {
+            number,
+            line,
+            field,
+        },
+    }
+}

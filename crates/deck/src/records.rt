@@ -1,0 +1,157 @@
+// The case that a deck spells, read off its bytes by position.
+ghost use mathlib.Core.Path.{_≡_};
+ghost use Prim.Native.Nat.{_<_, _≤_};
+ghost use Rattle.deck.specs.Parts.{lineOf};
+ghost use Rattle.deck.specs.Slots.{maxChemicals, maxReceptors};
+ghost use Rattle.deck.specs.Conditions.{idOf};
+ghost use Rattle.deck.specs.Cases.{valueOf, slotOf, recordOf, recordsOf, caseWith, noRecord, noCase, chemicalsStart};
+use crate::Case;
+use crate::Chemicals;
+use crate::FIELDS;
+use crate::MAX_CHEMICALS;
+use crate::MAX_RECEPTORS;
+use crate::RECORD_LINES;
+use crate::Receptors;
+use crate::Record;
+use crate::SITE_LINES;
+use crate::SLOTS;
+use crate::Slot;
+use crate::Value;
+use crate::Word;
+use crate::field;
+use crate::line;
+use crate::lines::id_of;
+use crate::number;
+
+// The line after the site's.
+const CHEMICALS_START: usize = SITE_LINES + 1;
+
+fn value_of(w: Word) -> Value
+    ensures { λ r. ⌜ r ≡ valueOf w ⌝ }
+{
+    match w {
+        Word::Blank => Value::Absent,
+        Word::Dash => Value::Absent,
+        Word::Number { digits, power } => Value::Printed { digits, power },
+        Word::Other => Value::Absent,
+    }
+}
+
+// Slot k, from 0, of the record that begins at line n.
+fn slot_at(deck: &[u8], n: usize, k: usize) -> Slot
+    requires { ⌜ (n < 1000) × (k < 1000) ⌝ }
+    ensures { λ r. ⌜ r ≡ slotOf (now (deck .entry)) n k ⌝ }
+{
+    let part = field(deck, n + k / FIELDS, k % FIELDS + 1);
+    let value = value_of(number(part));
+    Slot { value }
+}
+
+fn id_at(deck: &[u8], n: usize) -> u32
+    ensures { λ r. ⌜ r ≡ idOf (lineOf (now (deck .entry)) n) ⌝ }
+{
+    let l = line(deck, n);
+    if l.len() == 0 {
+        return 0;
+    }
+    id_of(l)
+}
+
+// The record that begins at line n and has so many lines.
+fn record_at(deck: &[u8], n: usize, lines: usize) -> Record
+    requires { ⌜ (n < 1000) × (lines ≤ 4) ⌝ }
+    ensures { λ r. ⌜ r ≡ recordOf (now (deck .entry)) n lines ⌝ }
+{
+    let mut slots = [Slot {
+        value: Value::Absent,
+    }; SLOTS];
+    let count = lines * FIELDS;
+    let mut k: usize = 0;
+    while k < count {
+        slots[k] = slot_at(deck, n, k);
+        k += 1;
+    }
+    let id = id_at(deck, n);
+    Record { id, slots }
+}
+
+fn no_record() -> Record
+    ensures { λ r. ⌜ r ≡ noRecord ⌝ }
+{
+    let slots = [Slot {
+        value: Value::Absent,
+    }; SLOTS];
+    Record { id: 0, slots }
+}
+
+fn chemicals(deck: &[u8], count: usize) -> [Record; MAX_CHEMICALS]
+    requires { ⌜ count ≤ 16 ⌝ }
+    ensures { λ r. ⌜ r ≡ recordsOf (now (deck .entry)) chemicalsStart count maxChemicals ⌝ }
+{
+    let none = no_record();
+    let mut records = [none; MAX_CHEMICALS];
+    let mut i: usize = 0;
+    while i < count {
+        records[i] = record_at(deck, CHEMICALS_START + RECORD_LINES * i, RECORD_LINES);
+        i += 1;
+    }
+    records
+}
+
+fn receptors(deck: &[u8], n: usize, count: usize) -> [Record; MAX_RECEPTORS]
+    requires { ⌜ (n < 500) × (count ≤ 4) ⌝ }
+    ensures { λ r. ⌜ r ≡ recordsOf (now (deck .entry)) n count maxReceptors ⌝ }
+{
+    let none = no_record();
+    let mut records = [none; MAX_RECEPTORS];
+    let mut i: usize = 0;
+    while i < count {
+        records[i] = record_at(deck, n + RECORD_LINES * i, RECORD_LINES);
+        i += 1;
+    }
+    records
+}
+
+// The case with so many chemicals and receptors.
+pub(crate) fn case_with(deck: &[u8], chemical_count: usize, receptor_count: usize) -> Case
+    requires { ⌜ («chemical_count» ≤ 16) × («receptor_count» ≤ 4) ⌝ }
+    ensures { λ r. ⌜ r ≡ caseWith (now (deck .entry)) «chemical_count» «receptor_count» ⌝ }
+{
+    let site = record_at(deck, 1, SITE_LINES);
+    let chemical_records = chemicals(deck, chemical_count);
+    let receptor_records = receptors(
+        deck,
+        CHEMICALS_START + RECORD_LINES * chemical_count,
+        receptor_count,
+    );
+    Case {
+        site,
+        chemicals: Chemicals {
+            count: chemical_count,
+            records: chemical_records,
+        },
+        receptors: Receptors {
+            count: receptor_count,
+            records: receptor_records,
+        },
+    }
+}
+
+pub(crate) fn no_case() -> Case
+    ensures { λ r. ⌜ r ≡ noCase ⌝ }
+{
+    let none = no_record();
+    let chemical_records = [none; MAX_CHEMICALS];
+    let receptor_records = [none; MAX_RECEPTORS];
+    Case {
+        site: none,
+        chemicals: Chemicals {
+            count: 0,
+            records: chemical_records,
+        },
+        receptors: Receptors {
+            count: 0,
+            records: receptor_records,
+        },
+    }
+}

@@ -1,0 +1,98 @@
+// The conditions of a deck's lines in turn.
+ghost use mathlib.Core.Path.{_≡_};
+ghost use mathlib.Core.Bool.{cond};
+ghost use lib.Dec.{eqb};
+ghost use mathlib.Core.List.{[], _∷_, _++_};
+ghost use Prim.Native.Nat.{_+_, _≤_, _<_};
+ghost use Rattle.deck.specs.Parts.{linesOf};
+ghost use Rattle.deck.specs.Slots.{C1, R1, EN};
+ghost use Rattle.deck.specs.Conditions.{at, first, upTo, lineConditions, noEnd, countOf, badLength};
+use crate::LINE_WIDTH;
+use crate::MAX_LENGTH;
+use crate::Status;
+use crate::line;
+use crate::lines::EN;
+use crate::lines::START;
+use crate::lines::Seen;
+use crate::lines::id_of;
+use crate::lines::kind_of;
+use crate::lines::line_status;
+
+// The first condition of the lines and the deck's end that holds; where none does, how many chemicals and receptors there are.
+pub(crate) struct Scan {
+    pub(crate) status: Status,
+    pub(crate) chemicals: usize,
+    pub(crate) receptors: usize,
+}
+
+pub(crate) fn bad_length(deck: &[u8]) -> bool
+    ensures { λ r. ⌜ r ≡ badLength (now (deck .entry)) ⌝ }
+{
+    if deck.len() == 0 {
+        return true;
+    }
+    if MAX_LENGTH < deck.len() {
+        return true;
+    }
+    deck.len() % LINE_WIDTH != 0
+}
+
+pub(crate) fn scan_lines(deck: &[u8]) -> Scan
+    ensures { λ r. ⌜
+        r .status
+        ≡ first
+        (upTo (lineConditions (now (deck .entry))) (linesOf (now (deck .entry)))
+        ++ (at 21 (linesOf (now (deck .entry)) + 1) 0 (noEnd (now (deck .entry))) ∷ []))
+        ⌝ }
+    ensures { λ r. ⌜
+        (r .status ≡ Status.Read
+        → (r .chemicals ≡ countOf (now (deck .entry)) C1 (linesOf (now (deck .entry))))
+        × (r .receptors ≡ countOf (now (deck .entry)) R1 (linesOf (now (deck .entry)))))
+        ⌝ }
+    ensures { λ r. ⌜ (r .chemicals ≤ 16) × (r .receptors ≤ 4) ⌝ }
+{
+    let lines = deck.len() / LINE_WIDTH;
+    let mut seen = Seen {
+        kind: START,
+        id: 0,
+        chemicals: 0,
+        receptors: 0,
+    };
+    let mut n: usize = 0;
+    while n < lines {
+        let l = line(deck, n + 1);
+        let kind = kind_of(l);
+        let id = id_of(l);
+        let status = line_status(l, n + 1, seen, kind, id);
+        let Status::Read = status else {
+            return Scan {
+                status,
+                chemicals: 0,
+                receptors: 0,
+            };
+        };
+        seen = seen.after(kind, id);
+        n += 1;
+    }
+    ended(seen, lines)
+}
+
+// No EN at the end is told as the line past the last.
+fn ended(seen: Seen, lines: usize) -> Scan
+    requires { ⌜ (lines < 1000000000000000000) × ((seen .chemicals ≤ 16) × (seen .receptors ≤ 4)) ⌝ }
+    ensures { λ r. ⌜ r .status ≡ cond (eqb (seen .kind) EN) Status.Read (Status.Stopped 21 (lines + 1) 0) ⌝ }
+    ensures { λ r. ⌜ (r .chemicals ≡ seen .chemicals) × (r .receptors ≡ seen .receptors) ⌝ }
+{
+    if seen.kind == EN {
+        return Scan {
+            status: Status::Read,
+            chemicals: seen.chemicals,
+            receptors: seen.receptors,
+        };
+    }
+    Scan {
+        status: Status::Stopped(21, lines + 1, 0),
+        chemicals: seen.chemicals,
+        receptors: seen.receptors,
+    }
+}
