@@ -53,10 +53,14 @@ powerOf tail places =
 unfoldable pub digitsRead : List ℕ → ℕ → ℕ → ℕ
 digitsRead text whole places = decimal 0 (take whole text ++ take places (drop (whole + 1) text))
 
+-- digits of a number before and after its point
+abbrev pub maxDigits : ℕ
+maxDigits = 9
+
 -- the number with so many digits before the point and so many after it, whose exponent starts at end
 unfoldable pub endedOf : List ℕ → ℕ → ℕ → ℕ → Word
 endedOf text whole places end =
-    cond (leb (whole + places) 9 && exponentSpelled (drop end text)) (Number (digitsRead text whole places) (powerOf (drop end text) places)) Other
+    cond (leb (whole + places) maxDigits && exponentSpelled (drop end text)) (Number (digitsRead text whole places) (powerOf (drop end text) places)) Other
 
 -- with a point after the digits: at least one digit must follow it
 unfoldable pub pointedOf : List ℕ → ℕ → Word

@@ -43,6 +43,9 @@ pub const MAX_RECEPTORS: usize = 4;
 pub const MAX_LENGTH: usize = LINE_WIDTH
     * (SITE_LINES + RECORD_LINES * (MAX_CHEMICALS + MAX_RECEPTORS) + 1);
 
+// Digits of a number before and after its point, zeros counted.
+pub const MAX_DIGITS: usize = 9;
+
 // What a field's columns hold.
 pub enum Word {
     Blank,

@@ -8,6 +8,7 @@ ghost use lib.ListN.{length, take, drop, getD};
 ghost use Rattle.deck.specs.Parts.{leading};
 ghost use Rattle.deck.specs.Numbers.{decimal, idIn, signSpelled, exponentSpelled, powerOf, digitsRead, endedOf, pointedOf, spelledOf, loneDash, wordOf};
 ghost use Rattle.deck.specs.Slots.{above, below};
+use crate::MAX_DIGITS;
 use crate::Word;
 
 // How many bytes at the front of s lie from lo to hi.
@@ -164,7 +165,7 @@ fn ended(text: &[u8], whole: usize, places: usize, end: usize) -> Word
     requires tail { ⌜ end ≤ length (now text) ⌝ }
     ensures { λ r. ⌜ r ≡ endedOf (now (text .entry)) whole places end ⌝ }
 {
-    if 9 < whole + places {
+    if MAX_DIGITS < whole + places {
         return Word::Other;
     }
     let tail = &text[end..];

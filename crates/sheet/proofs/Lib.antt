@@ -1,0 +1,11 @@
+-- The crate's laws: the text of a report, and demand 3 of document 01 (`DemandThree`). Assumes nothing.
+mod Sums
+mod Columns
+mod Places
+mod Spelling
+mod Inputs
+mod Ranges
+mod Clear
+mod TotalLaws
+mod LineTotals
+pub mod DemandThree

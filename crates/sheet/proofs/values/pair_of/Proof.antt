@@ -1,0 +1,69 @@
+-- What is printed is entered; what is absent reads as 1. Assumes nothing.
+use mathlib.Core.Path.{_≡_, refl, sym, _∙_, ap}
+use borrow.Author.Needs.{needs}
+use Rattle.pair.specs.Number.{one}
+use Rattle.pair.specs.Calls.{answer, onePair}
+use mir.Facts.{toZ-ofZ}
+use mir.Syntax.{w32}
+use mir.Val.{SFits}
+use Rattle.sheet.specs.Values.{orOne, pairOf}
+use Rattle.sheet.proofs.values.pair_of.Statement.{statement}
+use Rattle.sheet.proofs.values.pair_of.Tie as tie
+use Rattle.sheet.proofs.values.pair_of.Reads as reads
+use Rattle.sheet.proofs.values.pair_of.Lts as lts
+use Rattle.pair.proofs.Pair.entry.Reads as entry-reads
+
+-- src/values.rt:15:26
+enum-known-v : tie.Need-enum-known-v
+enum-known-v c = search needs
+
+-- /work/codework/target/rlib/pair.rlib/interface/lang/src/lib.rt:13:37
+enum-told : tie.Need-enum-told
+enum-told c = search needs
+
+-- src/values.rt:16:9
+returns : tie.Need-returns
+unfolding pairOf onePair one
+returns c = rw (c .enum-told .given .1) refl
+
+-- src/values.rt:18:37
+cast-entry : tie.Need-cast-entry
+cast-entry c = search needs
+
+-- src/values.rt:18:25
+entry-requires : tie.Need-entry-requires
+entry-requires c κs = search needs
+
+-- src/values.rt:18:20
+enum-known-p : tie.Need-enum-known-p
+enum-known-p c = search needs
+
+-- /work/codework/target/rlib/pair.rlib/interface/lang/src/lib.rt:13:37
+enum-told-2 : tie.Need-enum-told-2
+enum-told-2 c = search needs
+
+-- src/values.rt:19:9
+returns-2 : tie.Need-returns-2
+unfolding pairOf orOne answer onePair one
+returns-2 c = let f : SFits w32 (c .before .before .before .before .v .given .0 .1 .0) = search needs in
+    rw (c .before .before .before .before .v .given .1) (ap orOne (ap answer (sym (c .enum-told2 .given .1)) ∙ rw (toZ-ofZ f) at (c .before .before .entry .ensures)))
+
+-- src/values.rt:12:1
+returns-3 : tie.Need-returns-3
+unfolding pairOf orOne answer onePair one
+returns-3 c = let f : SFits w32 (c .before .before .before .before .before .v .given .0 .1 .0) = search needs in
+    rw (c .before .before .before .before .before .v .given .1) (ap orOne (ap answer (sym (c .before .p .given .1)) ∙ rw (toZ-ofZ f) at (c .before .before .before .entry .ensures)))
+
+pub pair-of-spec : {M : Type 1} → statement M
+pair-of-spec =
+    tie.close
+    (tie.spec
+    enum-known-v
+    enum-told
+    returns
+    cast-entry
+    entry-requires
+    enum-known-p
+    enum-told-2
+    returns-2
+    returns-3)
