@@ -80,6 +80,13 @@ pub pair-order : (p : Pair) → isPair p ≡ true → atMost (p .low) (p .high) 
 unfolding isPair
 pair-order p h = both (isNumber (p .high)) (atMost (p .low) (p .high)) (both (isNumber (p .low)) (isNumber (p .high) && atMost (p .low) (p .high)) h .1) .1
 
+-- two pairs, by their low ends and by their high ends
+pub pairs-low : (p q : Pair) → (isPair p && isPair q) ≡ true → (isNumber (p .low) ≡ true) × (isNumber (q .low) ≡ true)
+pairs-low p q h = let t = both (isPair p) (isPair q) h in (pair-low p (t .0), pair-low q (t .1))
+
+pub pairs-high : (p q : Pair) → (isPair p && isPair q) ≡ true → (isNumber (p .high) ≡ true) × (isNumber (q .high) ≡ true)
+pairs-high p q h = let t = both (isPair p) (isPair q) h in (pair-high p (t .0), pair-high q (t .1))
+
 -- the tests one after the other, as the code makes them
 pub is-zero-number : (w : Number) → w .significand ≡ 0 → zeroExponent (w .exponent) ≡ isNumber w
 unfolding isNumber isZero nineFigures

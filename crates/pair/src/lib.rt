@@ -16,7 +16,7 @@ use crate::ends::units;
 use crate::exponent::in_reach;
 use crate::rounding::normal;
 ghost use mathlib.Core.Path.{_≡_};
-ghost use mathlib.Core.Bool.{Bool};
+ghost use mathlib.Core.Bool.{_&&_};
 ghost use Rattle.pair.specs.Number.{isPair};
 ghost use Rattle.pair.specs.Calls as calls;
 
@@ -67,6 +67,15 @@ fn is_pair(p: Pair) -> bool
         return false;
     }
     at_most(p.low, p.high)
+}
+
+fn are_pairs(p: Pair, q: Pair) -> bool
+    ensures { λ r. ⌜ r ≡ (isPair p && isPair q) ⌝ }
+{
+    if !is_pair(p) {
+        return false;
+    }
+    is_pair(q)
 }
 
 // The pair of two worked ends, if their exponents stayed in reach.
@@ -147,10 +156,7 @@ impl Pair {
     pub fn sum(self, other: Pair) -> Answer
         ensures { λ r. ⌜ calls.answer r ≡ calls.sum self other ⌝ }
     {
-        if !is_pair(self) {
-            return Answer::Refused;
-        }
-        if !is_pair(other) {
+        if !are_pairs(self, other) {
             return Answer::Refused;
         }
         answered(
@@ -162,10 +168,7 @@ impl Pair {
     pub fn product(self, other: Pair) -> Answer
         ensures { λ r. ⌜ calls.answer r ≡ calls.product self other ⌝ }
     {
-        if !is_pair(self) {
-            return Answer::Refused;
-        }
-        if !is_pair(other) {
+        if !are_pairs(self, other) {
             return Answer::Refused;
         }
         answered(

@@ -8,4 +8,5 @@ mod Ranges
 mod Clear
 mod TotalLaws
 mod LineTotals
+mod Agreement
 pub mod DemandThree

@@ -1,88 +1,57 @@
 -- Both operands are pairs, or the call is refused; then each end is worked. Assumes nothing.
 use mathlib.Core.Path.{_≡_, refl, sym, _∙_, ap, ap₂}
-use mathlib.Core.Bool.{Bool, true, false, _&&_, not}
+use mathlib.Core.Bool.{true, false, _&&_}
 use borrow.Author.Needs.{needs}
-use Rattle.pair.specs.declared.Pair.{Pair}
 use Rattle.pair.specs.Number.{isPair}
 use Rattle.pair.specs.Rounding.{productEnd}
-use Rattle.pair.specs.Calls.{Outcome, answer, ends, product}
-use Rattle.pair.proofs.Numbers.{pair-low, pair-high}
-use Rattle.pair.proofs.Providing.{first-fails, second-fails, first-holds, refused-as, told-as, failed, passed}
+use Rattle.pair.specs.Calls.{answer, ends, product}
+use Rattle.pair.proofs.Numbers.{pairs-low, pairs-high}
+use Rattle.pair.proofs.Providing.{refused-as, told-as, failed, passed}
 use Rattle.pair.proofs.Pair.product.Statement.{statement}
 use Rattle.pair.proofs.Pair.product.Tie as tie
 use Rattle.pair.proofs.Pair.product.Reads as reads
 use Rattle.pair.proofs.Pair.product.Lts as lts
 use Rattle.pair.proofs.answered.Reads as answered-reads
+use Rattle.pair.proofs.are_pairs.Reads as are-pairs-reads
 use Rattle.pair.proofs.ends.product.Reads as product-reads
-use Rattle.pair.proofs.is_pair.Reads as is-pair-reads
 
--- src/lib.rt:148:13
-is-pair-requires : tie.Need-is-pair-requires
-is-pair-requires c κs = search needs
+-- src/lib.rt:171:13
+are-pairs-requires : tie.Need-are-pairs-requires
+are-pairs-requires c κs = search needs
 
--- src/lib.rt:149:13
+-- src/lib.rt:172:13
 returns : tie.Need-returns
 unfolding answer product
-returns c =
-    let p = c .before .before .args .self in
-    let q = c .before .before .args .other in
-    refused-as (isPair p && isPair q) (ends (productEnd false (p .low) (q .low)) (productEnd true (p .high) (q .high))) (first-fails (isPair p) (isPair q) (failed (c .before .is-pair .ensures) (c .if1 .taken)))
+returns c = let a = c .before .before .args in refused-as (isPair (a .self) && isPair (a .other)) (ends (productEnd false (a .self .low) (a .other .low)) (productEnd true (a .self .high) (a .other .high))) (sym (failed (c .before .are-pairs .ensures) (c .if1 .taken)))
 
--- src/lib.rt:151:13
-is-pair-requires-2 : tie.Need-is-pair-requires-2
-is-pair-requires-2 c κs = search needs
-
--- src/lib.rt:152:13
-returns-2 : tie.Need-returns-2
-unfolding answer product
-returns-2 c =
-    let p = c .before .before .before .before .args .self in
-    let q = c .before .before .before .before .args .other in
-    refused-as (isPair p && isPair q) (ends (productEnd false (p .low) (q .low)) (productEnd true (p .high) (q .high))) (second-fails (isPair p) (isPair q) (failed (c .before .is-pair2 .ensures) (c .if2 .taken)))
-
--- src/lib.rt:155:13
+-- src/lib.rt:175:13
 product-requires : tie.Need-product-requires
-product-requires c κs =
-    let p = c .before .before .before .before .args .self in
-    let q = c .before .before .before .before .args .other in
-    let h : isPair p ≡ true = passed (c .before .before .before .is-pair .ensures) (c .before .before .if1 .left) in
-    let k : isPair q ≡ true = passed (c .before .is-pair2 .ensures) (c .if2 .left) in
-    (pair-low p h, pair-low q k)
+product-requires c κs = let a = c .before .before .args in pairs-low (a .self) (a .other) (passed (c .before .are-pairs .ensures) (c .if1 .left))
 
--- src/lib.rt:156:13
+-- src/lib.rt:176:13
 product-requires-2 : tie.Need-product-requires-2
-product-requires-2 c κs =
-    let p = c .before .before .before .before .before .args .self in
-    let q = c .before .before .before .before .before .args .other in
-    let h : isPair p ≡ true = passed (c .before .before .before .before .is-pair .ensures) (c .before .before .before .if1 .left) in
-    let k : isPair q ≡ true = passed (c .before .before .is-pair2 .ensures) (c .before .if2 .left) in
-    (pair-high p h, pair-high q k)
+product-requires-2 c κs = let a = c .before .before .before .args in pairs-high (a .self) (a .other) (passed (c .before .before .are-pairs .ensures) (c .before .if1 .left))
 
--- src/lib.rt:154:9
+-- src/lib.rt:174:9
 answered-requires : tie.Need-answered-requires
 answered-requires c κs = search needs
 
--- src/lib.rt:145:5
-returns-3 : tie.Need-returns-3
+-- src/lib.rt:168:5
+returns-2 : tie.Need-returns-2
 unfolding product
-returns-3 c =
-    let p = c .before .before .before .before .before .before .before .args .self in
-    let q = c .before .before .before .before .before .before .before .args .other in
-    let h : isPair p ≡ true = passed (c .before .before .before .before .before .before .is-pair .ensures) (c .before .before .before .before .before .if1 .left) in
-    let k : isPair q ≡ true = passed (c .before .before .before .before .is-pair2 .ensures) (c .before .before .before .if2 .left) in
+returns-2 c =
+    let a = c .before .before .before .before .before .args in
     c .answered .ensures
     ∙ ap₂ ends (c .before .before .product .ensures) (c .before .product2 .ensures)
-    ∙ told-as (isPair p && isPair q) (ends (productEnd false (p .low) (q .low)) (productEnd true (p .high) (q .high))) (first-holds (isPair p) (isPair q) true h (sym k))
+    ∙ told-as (isPair (a .self) && isPair (a .other)) (ends (productEnd false (a .self .low) (a .other .low)) (productEnd true (a .self .high) (a .other .high))) (sym (passed (c .before .before .before .before .are-pairs .ensures) (c .before .before .before .if1 .left)))
 
 pub product-spec : {M : Type 1} → statement M
 product-spec =
     tie.close
     (tie.spec
-    is-pair-requires
+    are-pairs-requires
     returns
-    is-pair-requires-2
-    returns-2
     product-requires
     product-requires-2
     answered-requires
-    returns-3)
+    returns-2)

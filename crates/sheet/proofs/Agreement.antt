@@ -1,0 +1,41 @@
+-- What the crates below work from their own structs is the page read from the case's slots. Assumes nothing.
+use mathlib.Core.Path.{_≡_, refl, sym, _∙_, ap, ap₂}
+use Prim.Native.Nat.{ℕ}
+use Rattle.pair.specs.declared.Pair.{Pair}
+use Rattle.pair.specs.Calls.{Outcome, is, after, product, quotient, entry}
+use Rattle.equations.specs.declared.Pathway.{Pathway}
+use Rattle.equations.specs.declared.Pathway.the-variants.{Air, SoilSummer, SoilWinter, Skin, AboveGround, BelowGround}
+use Rattle.equations.specs.declared.Effect.{Effect}
+use Rattle.equations.specs.declared.Effect.the-variants.{Hazard, Cancer}
+use Rattle.equations.specs.Formula.{Slot, Letter, Formula, read, pairs}
+use Rattle.equations.specs.Series.{pairSeries}
+use Rattle.equations.specs.Page as page
+use Rattle.equations.specs.Readings.{letters, plain, worked}
+use Rattle.deck.specs.declared.Case.{Case}
+use Rattle.media.specs.Slots.{mediaSlots}
+use Rattle.media.specs.declared.Site.{Site}
+use Rattle.media.specs.declared.Chemical.{Chemical}
+use Rattle.pathway.specs.Slots.{pathwaySlots}
+use Rattle.pathway.specs.Lines.{ofReceptor}
+use Rattle.sheet.specs.Values.{siteIndex, chemicalIndex, receptorIndex, slotOf, chemicalAt, receptorAt, printed, pairOf, pairsAt, siteFrom, chemicalFrom, receptorFrom, uptakeFrom}
+
+module _ (case : Case) (i j : ℕ) where
+  x-agrees : plain pairs (λ s. is (mediaSlots (siteFrom (case .site)) (chemicalFrom (chemicalAt case i)) s)) page.x ≡ plain pairs (λ s. is (pairsAt case i j s)) page.x
+  unfolding plain read letters pairs mediaSlots siteFrom chemicalFrom pairsAt printed siteIndex chemicalIndex page.x page.k page.u page.kse page.ksr page.ksl
+  x-agrees = refl
+
+  factor-agrees : (e : Effect) (p : Pathway) (series : Outcome Pair) →
+      ofReceptor (receptorFrom (receptorAt case j)) (uptakeFrom (case .site) (chemicalAt case i)) (page.factor e p) ≡ read pairs (letters (λ s. is (pairsAt case i j s)) series) (page.factor e p)
+  unfolding ofReceptor plain read letters pairs pathwaySlots receptorFrom uptakeFrom pairsAt printed siteIndex chemicalIndex receptorIndex page.factor page.exposure page.B page.AT
+  factor-agrees Hazard Air s = refl
+  factor-agrees Hazard SoilSummer s = refl
+  factor-agrees Hazard SoilWinter s = refl
+  factor-agrees Hazard Skin s = refl
+  factor-agrees Hazard AboveGround s = refl
+  factor-agrees Hazard BelowGround s = refl
+  factor-agrees Cancer Air s = refl
+  factor-agrees Cancer SoilSummer s = refl
+  factor-agrees Cancer SoilWinter s = refl
+  factor-agrees Cancer Skin s = refl
+  factor-agrees Cancer AboveGround s = refl
+  factor-agrees Cancer BelowGround s = refl
