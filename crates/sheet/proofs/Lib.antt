@@ -1,4 +1,4 @@
--- The crate's laws: the text of a report, and demand 3 of document 01 (`DemandThree`). Assumes nothing.
+-- The crate's laws: the text of a report, demand 3 of document 01 (`DemandThree`) and its checked figures (`Figures`). Assumes nothing.
 mod Sums
 mod Columns
 mod Places
@@ -10,3 +10,4 @@ mod TotalLaws
 mod LineTotals
 mod Agreement
 pub mod DemandThree
+pub mod Figures

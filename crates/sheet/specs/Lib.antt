@@ -1,6 +1,7 @@
--- What the crate `sheet` promises: the values of a case, the report's lines and their text, the totals, and demand 3.
+-- What the crate `sheet` promises: the values of a case, the report's lines and their text, the totals, demand 3, and the checked figures.
 pub mod Values
 pub mod Text
 pub mod Totals
 pub mod Sheet
 pub mod Demand
+pub mod Figures
