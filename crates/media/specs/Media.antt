@@ -9,7 +9,6 @@ use Rattle.equations.specs.Page.{x, A, C, aboveGround, belowGround}
 use Rattle.equations.specs.Readings.{plain, worked}
 use Rattle.media.specs.declared.Site.{Site}
 use Rattle.media.specs.declared.Chemical.{Chemical}
-use Rattle.media.specs.declared.Conc.{Conc}
 use Rattle.media.specs.declared.Media.{Media}
 use Rattle.media.specs.declared.Bounded.{Bounded}
 use Rattle.media.specs.declared.Bounded.the-variants as Bounds

@@ -1,11 +1,11 @@
 -- Two working numbers counted in units of the lesser of their powers of ten: which exponent that is, and what the counts are.
 -- Assumes nothing.
-use mathlib.Core.Path.{_≡_, refl, sym, _∙_, ap, subst}
-use mathlib.Core.Bool.{Bool, true, false, not, cond, true≢false}
-use Prim.Native.Nat.{ℕ, zero, suc, _+_, _-_, _*_, _^_, _≤_, _<_}
-use native.Mathlib.Nat.{mul-le-mul-right, mul-lt-mul-of-pos-right, le-antisymm, mul-one, zero-mul, mul-pos, mul-le-mul, le-trans, lt-of-lt-of-le, lt-of-le-of-lt, mul-assoc}
+use mathlib.Core.Path.{_≡_, refl, sym, _∙_, ap}
+use mathlib.Core.Bool.{true, false, not}
+use Prim.Native.Nat.{ℕ, _+_, _*_, _^_, _≤_, _<_}
+use native.Mathlib.Nat.{mul-le-mul-right, mul-lt-mul-of-pos-right, le-antisymm, mul-one, zero-mul, mul-pos, mul-le-mul, le-trans, mul-assoc}
 use native.Mathlib.Omega.{arith}
-use lib.Dec.{leb, ltb, lit<}
+use lib.Dec.{leb}
 use lib.IntN.{ℤ, pos, negsuc, _+ℤ_, _-ℤ_, subℕ}
 use lib.Signed.{mag, leZ, ltZ}
 use borrow.Author.Tests.{leb-true, leb-false, le-leb, lt-leb}

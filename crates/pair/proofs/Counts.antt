@@ -1,21 +1,21 @@
 -- A working number counted in units of a power of ten. Assumes nothing.
-use mathlib.Core.Path.{_≡_, refl, sym, _∙_, ap, ap₂, subst}
-use mathlib.Core.Bool.{Bool, true, false, not}
-use Prim.Native.Nat.{ℕ, zero, suc, _+_, _-_, _*_, _/_, _%_, _^_, _≤_, _<_}
-use native.Mathlib.Nat.{mul-one, zero-div, zero-mod, le-trans, lt-of-lt-of-le, mul-le-mul, mul-le-mul-right, zero-mul, lt-of-le-of-lt, mul-assoc}
+use mathlib.Core.Path.{_≡_, sym, _∙_, ap, subst}
+use mathlib.Core.Bool.{Bool, not}
+use Prim.Native.Nat.{ℕ, _+_, _*_, _^_, _≤_, _<_}
+use native.Mathlib.Nat.{zero-div, zero-mod, lt-of-lt-of-le, mul-le-mul, lt-of-le-of-lt}
 use native.Mathlib.Omega.{arith}
-use lib.Dec.{lit<, lit≤, leb, ltb}
-use lib.IntN.{ℤ, pos, negsuc, _+ℤ_, _-ℤ_}
+use lib.Dec.{lit<, leb, ltb}
+use lib.IntN.{ℤ, pos, _-ℤ_}
 use lib.Signed.{mag, ltZ}
 use borrow.Author.Tests.{lt-ltb, le-ltb, leb-true, leb-false}
 use Rattle.pair.specs.declared.Number.{Number}
 use Rattle.pair.specs.Number.{depth, place, lesser, rise, unitsAt}
-use Rattle.pair.specs.Rounding.{extra, divided, unitsEnd}
+use Rattle.pair.specs.Rounding.{divided, unitsEnd}
 use Rattle.pair.proofs.Alignment.{Small, rise-of, rise-none, lesser-first, lesser-second, units-own, units-none, nine-small}
 use Rattle.pair.proofs.Dividing.{divided-even, divided-one, divided-most}
 use Rattle.pair.proofs.Exponents.{by-cases, mag-minus, place-minus, leZ-place, leZ-of}
 use Rattle.pair.proofs.Numbers.{Nine}
-use Rattle.pair.proofs.Powers.{ten-above, ten-add, ten-rises}
+use Rattle.pair.proofs.Powers.{ten-above, ten-rises}
 use Rattle.pair.proofs.Sums.{divided-below}
 
 -- 0 counts no unit

@@ -1,11 +1,10 @@
 -- Division to a whole number, down or up. Assumes nothing.
-use mathlib.Core.Path.{_≡_, refl, sym, _∙_, ap, ap₂, subst}
+use mathlib.Core.Path.{_≡_, refl, sym, _∙_, ap, ap₂}
 use mathlib.Core.Bool.{Bool, true, false, true≢false}
-use Prim.Native.Nat.{ℕ, zero, suc, _+_, _-_, _*_, _/_, _%_, _^_, _≤_, _<_}
-use native.Mathlib.Nat.{mul-le-mul-left, mul-le-mul-right, le-trans, lt-of-lt-of-le, lt-of-le-of-lt, le-of-mul-le-mul-right, lt-of-mul-lt-mul-right, mul-comm, mul-assoc, mul-pos, mul-div-mul-right, div-add-mod', mod-lt, eq-of-mul-eq-mul-right, zero-mul, mul-zero, mul-one, add-mul, mul-right-comm, ne-of-gt, add-zero, suc-ne-zero, mod-one, div-one}
+use Prim.Native.Nat.{ℕ, zero, suc, _+_, _*_, _/_, _%_, _≤_, _<_}
+use native.Mathlib.Nat.{le-trans, lt-of-le-of-lt, le-of-mul-le-mul-right, lt-of-mul-lt-mul-right, mul-comm, mul-pos, mul-div-mul-right, div-add-mod', mod-lt, zero-mul, add-mul, mul-right-comm, ne-of-gt, add-zero, suc-ne-zero, mod-one, div-one}
 use native.Mathlib.Omega.{arith}
 use Rattle.pair.specs.Rounding.{extra, divided}
-use Rattle.pair.proofs.Exponents.{by-cases}
 
 -- the remainders of one ratio written twice are both 0 or both above 0
 extra-same : (up : Bool) (r s d c : ℕ) → 0 < d → 0 < c → r * c ≡ s * d → extra up r ≡ extra up s

@@ -1,15 +1,15 @@
 -- How many figures a quotient has beyond nine: the search finds a k with 10^(8+k) ≤ n / d < 10^(9+k), and there is only one.
 -- Assumes nothing.
-use mathlib.Core.Path.{_≡_, refl, sym, _∙_, ap, subst}
-use mathlib.Core.Bool.{Bool, true, false}
-use Prim.Native.Nat.{ℕ, zero, suc, _+_, _-_, _*_, _^_, _≤_, _<_}
-use native.Mathlib.Nat.{mul-le-mul-left, mul-le-mul-right, le-trans, lt-of-lt-of-le, lt-of-le-of-lt, lt-irrefl, le-mul-of-pos-right, le-refl, mul-comm, le-of-lt, lt-of-not-le, le-antisymm}
+use mathlib.Core.Path.{_≡_, subst}
+use mathlib.Core.Bool.{true, false}
+use Prim.Native.Nat.{ℕ, zero, suc, _+_, _*_, _^_, _≤_, _<_}
+use native.Mathlib.Nat.{mul-le-mul-left, le-trans, lt-of-lt-of-le, lt-irrefl, le-mul-of-pos-right, mul-comm, le-antisymm}
 use native.Mathlib.Omega.{arith}
 use lib.Dec.{ltb}
-use borrow.Author.Tests.{ltb-true, ltb-false, lt-ltb, le-ltb}
+use borrow.Author.Tests.{ltb-true, ltb-false}
 use Rattle.pair.specs.Rounding.{excessFrom, excess}
 use Rattle.pair.proofs.Exponents.{by-cases}
-use Rattle.pair.proofs.Powers.{ten-above, ten-rises, ten-add, below-ten}
+use Rattle.pair.proofs.Powers.{ten-rises, below-ten}
 
 -- n / d has 9 + k figures
 pub record Beyond (n d k : ℕ) : Type 0 where

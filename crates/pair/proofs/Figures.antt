@@ -1,5 +1,5 @@
 -- Document 01's checked figures hold of the definitions, all of them jointly. Assumes nothing.
-use mathlib.Core.Path.{_≡_, refl}
+use mathlib.Core.Path.{refl}
 use Rattle.pair.specs.Number.{nineFigures, inReach, zeroExponent, isZero, isNumber, zero, one, lesser, rise, unitsAt, lower, atMost, isPair}
 use Rattle.pair.specs.Rounding.{extra, divided, excessFrom, excess, carried, rounded, productEnd, quotientEnd, restEnd}
 use Rattle.pair.specs.Calls as calls

@@ -1,5 +1,5 @@
 -- A call's tests one after the other are its definition's condition. Assumes nothing.
-use mathlib.Core.Path.{_≡_, refl, sym, _∙_, ap}
+use mathlib.Core.Path.{_≡_, sym, _∙_, ap}
 use mathlib.Core.Bool.{Bool, true, false, _&&_, not, and-false}
 use borrow.Author.Tests.{not-true, not-false}
 use Rattle.pair.specs.Calls.{Outcome, refused, provided}

@@ -1,19 +1,19 @@
 -- 1 − f for a working number f of at most 1. Assumes nothing.
-use mathlib.Core.Path.{_≡_, refl, sym, _∙_, ap, ap₂, subst}
-use mathlib.Core.Bool.{Bool, true, false, cond, true≢false}
+use mathlib.Core.Path.{_≡_, refl, sym, _∙_, ap, ap₂}
+use mathlib.Core.Bool.{Bool, true, false, true≢false}
 use mathlib.Core.Logic.{⊎-elim}
-use Prim.Native.Nat.{ℕ, zero, suc, _+_, _-_, _*_, _/_, _%_, _^_, _≤_, _<_}
-use native.Mathlib.Nat.{eq-or-lt-of-le, mul-one, add-zero, mul-assoc}
+use Prim.Native.Nat.{ℕ, zero, _+_, _-_, _*_, _^_, _≤_, _<_}
+use native.Mathlib.Nat.{eq-or-lt-of-le}
 use native.Mathlib.Omega.{arith}
-use lib.Dec.{lit<, lit≤, leb, ltb}
-use lib.IntN.{ℤ, pos, negsuc, _+ℤ_, _-ℤ_, subℕ}
+use lib.Dec.{lit<, lit≤}
+use lib.IntN.{ℤ, pos, negsuc, _-ℤ_}
 use borrow.Author.Tests.{leb-true}
 use Rattle.pair.specs.declared.Number.{Number}
 use Rattle.pair.specs.Number as specs
 use Rattle.pair.specs.Number.{depth, place, lesser, rise, unitsAt, lower, isNumber, atMost, one}
 use Rattle.pair.specs.Rounding.{extra, divided, excessFrom, excess, carried, rounded, restEnd}
-use Rattle.pair.proofs.Alignment.{Small, rise-of, same-place, lesser-second, units-own, nine-small, restored, raised, fallen, place-gap, order-above, order-same}
-use Rattle.pair.proofs.Numbers.{Nine, number-zero, number-nine}
+use Rattle.pair.proofs.Alignment.{Small, rise-of, same-place, lesser-second, units-own, nine-small, raised, place-gap, order-above, order-same}
+use Rattle.pair.proofs.Numbers.{Nine, number-zero}
 use Rattle.pair.proofs.Powers.{ten-above, ten-add, ten-rises}
 use Rattle.pair.proofs.Rounds.{rounded-as}
 use Rattle.pair.proofs.Sums.{divided-below}

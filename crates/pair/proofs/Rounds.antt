@@ -1,14 +1,13 @@
 -- The law by which each function's rounding meets the definition: where n / d × 10^9 is the ratio m / c times 10^k, and m / c has nine
 -- figures before the point, rounding is one division of m by c. Assumes nothing.
-use mathlib.Core.Path.{_≡_, refl, sym, _∙_, ap, ap₂, subst}
-use mathlib.Core.Bool.{Bool, true, false}
-use Prim.Native.Nat.{ℕ, zero, suc, _+_, _-_, _*_, _/_, _%_, _^_, _≤_, _<_}
-use native.Mathlib.Nat.{mul-le-mul-left, mul-le-mul-right, le-of-mul-le-mul-right, lt-of-mul-lt-mul-right, mul-comm, mul-assoc, mul-pos, mul-right-comm, mul-lt-mul-of-pos-right, zero-mul, lt-of-lt-of-le}
+use mathlib.Core.Path.{_≡_, refl, sym, _∙_, ap}
+use mathlib.Core.Bool.{Bool, true}
+use Prim.Native.Nat.{ℕ, zero, suc, _*_, _^_, _≤_, _<_}
+use native.Mathlib.Nat.{mul-le-mul-right, le-of-mul-le-mul-right, lt-of-mul-lt-mul-right, mul-pos, mul-lt-mul-of-pos-right, lt-of-lt-of-le}
 use lib.Dec.{lit<, ltb}
 use borrow.Author.Tests.{lt-ltb}
 use native.Mathlib.Omega.{arith}
 use lib.IntN.{ℤ, _+ℤ_, subℕ}
-use Rattle.pair.specs.declared.Number.{Number}
 use Rattle.pair.specs.Rounding.{divided, excess, carried, rounded}
 use Rattle.pair.proofs.Powers.{ten-above, ten-add}
 use Rattle.pair.proofs.Excess.{Beyond, excess-is}

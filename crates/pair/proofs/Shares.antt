@@ -1,10 +1,10 @@
 -- Products and quotients of numbers of nine figures: how many figures they have, and so what is divided by what. Assumes nothing.
-use mathlib.Core.Path.{_≡_, refl, sym, _∙_, ap}
+use mathlib.Core.Path.{_≡_, refl, sym}
 use mathlib.Core.Bool.{Bool}
-use Prim.Native.Nat.{ℕ, zero, suc, _+_, _*_, _^_, _≤_, _<_}
-use native.Mathlib.Nat.{mul-le-mul, mul-le-mul-left, mul-le-mul-right, mul-lt-mul-of-pos-right, le-trans, lt-of-le-of-lt, lt-of-lt-of-le, zero-mul, mul-zero}
+use Prim.Native.Nat.{ℕ, zero, _*_, _≤_, _<_}
+use native.Mathlib.Nat.{mul-le-mul, lt-of-le-of-lt, zero-mul, mul-zero}
 use native.Mathlib.Omega.{arith}
-use lib.Dec.{lit<, lit≤}
+use lib.Dec.{lit<}
 use lib.IntN.{ℤ, pos, negsuc, _+ℤ_}
 use Rattle.pair.specs.declared.Number.{Number}
 use Rattle.pair.specs.Rounding.{divided, carried, rounded, productEnd, quotientEnd}

@@ -1,19 +1,18 @@
 -- Sums of two working numbers, aligned at the lesser exponent. Assumes nothing.
 use mathlib.Core.Path.{_≡_, refl, sym, _∙_, ap, ap₂, subst}
 use mathlib.Core.Bool.{Bool, true, false}
-use Prim.Native.Nat.{ℕ, zero, suc, _+_, _-_, _*_, _/_, _%_, _^_, _≤_, _<_}
+use Prim.Native.Nat.{ℕ, zero, suc, _+_, _*_, _^_, _≤_, _<_}
 use mathlib.Core.Logic.{⊎-elim}
-use native.Mathlib.Nat.{eq-zero-or-pos, add-comm, mul-one, one-mul, zero-mul, zero-add, mul-assoc, mul-pos, mul-le-mul-right, mul-le-mul-left, le-trans, lt-of-lt-of-le, add-zero}
+use native.Mathlib.Nat.{eq-zero-or-pos, add-comm, zero-add, mul-le-mul-right, add-zero}
 use native.Mathlib.Omega.{arith}
 use lib.Arith.{digits-div, digits-mod}
 use lib.Dec.{lit<}
 use lib.IntN.{ℤ, pos, _+ℤ_, _-ℤ_, subℕ}
 use Rattle.pair.specs.declared.Number.{Number}
 use Rattle.pair.specs.Number as specs
-use Rattle.pair.specs.Number.{depth, place, lesser, rise, unitsAt, lower, isNumber}
+use Rattle.pair.specs.Number.{place, lesser, rise, unitsAt, lower, isNumber}
 use Rattle.pair.specs.Rounding.{extra, divided, carried, rounded, sumEnd}
-use Rattle.pair.proofs.Alignment.{Small, rise-of, same-place, lesser-second, lesser-first, units-own, nine-small, restored, raised, fallen, place-gap, place-next, lesser-below, units-none}
-use Rattle.pair.proofs.Exponents.{by-cases}
+use Rattle.pair.proofs.Alignment.{Small, rise-of, lesser-second, lesser-first, units-own, nine-small, restored, raised, fallen, place-gap, place-next, lesser-below, units-none}
 use Rattle.pair.proofs.Numbers.{Nine, number-zero, number-nine}
 use Rattle.pair.proofs.Powers.{ten-above, ten-add, ten-rises}
 use Rattle.pair.proofs.Rounds.{rounded-as, rounded-exact}

@@ -1,7 +1,7 @@
 -- The calls on pairs and what each answers. A call that cannot be answered is refused with document 01's number 53: a pair that is
 -- none, an entry with too many digits, a divisor with low end 0, 1 − f with f's high end above 1, an exponent out of reach.
 use Prim.Native.Nat.{ℕ, _^_}
-use mathlib.Core.Bool.{Bool, true, false, _&&_, cond, not}
+use mathlib.Core.Bool.{Bool, true, false, _&&_, not}
 use lib.Dec.{leb, ltb}
 use lib.IntN.{ℤ}
 use Rattle.pair.specs.declared.Number.{Number}

@@ -2,7 +2,7 @@
 -- end up. An exact result is n / d × 10^e with n and d whole; `up` says the direction, and one definition serves both.
 use Prim.Native.Nat.{ℕ, zero, suc, _+_, _-_, _*_, _/_, _%_, _^_}
 use mathlib.Core.Bool.{Bool, true, false, cond}
-use lib.Dec.{ltb, eqb}
+use lib.Dec.{ltb}
 use lib.IntN.{ℤ, pos, _+ℤ_, _-ℤ_, subℕ}
 use Rattle.pair.specs.declared.Number.{Number}
 use Rattle.pair.specs.Number as N

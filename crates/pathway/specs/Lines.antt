@@ -4,7 +4,7 @@ use Rattle.pair.specs.Calls.{Outcome, is, refused, after, product, quotient}
 use Rattle.equations.specs.declared.Pathway.{Pathway}
 use Rattle.equations.specs.declared.Effect.{Effect}
 use Rattle.equations.specs.declared.Effect.the-variants.{Hazard, Cancer}
-use Rattle.equations.specs.Formula.{Slot, Formula, pairs}
+use Rattle.equations.specs.Formula.{Formula, pairs}
 use Rattle.equations.specs.Page.{factor}
 use Rattle.equations.specs.Readings.{plain}
 use Rattle.pathway.specs.declared.Receptor.{Receptor}

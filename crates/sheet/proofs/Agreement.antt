@@ -1,23 +1,20 @@
 -- What the crates below work from their own structs is the page read from the case's slots. Assumes nothing.
-use mathlib.Core.Path.{_≡_, refl, sym, _∙_, ap, ap₂}
+use mathlib.Core.Path.{_≡_, refl}
 use Prim.Native.Nat.{ℕ}
 use Rattle.pair.specs.declared.Pair.{Pair}
-use Rattle.pair.specs.Calls.{Outcome, is, after, product, quotient, entry}
+use Rattle.pair.specs.Calls.{Outcome, is}
 use Rattle.equations.specs.declared.Pathway.{Pathway}
 use Rattle.equations.specs.declared.Pathway.the-variants.{Air, SoilSummer, SoilWinter, Skin, AboveGround, BelowGround}
 use Rattle.equations.specs.declared.Effect.{Effect}
 use Rattle.equations.specs.declared.Effect.the-variants.{Hazard, Cancer}
-use Rattle.equations.specs.Formula.{Slot, Letter, Formula, read, pairs}
-use Rattle.equations.specs.Series.{pairSeries}
+use Rattle.equations.specs.Formula.{read, pairs}
 use Rattle.equations.specs.Page as page
-use Rattle.equations.specs.Readings.{letters, plain, worked}
+use Rattle.equations.specs.Readings.{letters, plain}
 use Rattle.deck.specs.declared.Case.{Case}
 use Rattle.media.specs.Slots.{mediaSlots}
-use Rattle.media.specs.declared.Site.{Site}
-use Rattle.media.specs.declared.Chemical.{Chemical}
 use Rattle.pathway.specs.Slots.{pathwaySlots}
 use Rattle.pathway.specs.Lines.{ofReceptor}
-use Rattle.sheet.specs.Values.{siteIndex, chemicalIndex, receptorIndex, slotOf, chemicalAt, receptorAt, printed, pairOf, pairsAt, siteFrom, chemicalFrom, receptorFrom, uptakeFrom}
+use Rattle.sheet.specs.Values.{siteIndex, chemicalIndex, receptorIndex, chemicalAt, receptorAt, printed, pairsAt, siteFrom, chemicalFrom, receptorFrom, uptakeFrom}
 
 module _ (case : Case) (i j : ℕ) where
   x-agrees : plain pairs (λ s. is (mediaSlots (siteFrom (case .site)) (chemicalFrom (chemicalAt case i)) s)) page.x ≡ plain pairs (λ s. is (pairsAt case i j s)) page.x

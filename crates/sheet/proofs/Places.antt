@@ -8,9 +8,9 @@ use lib.Dec.{lit<, lit≤}
 use native.Mathlib.Numerals.{add-one}
 use native.Mathlib.Omega.{arith}
 use borrow.Rule.Slice.PartMut.{post-is}
-use lib.ListN.{length, getD, take, drop, set, length-append, length-take, drop-of-length-le}
+use lib.ListN.{length, getD, take, drop, set, length-append, drop-of-length-le}
 use lib.Seq.{take-at, drop-append-add, drop-drop, take-suc, drop-cons, set-at, length-take-le}
-use Rattle.sheet.specs.Text.{placed, number, justified, dash, unitsText, rowText, linesText, idWidth, pathwayWidth, unitsWidth}
+use Rattle.sheet.specs.Text.{placed, number, justified, dash, unitsText, rowText, linesText}
 use Rattle.sheet.specs.declared.Units.{Units}
 use Rattle.sheet.specs.declared.Units.the-variants.{Absent, Counted}
 use Rattle.sheet.specs.declared.Row.{Row}

@@ -1,12 +1,11 @@
 -- A number's digits read back as that number, where it has the columns, and the first of them is no zero.
 -- Assumes nothing.
-use mathlib.Core.Path.{_≡_, refl, sym, ap, _∙_}
-use mathlib.Core.Bool.{Bool, true, false, cond}
+use mathlib.Core.Path.{_≡_, refl, _∙_}
 use mathlib.Core.List.{List, [], _∷_, _++_}
 use Prim.Native.Nat.{ℕ, zero, suc, _+_, _*_, _-_, _/_, _%_, _^_, _<_}
 use native.Mathlib.Nat.{pow-suc}
 use native.Mathlib.Omega.{arith}
-use lib.Dec.{eqb, eqb·suc-zero, lit<}
+use lib.Dec.{eqb·suc-zero}
 use lib.ListN.{getD}
 use Rattle.sheet.specs.Text.{digit, digits, decimal, justified, number}
 use Rattle.sheet.proofs.Columns.{no-digits}

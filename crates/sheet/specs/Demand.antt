@@ -1,7 +1,7 @@
 -- Demand 3: what a receptor's total is set against. The exact sum is that of its lines that have the reference value, each worked exactly
 -- from the printed values with N terms of the series, counted in units and not rounded.
 use mathlib.Core.Path.{_≡_}
-use mathlib.Core.Bool.{Bool, true, false, cond}
+use mathlib.Core.Bool.{cond}
 use mathlib.Core.List.{List, _++_}
 use Prim.Native.Nat.{ℕ, zero, suc, _+_, _*_, _^_, _≤_, _<_}
 use Rattle.pair.specs.Fraction.{Fraction, plus}
@@ -11,7 +11,6 @@ use Rattle.equations.specs.declared.Effect.the-variants.{Hazard, Cancer}
 use Rattle.equations.specs.Page.{line}
 use Rattle.equations.specs.Readings.{exactly}
 use Rattle.deck.specs.declared.Case.{Case}
-use Rattle.deck.specs.declared.Status.{Status}
 use Rattle.deck.specs.declared.Status.the-variants.{Read}
 use Rattle.deck.specs.Conditions.{Condition, first, conditions}
 use Rattle.deck.specs.Cases.{caseOf}

@@ -1,43 +1,30 @@
 -- x decides whether the media are worked. Assumes nothing.
-use mathlib.Core.Path.{_≡_, refl, sym, _∙_, ap}
-use Prim.Native.Nat.{ℕ}
-use Rattle.pair.specs.declared.Pair.{Pair}
-use Rattle.pair.specs.Calls.{Outcome, is, refused, answer}
+use mathlib.Core.Path.{_≡_, sym, _∙_, ap}
+use Rattle.pair.specs.Calls.{Outcome}
 use Rattle.equations.specs.Page as page
 use Rattle.equations.specs.Page.{C, aboveGround, belowGround}
-use Rattle.equations.specs.Readings.{plain, worked}
 use Rattle.media.specs.declared.Media.{Media}
 use Rattle.media.specs.declared.Site.{Site}
 use Rattle.media.specs.declared.Chemical.{Chemical}
-use Rattle.media.specs.Slots.{mediaSlots}
 use Rattle.media.specs.Media.{exponent, found, slow, ofSlots, ofMedia, four, given, exponentOf, mediaOf}
 use Rattle.media.proofs.Passing.{slow-is, given-is, given-refused}
 use borrow.Author.Needs.{needs}
 use Rattle.media.proofs.concentrations.Statement.{statement}
 use Rattle.media.proofs.concentrations.Tie as tie
-use Rattle.media.proofs.concentrations.Reads as reads
-use Rattle.media.proofs.concentrations.Lts as lts
-use Rattle.media.proofs.compartments.leave.Reads as leave-reads
-use Rattle.media.proofs.loss.exponent_of.Reads as exponent-of-reads
-use Rattle.media.proofs.slow.Reads as slow-reads
 
 -- all four formulas
 four-of : Site → Chemical → Outcome Media
 four-of s c = four (ofMedia s c page.A) (ofMedia s c C) (ofMedia s c aboveGround) (ofMedia s c belowGround)
 
--- src/lib.rt:114:16
 exponent-of-requires : tie.Need-exponent-of-requires
 exponent-of-requires c κs = search needs
 
--- src/lib.rt:114:11
 slow-requires : tie.Need-slow-requires
 slow-requires c κs = search needs
 
--- src/lib.rt:115:21
 enum-known-x : tie.Need-enum-known-x
 enum-known-x c = search needs
 
--- src/lib.rt:115:27
 leave-requires : tie.Need-leave-requires
 unfolding exponent
 leave-requires c κs =
@@ -45,15 +32,12 @@ leave-requires c κs =
     sym (slow-is (ofSlots (a .args .site) (a .args .chemical) page.x) (c .before .x .given .0 .0)
     (ap slow (sym (c .before .before .before .before .exponent-of .ensures)) ∙ sym (c .before .before .before .slow .ensures) ∙ ap exponent (c .before .x .given .1)))
 
--- src/lib.rt:116:29
 enum-told : tie.Need-enum-told
 enum-told c = search needs
 
--- src/lib.rt:117:29
 enum-told-2 : tie.Need-enum-told-2
 enum-told-2 c = search needs
 
--- src/lib.rt:111:1
 returns : tie.Need-returns
 unfolding exponent found mediaOf exponentOf ofSlots ofMedia four-of
 returns c =
@@ -62,7 +46,6 @@ returns c =
     let e : exponent (c .before .before .before .before .slow .result) ≡ slow o = c .before .before .before .before .slow .ensures ∙ ap slow (c .before .before .before .before .before .exponent-of .ensures) in
     c .leave .ensures ∙ given-is (slow o) (c .before .before .x .given .0 .0) (four-of (a .args .site) (a .args .chemical)) (sym e ∙ ap exponent (c .before .before .x .given .1))
 
--- src/lib.rt:111:1
 returns-2 : tie.Need-returns-2
 unfolding exponent found mediaOf exponentOf ofSlots ofMedia four-of
 returns-2 c =
@@ -71,7 +54,6 @@ returns-2 c =
     let e : exponent (c .before .before .slow .result) ≡ slow o = c .before .before .slow .ensures ∙ ap slow (c .before .before .before .exponent-of .ensures) in
     given-refused (slow o) 41 (four-of (a .args .site) (a .args .chemical)) (sym e ∙ ap exponent (c .enum-told .given .1))
 
--- src/lib.rt:111:1
 returns-3 : tie.Need-returns-3
 unfolding exponent found mediaOf exponentOf ofSlots ofMedia four-of
 returns-3 c =

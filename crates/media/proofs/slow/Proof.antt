@@ -1,55 +1,42 @@
 -- The comparison of the high end with 64 decides. Assumes nothing.
-use mathlib.Core.Path.{_≡_, refl, sym, _∙_, ap}
+use mathlib.Core.Path.{refl}
 use Rattle.pair.specs.Calls as calls
-use Rattle.pair.specs.Calls.{Outcome, answer, order}
+use Rattle.pair.specs.Calls.{answer, order}
 use Rattle.media.specs.Media.{exponent, bounded, slow, sixtyFour}
 use borrow.Author.Needs.{needs}
 use Rattle.media.proofs.slow.Statement.{statement}
 use Rattle.media.proofs.slow.Tie as tie
-use Rattle.media.proofs.slow.Reads as reads
-use Rattle.media.proofs.slow.Lts as lts
-use Rattle.pair.proofs.Number.compare.Reads as compare-reads
 
--- src/lib.rt:86:20
 enum-known-x : tie.Need-enum-known-x
 enum-known-x c = search needs
 
--- src/lib.rt:87:9
 enum-told : tie.Need-enum-told
 enum-told c = search needs
 
--- src/lib.rt:87:9
 returns : tie.Need-returns
 unfolding answer exponent slow
 returns c = rw (c .enum-told .given .1) refl
 
--- src/lib.rt:89:11
 compare-requires : tie.Need-compare-requires
 compare-requires c κs = search needs
 
--- src/lib.rt:90:26
 enum-told-2 : tie.Need-enum-told-2
 enum-told-2 c = search needs
 
--- src/lib.rt:91:25
 enum-told-3 : tie.Need-enum-told-3
 enum-told-3 c = search needs
 
--- src/lib.rt:92:27
 enum-told-4 : tie.Need-enum-told-4
 enum-told-4 c = search needs
 
--- src/lib.rt:83:1
 returns-2 : tie.Need-returns-2
 unfolding answer order exponent slow bounded sixtyFour
 returns-2 c = rw (c .before .before .before .before .x .given .1, ← c .before .before .compare .ensures, c .enum-told2 .given .1) refl
 
--- src/lib.rt:83:1
 returns-3 : tie.Need-returns-3
 unfolding answer order exponent slow bounded sixtyFour
 returns-3 c = rw (c .before .before .before .before .x .given .1, ← c .before .before .compare .ensures, c .enum-told3 .given .1) refl
 
--- src/lib.rt:83:1
 returns-4 : tie.Need-returns-4
 unfolding answer order exponent slow bounded sixtyFour
 returns-4 c = rw (c .before .before .before .before .x .given .1, ← c .before .before .compare .ensures, c .enum-told4 .given .1) refl

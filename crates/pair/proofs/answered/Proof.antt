@@ -1,25 +1,20 @@
 -- The exponents' reach decides. Assumes nothing.
-use mathlib.Core.Path.{_≡_, refl, sym, _∙_, ap, ap₂}
-use mathlib.Core.Bool.{Bool, true, false, _&&_, not}
+use mathlib.Core.Path.{_≡_, sym}
+use mathlib.Core.Bool.{true, false, _&&_}
 use borrow.Author.Needs.{needs}
 use mir.Facts.{toZ-ofZ}
 use mir.Syntax.{w32}
 use mir.Val.{SFits}
 use Rattle.pair.specs.declared.Pair.{Pair}
 use Rattle.pair.specs.Number.{inReach}
-use Rattle.pair.specs.Calls.{Outcome, is, answer, provided, ends}
+use Rattle.pair.specs.Calls.{Outcome, is, answer, ends}
 use Rattle.pair.proofs.Providing.{first-fails, second-fails, first-holds, refused-as, told-as, failed, passed}
 use Rattle.pair.proofs.answered.Statement.{statement}
 use Rattle.pair.proofs.answered.Tie as tie
-use Rattle.pair.proofs.answered.Reads as reads
-use Rattle.pair.proofs.answered.Lts as lts
-use Rattle.pair.proofs.exponent.in_reach.Reads as in-reach-reads
 
--- src/lib.rt:69:9
 in-reach-requires : tie.Need-in-reach-requires
 in-reach-requires c κs = search needs
 
--- src/lib.rt:70:9
 returns : tie.Need-returns
 unfolding answer ends
 returns c =
@@ -30,11 +25,9 @@ returns c =
     let h : inReach (low .exponent) ≡ false = rw (toZ-ofZ f) at (failed (c .before .in-reach .ensures) (c .if1 .taken)) in
     refused-as (inReach (low .exponent) && inReach (high .exponent)) x (first-fails (inReach (low .exponent)) (inReach (high .exponent)) h)
 
--- src/lib.rt:72:9
 in-reach-requires-2 : tie.Need-in-reach-requires-2
 in-reach-requires-2 c κs = search needs
 
--- src/lib.rt:73:9
 returns-2 : tie.Need-returns-2
 unfolding answer ends
 returns-2 c =
@@ -45,7 +38,6 @@ returns-2 c =
     let h : inReach (high .exponent) ≡ false = rw (toZ-ofZ f) at (failed (c .before .in-reach2 .ensures) (c .if2 .taken)) in
     refused-as (inReach (low .exponent) && inReach (high .exponent)) x (second-fails (inReach (low .exponent)) (inReach (high .exponent)) h)
 
--- src/lib.rt:66:1
 returns-3 : tie.Need-returns-3
 unfolding answer ends
 returns-3 c =

@@ -1,28 +1,19 @@
 -- The tests one after the other. Assumes nothing.
-use mathlib.Core.Path.{_≡_, refl, sym, _∙_, ap}
-use mathlib.Core.Bool.{Bool, true, false, _&&_}
 use Rattle.pair.specs.Number.{isPair}
 use Rattle.pair.proofs.Providing.{first-fails, first-holds, failed, passed}
 use borrow.Author.Needs.{needs}
 use Rattle.pair.proofs.are_pairs.Statement.{statement}
 use Rattle.pair.proofs.are_pairs.Tie as tie
-use Rattle.pair.proofs.are_pairs.Reads as reads
-use Rattle.pair.proofs.are_pairs.Lts as lts
-use Rattle.pair.proofs.is_pair.Reads as is-pair-reads
 
--- src/lib.rt:75:9
 is-pair-requires : tie.Need-is-pair-requires
 is-pair-requires c κs = search needs
 
--- src/lib.rt:76:9
 returns : tie.Need-returns
 returns c = let a = c .before .before .args in first-fails (isPair (a .p)) (isPair (a .q)) (failed (c .before .is-pair .ensures) (c .if1 .taken))
 
--- src/lib.rt:78:5
 is-pair-requires-2 : tie.Need-is-pair-requires-2
 is-pair-requires-2 c κs = search needs
 
--- src/lib.rt:72:1
 returns-2 : tie.Need-returns-2
 returns-2 c =
     let a = c .before .before .before .args in

@@ -1,32 +1,24 @@
 -- The tests one after the other. Assumes nothing.
-use mathlib.Core.Path.{_≡_, refl, sym, _∙_, ap}
-use mathlib.Core.Bool.{Bool, true, false, _&&_}
+use mathlib.Core.Path.{sym}
+use mathlib.Core.Bool.{_&&_}
 use borrow.Author.Needs.{needs}
 use Rattle.pair.specs.Number.{isNumber, atMost, isPair}
 use Rattle.pair.proofs.Providing.{first-fails, second-fails, first-holds, failed, passed}
 use Rattle.pair.proofs.is_pair.Statement.{statement}
 use Rattle.pair.proofs.is_pair.Tie as tie
-use Rattle.pair.proofs.is_pair.Reads as reads
-use Rattle.pair.proofs.is_pair.Lts as lts
-use Rattle.pair.proofs.ends.at_most.Reads as at-most-reads
-use Rattle.pair.proofs.ends.is_number.Reads as is-number-reads
 
--- src/lib.rt:56:9
 is-number-requires : tie.Need-is-number-requires
 is-number-requires c κs = search needs
 
--- src/lib.rt:57:9
 returns : tie.Need-returns
 unfolding isPair
 returns c =
     let p = c .before .before .args .p in
     first-fails (isNumber (p .low)) (isNumber (p .high) && atMost (p .low) (p .high)) (failed (c .before .is-number .ensures) (c .if1 .taken))
 
--- src/lib.rt:59:9
 is-number-requires-2 : tie.Need-is-number-requires-2
 is-number-requires-2 c κs = search needs
 
--- src/lib.rt:60:9
 returns-2 : tie.Need-returns-2
 unfolding isPair
 returns-2 c =
@@ -34,11 +26,9 @@ returns-2 c =
     second-fails (isNumber (p .low)) (isNumber (p .high) && atMost (p .low) (p .high))
     (sym (first-fails (isNumber (p .high)) (atMost (p .low) (p .high)) (failed (c .before .is-number2 .ensures) (c .if2 .taken))))
 
--- src/lib.rt:62:5
 at-most-requires : tie.Need-at-most-requires
 at-most-requires c κs = (passed (c .before .before .before .is-number .ensures) (c .before .before .if1 .left), passed (c .before .is-number2 .ensures) (c .if2 .left))
 
--- src/lib.rt:53:1
 returns-3 : tie.Need-returns-3
 unfolding isPair
 returns-3 c =

@@ -1,6 +1,6 @@
 -- Each line ends past the place where it begins. Assumes nothing.
 use borrow.Author.Needs.{needs}
-use Prim.Native.Nat.{_+_, _≤_, _-_}
+use Prim.Native.Nat.{_-_}
 use lib.ListN.{length}
 use Rattle.pair_trials.proofs.lines.Statement.{statement}
 use Rattle.pair_trials.proofs.lines.Tie as tie

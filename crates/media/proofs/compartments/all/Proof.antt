@@ -1,66 +1,51 @@
 -- The first refusal among the four, else all of them. Assumes nothing.
-use mathlib.Core.Path.{_≡_, refl, sym, _∙_, ap}
+use mathlib.Core.Path.{refl}
 use Rattle.pair.specs.Calls.{answer}
 use Rattle.media.specs.Media.{found, four}
 use borrow.Author.Needs.{needs}
 use Rattle.media.proofs.compartments.all.Statement.{statement}
 use Rattle.media.proofs.compartments.all.Tie as tie
-use Rattle.media.proofs.compartments.all.Reads as reads
-use Rattle.media.proofs.compartments.all.Lts as lts
 
--- src/compartments.rt:71:20
 enum-known-air : tie.Need-enum-known-air
 enum-known-air c = search needs
 
--- src/compartments.rt:72:9
 enum-told : tie.Need-enum-told
 enum-told c = search needs
 
--- src/compartments.rt:72:9
 returns : tie.Need-returns
 unfolding answer found four
 returns c = rw (c .enum-told .given .1) refl
 
--- src/compartments.rt:74:20
 enum-known-soil : tie.Need-enum-known-soil
 enum-known-soil c = search needs
 
--- src/compartments.rt:75:9
 enum-told-2 : tie.Need-enum-told-2
 enum-told-2 c = search needs
 
--- src/compartments.rt:75:9
 returns-2 : tie.Need-returns-2
 unfolding answer found four
 returns-2 c = rw (c .before .before .before .air .given .1, c .enum-told2 .given .1) refl
 
--- src/compartments.rt:77:20
 enum-known-above : tie.Need-enum-known-above
 enum-known-above c = search needs
 
--- src/compartments.rt:78:9
 enum-told-3 : tie.Need-enum-told-3
 enum-told-3 c = search needs
 
--- src/compartments.rt:78:9
 returns-3 : tie.Need-returns-3
 unfolding answer found four
 returns-3 c = rw (c .before .before .before .before .before .before .air .given .1, c .before .before .before .soil .given .1, c .enum-told3 .given .1) refl
 
--- src/compartments.rt:80:20
 enum-known-below : tie.Need-enum-known-below
 enum-known-below c = search needs
 
--- src/compartments.rt:81:9
 enum-told-4 : tie.Need-enum-told-4
 enum-told-4 c = search needs
 
--- src/compartments.rt:81:9
 returns-4 : tie.Need-returns-4
 unfolding answer found four
 returns-4 c = rw (c .before .before .before .before .before .before .before .before .before .air .given .1, c .before .before .before .before .before .before .soil .given .1, c .before .before .before .above .given .1, c .enum-told4 .given .1) refl
 
--- src/compartments.rt:68:1
 returns-5 : tie.Need-returns-5
 unfolding answer found four
 returns-5 c = rw (c .before .before .before .before .before .before .before .before .before .before .air .given .1, c .before .before .before .before .before .before .before .soil .given .1, c .before .before .before .before .above .given .1, c .before .below .given .1) refl

@@ -1,80 +1,55 @@
 -- Each concentration is its formula's. Assumes nothing.
-use mathlib.Core.Path.{_≡_, refl, sym, _∙_, ap}
+use mathlib.Core.Path.{refl}
 use borrow.Author.Needs.{needs}
-use Rattle.pair.specs.Calls.{is}
 use Rattle.equations.specs.Formula.{read, pairs}
-use Rattle.equations.specs.Page.{C, aboveGround, belowGround, 1−Fv}
-use Rattle.equations.specs.Readings.{plain, letters, worked}
-use Rattle.equations.specs.Series.{pairSeries}
-use Rattle.media.specs.Media.{ofSlots, ofMedia}
+use Rattle.equations.specs.Page.{aboveGround, belowGround}
+use Rattle.equations.specs.Readings.{letters, worked}
+use Rattle.media.specs.Media.{ofMedia}
 use Rattle.media.specs.Slots.{mediaSlots}
 use Rattle.media.proofs.compartments.leave.Statement.{statement}
 use Rattle.media.proofs.compartments.leave.Tie as tie
-use Rattle.media.proofs.compartments.leave.Reads as reads
-use Rattle.media.proofs.compartments.leave.Lts as lts
-use Rattle.media.proofs.compartments.air.Reads as air-reads
-use Rattle.media.proofs.compartments.all.Reads as all-reads
-use Rattle.media.proofs.compartments.soil.Reads as soil-reads
-use Rattle.pair.proofs.Answer.one_minus.Reads as one-minus-reads
-use Rattle.pair.proofs.Answer.over.Reads as over-reads
-use Rattle.pair.proofs.Answer.times.Reads as times-reads
-use Rattle.pair.proofs.Pair.answer.Reads as answer-reads
 
--- src/compartments.rt:96:21
 answer-requires : tie.Need-answer-requires
 answer-requires c κs = search needs
 
--- src/compartments.rt:96:9
 one-minus-requires : tie.Need-one-minus-requires
 one-minus-requires c κs = search needs
 
--- src/compartments.rt:97:9
 soil-requires : tie.Need-soil-requires
 unfolding ofMedia worked read letters mediaSlots pairs
 soil-requires c κs = (rw (c .one-minus .ensures, c .before .answer .ensures) refl, c .before .before .pre)
 
--- src/compartments.rt:98:31
 answer-requires-2 : tie.Need-answer-requires-2
 answer-requires-2 c κs = search needs
 
--- src/compartments.rt:98:9
 times-requires : tie.Need-times-requires
 times-requires c κs = search needs
 
--- src/compartments.rt:100:16
 answer-requires-3 : tie.Need-answer-requires-3
 answer-requires-3 c κs = search needs
 
--- src/compartments.rt:99:17
 times-requires-2 : tie.Need-times-requires-2
 times-requires-2 c κs = search needs
 
--- src/compartments.rt:101:16
 answer-requires-4 : tie.Need-answer-requires-4
 answer-requires-4 c κs = search needs
 
--- src/compartments.rt:99:17
 times-requires-3 : tie.Need-times-requires-3
 times-requires-3 c κs = search needs
 
--- src/compartments.rt:102:15
 answer-requires-5 : tie.Need-answer-requires-5
 answer-requires-5 c κs = search needs
 
--- src/compartments.rt:99:9
 over-requires : tie.Need-over-requires
 over-requires c κs = search needs
 
--- src/compartments.rt:103:9
 air-requires : tie.Need-air-requires
 unfolding ofMedia worked read letters mediaSlots pairs
 air-requires c κs = rw (c .before .before .before .before .before .before .before .before .before .one-minus .ensures, c .before .before .before .before .before .before .before .before .before .before .answer .ensures) refl
 
--- src/compartments.rt:103:5
 all-requires : tie.Need-all-requires
 all-requires c κs = search needs
 
--- src/compartments.rt:92:1
 returns : tie.Need-returns
 unfolding ofMedia worked read letters mediaSlots pairs aboveGround belowGround
 returns c = rw (c .all .ensures, c .before .air .ensures, c .before .before .over .ensures, c .before .before .before .answer5 .ensures, c .before .before .before .before .times3 .ensures, c .before .before .before .before .before .answer4 .ensures, c .before .before .before .before .before .before .times2 .ensures, c .before .before .before .before .before .before .before .answer3 .ensures, c .before .before .before .before .before .before .before .before .times .ensures, c .before .before .before .before .before .before .before .before .before .answer2 .ensures, c .before .before .before .before .before .before .before .before .before .before .soil .ensures)

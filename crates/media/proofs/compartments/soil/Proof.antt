@@ -1,48 +1,33 @@
 -- The operations in the formula's order. Assumes nothing.
-use mathlib.Core.Path.{_≡_, refl, sym, _∙_, ap}
+use mathlib.Core.Path.{refl, _∙_, ap}
 use borrow.Author.Needs.{needs}
-use Rattle.pair.specs.Calls.{is}
 use Rattle.equations.specs.Formula.{read, pairs}
-use Rattle.equations.specs.Page.{g, D, C}
-use Rattle.equations.specs.Readings.{plain, letters, worked}
+use Rattle.equations.specs.Page.{C}
+use Rattle.equations.specs.Readings.{letters, worked}
 use Rattle.equations.specs.Series.{pairSeries}
-use Rattle.media.specs.Media.{ofSlots, ofMedia}
+use Rattle.media.specs.Media.{ofMedia}
 use Rattle.media.specs.Slots.{mediaSlots}
 use Rattle.media.proofs.compartments.soil.Statement.{statement}
 use Rattle.media.proofs.compartments.soil.Tie as tie
-use Rattle.media.proofs.compartments.soil.Reads as reads
-use Rattle.media.proofs.compartments.soil.Lts as lts
-use Rattle.media.proofs.compartments.build_up.Reads as build-up-reads
-use Rattle.media.proofs.compartments.deposition.Reads as deposition-reads
-use Rattle.media.proofs.terms.sum_of_terms.Reads as sum-of-terms-reads
-use Rattle.pair.proofs.Answer.times.Reads as times-reads
-use Rattle.pair.proofs.Pair.answer.Reads as answer-reads
 
--- src/compartments.rt:63:31
 sum-of-terms-requires : tie.Need-sum-of-terms-requires
 sum-of-terms-requires c κs = search needs
 
--- src/compartments.rt:63:9
 build-up-requires : tie.Need-build-up-requires
 build-up-requires c κs = (c .before .pre .1, c .sum-of-terms .ensures ∙ ap pairSeries (c .before .pre .1))
 
--- src/compartments.rt:64:5
 deposition-requires : tie.Need-deposition-requires
 deposition-requires c κs = search needs
 
--- src/compartments.rt:64:39
 answer-requires : tie.Need-answer-requires
 answer-requires c κs = search needs
 
--- src/compartments.rt:64:5
 times-requires : tie.Need-times-requires
 times-requires c κs = search needs
 
--- src/compartments.rt:64:5
 times-requires-2 : tie.Need-times-requires-2
 times-requires-2 c κs = search needs
 
--- src/compartments.rt:58:1
 returns : tie.Need-returns
 unfolding ofMedia worked read letters mediaSlots pairs C
 returns c = rw (c .times2 .ensures, c .before .times .ensures, c .before .before .answer .ensures, c .before .before .before .deposition .ensures, c .before .before .before .before .build-up .ensures)

@@ -1,82 +1,58 @@
 -- The operations in the formula's order. Assumes nothing.
-use mathlib.Core.Path.{_≡_, refl}
 use borrow.Author.Needs.{needs}
 use Rattle.equations.specs.Formula.{read, pairs}
-use Rattle.equations.specs.Page.{u, kse}
+use Rattle.equations.specs.Page.{kse}
 use Rattle.equations.specs.Readings.{plain, letters}
 use Rattle.media.specs.Media.{ofSlots}
 use Rattle.media.specs.Slots.{mediaSlots}
 use Rattle.media.proofs.loss.erosion.Statement.{statement}
 use Rattle.media.proofs.loss.erosion.Tie as tie
-use Rattle.media.proofs.loss.erosion.Reads as reads
-use Rattle.media.proofs.loss.erosion.Lts as lts
-use Rattle.pair.proofs.Answer.over.Reads as over-reads
-use Rattle.pair.proofs.Answer.plus.Reads as plus-reads
-use Rattle.pair.proofs.Answer.times.Reads as times-reads
-use Rattle.pair.proofs.Pair.answer.Reads as answer-reads
-use Rattle.pair.proofs.Pair.entry.Reads as entry-reads
 
--- src/loss.rt:14:16
 entry-requires : tie.Need-entry-requires
 entry-requires c κs = search needs
 
--- src/loss.rt:15:16
 answer-requires : tie.Need-answer-requires
 answer-requires c κs = search needs
 
--- src/loss.rt:14:16
 times-requires : tie.Need-times-requires
 times-requires c κs = search needs
 
--- src/loss.rt:16:16
 answer-requires-2 : tie.Need-answer-requires-2
 answer-requires-2 c κs = search needs
 
--- src/loss.rt:14:16
 times-requires-2 : tie.Need-times-requires-2
 times-requires-2 c κs = search needs
 
--- src/loss.rt:17:16
 answer-requires-3 : tie.Need-answer-requires-3
 answer-requires-3 c κs = search needs
 
--- src/loss.rt:14:9
 times-requires-3 : tie.Need-times-requires-3
 times-requires-3 c κs = search needs
 
--- src/loss.rt:18:17
 answer-requires-4 : tie.Need-answer-requires-4
 answer-requires-4 c κs = search needs
 
--- src/loss.rt:18:37
 answer-requires-5 : tie.Need-answer-requires-5
 answer-requires-5 c κs = search needs
 
--- src/loss.rt:18:9
 times-requires-4 : tie.Need-times-requires-4
 times-requires-4 c κs = search needs
 
--- src/loss.rt:19:16
 answer-requires-6 : tie.Need-answer-requires-6
 answer-requires-6 c κs = search needs
 
--- src/loss.rt:19:9
 plus-requires : tie.Need-plus-requires
 plus-requires c κs = search needs
 
--- src/loss.rt:20:5
 over-requires : tie.Need-over-requires
 over-requires c κs = search needs
 
--- src/loss.rt:20:5
 times-requires-5 : tie.Need-times-requires-5
 times-requires-5 c κs = search needs
 
--- src/loss.rt:20:5
 over-requires-2 : tie.Need-over-requires-2
 over-requires-2 c κs = search needs
 
--- src/loss.rt:10:1
 returns : tie.Need-returns
 unfolding ofSlots plain read letters mediaSlots pairs kse
 returns c = cc

@@ -1,97 +1,69 @@
 -- The operations in the formula's order. Assumes nothing.
-use mathlib.Core.Path.{_≡_, refl}
+use mathlib.Core.Path.{refl}
 use borrow.Author.Needs.{needs}
 use Rattle.equations.specs.Formula.{read, pairs}
-use Rattle.equations.specs.Page.{u, kse, ksr, ksl, k}
+use Rattle.equations.specs.Page.{u, ksr, ksl, k}
 use Rattle.equations.specs.Readings.{plain, letters}
 use Rattle.media.specs.Media.{ofSlots}
 use Rattle.media.specs.Slots.{mediaSlots}
 use Rattle.media.proofs.loss.loss_rate.Statement.{statement}
 use Rattle.media.proofs.loss.loss_rate.Tie as tie
-use Rattle.media.proofs.loss.loss_rate.Reads as reads
-use Rattle.media.proofs.loss.loss_rate.Lts as lts
-use Rattle.media.proofs.loss.erosion.Reads as erosion-reads
-use Rattle.media.proofs.loss.washed.Reads as washed-reads
-use Rattle.pair.proofs.Answer.over.Reads as over-reads
-use Rattle.pair.proofs.Answer.plus.Reads as plus-reads
-use Rattle.pair.proofs.Answer.times.Reads as times-reads
-use Rattle.pair.proofs.Pair.answer.Reads as answer-reads
-use Rattle.pair.proofs.Pair.entry.Reads as entry-reads
 
--- src/loss.rt:34:9
 answer-requires : tie.Need-answer-requires
 answer-requires c κs = search needs
 
--- src/loss.rt:35:18
 answer-requires-2 : tie.Need-answer-requires-2
 answer-requires-2 c κs = search needs
 
--- src/loss.rt:35:39
 answer-requires-3 : tie.Need-answer-requires-3
 answer-requires-3 c κs = search needs
 
--- src/loss.rt:35:9
 times-requires : tie.Need-times-requires
 times-requires c κs = search needs
 
--- src/loss.rt:36:29
 answer-requires-4 : tie.Need-answer-requires-4
 answer-requires-4 c κs = search needs
 
--- src/loss.rt:36:9
 times-requires-2 : tie.Need-times-requires-2
 times-requires-2 c κs = search needs
 
--- src/loss.rt:37:20
 entry-requires : tie.Need-entry-requires
 entry-requires c κs = search needs
 
--- src/loss.rt:37:43
 over-requires : tie.Need-over-requires
 over-requires c κs = search needs
 
--- src/loss.rt:37:9
 plus-requires : tie.Need-plus-requires
 plus-requires c κs = search needs
 
--- src/loss.rt:38:5
 answer-requires-5 : tie.Need-answer-requires-5
 answer-requires-5 c κs = search needs
 
--- src/loss.rt:39:15
 erosion-requires : tie.Need-erosion-requires
 unfolding ofSlots plain read letters mediaSlots pairs u ksr ksl k
 erosion-requires c κs = cc
 
--- src/loss.rt:38:5
 plus-requires-2 : tie.Need-plus-requires-2
 plus-requires-2 c κs = search needs
 
--- src/loss.rt:40:15
 washed-requires : tie.Need-washed-requires
 washed-requires c κs = search needs
 
--- src/loss.rt:38:5
 plus-requires-3 : tie.Need-plus-requires-3
 plus-requires-3 c κs = search needs
 
--- src/loss.rt:41:15
 washed-requires-2 : tie.Need-washed-requires-2
 washed-requires-2 c κs = search needs
 
--- src/loss.rt:38:5
 plus-requires-4 : tie.Need-plus-requires-4
 plus-requires-4 c κs = search needs
 
--- src/loss.rt:42:15
 answer-requires-6 : tie.Need-answer-requires-6
 answer-requires-6 c κs = search needs
 
--- src/loss.rt:38:5
 plus-requires-5 : tie.Need-plus-requires-5
 plus-requires-5 c κs = search needs
 
--- src/loss.rt:31:1
 returns : tie.Need-returns
 unfolding ofSlots plain read letters mediaSlots pairs u ksr ksl k
 returns c =

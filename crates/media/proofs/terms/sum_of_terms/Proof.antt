@@ -1,10 +1,9 @@
 -- The loop keeps the term tn and the total t0 + .. + tn. Assumes nothing.
-use mathlib.Core.Path.{_≡_, refl, sym, _∙_, ap, ap₂, subst}
-use Prim.Native.Nat.{ℕ, zero, suc, _+_, _-_, _≤_, _<_}
+use mathlib.Core.Path.{_≡_, _∙_, ap, ap₂}
+use Prim.Native.Nat.{ℕ, suc, _+_, _-_, _≤_, _<_}
 use native.Mathlib.Numerals.{add-one}
 use native.Mathlib.Omega.{arith}
 use lib.IntN.{pos}
-use borrow.Author.Needs.{needs}
 use Rattle.pair.specs.declared.Pair.{Pair}
 use Rattle.pair.specs.declared.Answer.{Answer}
 use Rattle.pair.specs.Calls.{Outcome, is, answer, after, afterOne, entry, sum, product, quotient}
@@ -12,12 +11,6 @@ use Rattle.equations.specs.Formula.{pairs}
 use Rattle.equations.specs.Series.{terms, fromZero, pairSeries}
 use Rattle.media.proofs.terms.sum_of_terms.Statement.{statement}
 use Rattle.media.proofs.terms.sum_of_terms.Tie as tie
-use Rattle.media.proofs.terms.sum_of_terms.Reads as reads
-use Rattle.media.proofs.terms.sum_of_terms.Lts as lts
-use Rattle.media.proofs.terms.first.Reads as first-reads
-use Rattle.media.proofs.terms.from_zero.Reads as from-zero-reads
-use Rattle.media.proofs.terms.next.Reads as next-reads
-use Rattle.pair.proofs.Answer.plus.Reads as plus-reads
 
 record Sofar (x : Pair) (term total : Answer) (n : ℕ) : Type 0 where
   count : n ≤ 255
@@ -53,41 +46,32 @@ Inv-loop x t₀ n₀ t n = Sofar x (t .term) (t .total) n
 abbrev μ-loop : tie.MeasureT-loop
 μ-loop x t₀ n₀ t n = 255 - n
 
--- src/series.rt:53:9
 first-requires : tie.Need-first-requires Inv-loop μ-loop
 first-requires c κs = tt
 
--- src/series.rt:55:5
 loop-holds : tie.Need-loop-holds Inv-loop μ-loop
 loop-holds c = start (c .before .args .x) (c .first .result .term) (c .first .result .total) (c .first .ensures .0) (c .first .ensures .1)
 
--- src/series.rt:56:9
 next-requires : tie.Need-next-requires Inv-loop μ-loop
 next-requires c κs = c .loop-test .taken
 
--- src/series.rt:57:9
 add-n : tie.Need-add-n Inv-loop μ-loop
 add-n c = omega arith
 
--- src/series.rt:55:5
 loop-less : tie.Need-loop-less Inv-loop μ-loop
 loop-less c = omega arith
 
--- src/series.rt:55:5
 loop-again : tie.Need-loop-again Inv-loop μ-loop
 loop-again c =
     let l = c .before .before .loop in
     step (c .before .before .before .before .args .x) (l .t .term) (l .t .total) (c .next .result .term) (c .next .result .total) (l .n) (l .inv) (c .before .loop-test .taken) (c .next .ensures .0) (c .next .ensures .1)
 
--- src/series.rt:61:16
 from-zero-requires : tie.Need-from-zero-requires Inv-loop μ-loop
 from-zero-requires c κs = tt
 
--- src/series.rt:61:5
 plus-requires : tie.Need-plus-requires Inv-loop μ-loop
 plus-requires c κs = tt
 
--- src/series.rt:50:1
 returns : tie.Need-returns Inv-loop μ-loop
 returns c =
     let l = c .before .before .before .loop in

@@ -1,22 +1,16 @@
 -- The tests one after the other. Assumes nothing.
-use mathlib.Core.Path.{_≡_, refl, sym, _∙_, ap, ap₂}
-use mathlib.Core.Bool.{Bool, true, false, _&&_, not}
+use mathlib.Core.Path.{sym, _∙_, ap}
+use mathlib.Core.Bool.{true, _&&_}
 use borrow.Author.Needs.{needs}
 use Rattle.pair.specs.Number.{isNumber, atMost}
-use Rattle.pair.specs.Calls.{Outcome, is, order, provided, compared}
+use Rattle.pair.specs.Calls.{is, order, compared}
 use Rattle.pair.proofs.Providing.{first-fails, second-fails, first-holds, refused-as, told-as, failed, passed}
 use Rattle.pair.proofs.Number.compare.Statement.{statement}
 use Rattle.pair.proofs.Number.compare.Tie as tie
-use Rattle.pair.proofs.Number.compare.Reads as reads
-use Rattle.pair.proofs.Number.compare.Lts as lts
-use Rattle.pair.proofs.ends.at_most.Reads as at-most-reads
-use Rattle.pair.proofs.ends.is_number.Reads as is-number-reads
 
--- src/lib.rt:83:13
 is-number-requires : tie.Need-is-number-requires
 is-number-requires c κs = search needs
 
--- src/lib.rt:84:13
 returns : tie.Need-returns
 unfolding order compared
 returns c =
@@ -24,11 +18,9 @@ returns c =
     let b = c .before .before .args .bound in
     refused-as (isNumber a && isNumber b) (is (atMost a b)) (first-fails (isNumber a) (isNumber b) (failed (c .before .is-number .ensures) (c .if1 .taken)))
 
--- src/lib.rt:86:13
 is-number-requires-2 : tie.Need-is-number-requires-2
 is-number-requires-2 c κs = search needs
 
--- src/lib.rt:87:13
 returns-2 : tie.Need-returns-2
 unfolding order compared
 returns-2 c =
@@ -36,11 +28,9 @@ returns-2 c =
     let b = c .before .before .before .before .args .bound in
     refused-as (isNumber a && isNumber b) (is (atMost a b)) (second-fails (isNumber a) (isNumber b) (failed (c .before .is-number2 .ensures) (c .if2 .taken)))
 
--- src/lib.rt:89:12
 at-most-requires : tie.Need-at-most-requires
 at-most-requires c κs = (passed (c .before .before .before .is-number .ensures) (c .before .before .if1 .left), passed (c .before .is-number2 .ensures) (c .if2 .left))
 
--- src/lib.rt:90:13
 returns-3 : tie.Need-returns-3
 unfolding order compared
 returns-3 c =
@@ -50,7 +40,6 @@ returns-3 c =
     ∙ told-as (isNumber a && isNumber b) (is (atMost a b))
     (first-holds (isNumber a) (isNumber b) true (passed (c .before .before .before .before .before .is-number .ensures) (c .before .before .before .before .if1 .left)) (sym (passed (c .before .before .before .is-number2 .ensures) (c .before .before .if2 .left))))
 
--- src/lib.rt:80:5
 returns-4 : tie.Need-returns-4
 unfolding order compared
 returns-4 c =

@@ -1,12 +1,11 @@
 -- At most nine digits and an exponent in reach; then both ends are the number itself. Assumes nothing.
-use mathlib.Core.Path.{_≡_, refl, sym, _∙_, ap, ap₂}
-use mathlib.Core.Bool.{Bool, true, false, _&&_, not}
+use mathlib.Core.Path.{_≡_, sym, _∙_, ap₂}
+use mathlib.Core.Bool.{true, false, _&&_}
 use native.Mathlib.Omega.{arith}
 use borrow.Author.Needs.{needs}
-use Rattle.pair.specs.declared.Pair.{Pair}
 use Rattle.pair.specs.Number.{inReach}
 use Rattle.pair.specs.Rounding.{rounded}
-use Rattle.pair.specs.Calls.{Outcome, answer, ends, entry}
+use Rattle.pair.specs.Calls.{answer, ends, entry}
 use Rattle.pair.proofs.Numbers.{reach-mag}
 use Rattle.pair.proofs.Providing.{first-fails, second-fails, first-holds, refused-as, told-as, failed, passed}
 use lib.Dec.{leb}
@@ -14,13 +13,7 @@ use mir.Facts.{toZ-ofZ}
 use borrow.Author.Tests.{le-leb, lt-leb}
 use Rattle.pair.proofs.Pair.entry.Statement.{statement}
 use Rattle.pair.proofs.Pair.entry.Tie as tie
-use Rattle.pair.proofs.Pair.entry.Reads as reads
-use Rattle.pair.proofs.Pair.entry.Lts as lts
-use Rattle.pair.proofs.answered.Reads as answered-reads
-use Rattle.pair.proofs.exponent.in_reach.Reads as in-reach-reads
-use Rattle.pair.proofs.rounding.normal.Reads as normal-reads
 
--- src/lib.rt:124:13
 returns : tie.Need-returns
 unfolding answer entry
 returns c =
@@ -29,11 +22,9 @@ returns c =
     let e = a .args .exponent in
     refused-as (leb m 999999999 && inReach e) (ends (rounded false m 1 e) (rounded true m 1 e)) (first-fails (leb m 999999999) (inReach e) (lt-leb m 999999999 (c .if1 .taken)))
 
--- src/lib.rt:126:13
 in-reach-requires : tie.Need-in-reach-requires
 in-reach-requires c κs = search needs
 
--- src/lib.rt:127:13
 returns-2 : tie.Need-returns-2
 unfolding answer entry
 returns-2 c =
@@ -43,7 +34,6 @@ returns-2 c =
     let h : inReach e ≡ false = rw (toZ-ofZ (a .fits .exponent)) at (failed (c .before .in-reach .ensures) (c .if2 .taken)) in
     refused-as (leb m 999999999 && inReach e) (ends (rounded false m 1 e) (rounded true m 1 e)) (second-fails (leb m 999999999) (inReach e) h)
 
--- src/lib.rt:129:13
 normal-requires : tie.Need-normal-requires
 normal-requires c κs =
     let a = c .before .before .before in
@@ -52,11 +42,9 @@ normal-requires c κs =
     let h : inReach e ≡ true = rw (toZ-ofZ (a .fits .exponent)) at (passed (c .before .in-reach .ensures) (c .if2 .left)) in
     (omega arith, rw (toZ-ofZ (a .fits .exponent)) (omega (arith, reach-mag e h)))
 
--- src/lib.rt:130:9
 answered-requires : tie.Need-answered-requires
 answered-requires c κs = search needs
 
--- src/lib.rt:120:5
 returns-3 : tie.Need-returns-3
 unfolding answer entry
 returns-3 c =

@@ -1,10 +1,8 @@
 -- The tests one after the other, then both counts. Assumes nothing.
-use mathlib.Core.Path.{_≡_, refl, sym, _∙_, ap, ap₂}
-use mathlib.Core.Bool.{Bool, true, false, _&&_, not}
-use native.Mathlib.Omega.{arith}
+use mathlib.Core.Path.{_≡_, sym}
+use mathlib.Core.Bool.{true, false, _&&_}
 use borrow.Author.Needs.{needs}
-use Rattle.pair.specs.declared.Pair.{Pair}
-use Rattle.pair.specs.Number.{inReach, isNumber, isPair}
+use Rattle.pair.specs.Number.{inReach, isPair}
 use Rattle.pair.specs.Rounding.{unitsEnd}
 use Rattle.pair.specs.Calls.{Outcome, is, count, inUnits}
 use Rattle.pair.proofs.Numbers.{pair-low, pair-high}
@@ -15,18 +13,10 @@ use mir.Facts.{toZ-ofZ}
 use Rattle.pair.specs.declared.Units.{Units}
 use Rattle.pair.proofs.Pair.in_units.Statement.{statement}
 use Rattle.pair.proofs.Pair.in_units.Tie as tie
-use Rattle.pair.proofs.Pair.in_units.Reads as reads
-use Rattle.pair.proofs.Pair.in_units.Lts as lts
-use Rattle.pair.proofs.ends.countable.Reads as countable-reads
-use Rattle.pair.proofs.ends.units.Reads as units-reads
-use Rattle.pair.proofs.exponent.in_reach.Reads as in-reach-reads
-use Rattle.pair.proofs.is_pair.Reads as is-pair-reads
 
--- src/lib.rt:197:13
 is-pair-requires : tie.Need-is-pair-requires
 is-pair-requires c κs = search needs
 
--- src/lib.rt:198:13
 returns : tie.Need-returns
 unfolding count inUnits
 returns c =
@@ -38,11 +28,9 @@ returns c =
     let g = ltb (unitsEnd true (p .high) u) (10 ^ 19) in
     refused-as (isPair p && (inReach u && (l && g))) x (first-fails (isPair p) (inReach u && (l && g)) (failed (c .before .is-pair .ensures) (c .if1 .taken)))
 
--- src/lib.rt:200:13
 in-reach-requires : tie.Need-in-reach-requires
 in-reach-requires c κs = search needs
 
--- src/lib.rt:201:13
 returns-2 : tie.Need-returns-2
 unfolding count inUnits
 returns-2 c =
@@ -54,7 +42,6 @@ returns-2 c =
     let g = ltb (unitsEnd true (p .high) u) (10 ^ 19) in
     refused-as (isPair p && (inReach u && (l && g))) x (second-fails (isPair p) (inReach u && (l && g)) (sym (first-fails (inReach u) (l && g) (rw (toZ-ofZ (a .fits .unit)) at (failed (c .before .in-reach .ensures) (c .if2 .taken))))))
 
--- src/lib.rt:203:13
 countable-requires : tie.Need-countable-requires
 countable-requires c κs =
     let a = c .before .before .before .before in
@@ -67,7 +54,6 @@ countable-requires c κs =
     let k : inReach u ≡ true = rw (toZ-ofZ (a .fits .unit)) at (passed (c .before .in-reach .ensures) (c .if2 .left)) in
     (pair-low p h, rw (toZ-ofZ (a .fits .unit)) k)
 
--- src/lib.rt:204:13
 returns-3 : tie.Need-returns-3
 unfolding count inUnits
 returns-3 c =
@@ -79,7 +65,6 @@ returns-3 c =
     let g = ltb (unitsEnd true (p .high) u) (10 ^ 19) in
     refused-as (isPair p && (inReach u && (l && g))) x (second-fails (isPair p) (inReach u && (l && g)) (sym (second-fails (inReach u) (l && g) (sym (first-fails l g (rw (toZ-ofZ (a .fits .unit)) at (failed (c .before .countable .ensures false) (c .if3 .taken))))))))
 
--- src/lib.rt:206:13
 countable-requires-2 : tie.Need-countable-requires-2
 countable-requires-2 c κs =
     let a = c .before .before .before .before .before .before in
@@ -92,7 +77,6 @@ countable-requires-2 c κs =
     let k : inReach u ≡ true = rw (toZ-ofZ (a .fits .unit)) at (passed (c .before .before .before .in-reach .ensures) (c .before .before .if2 .left)) in
     (pair-high p h, rw (toZ-ofZ (a .fits .unit)) k)
 
--- src/lib.rt:207:13
 returns-4 : tie.Need-returns-4
 unfolding count inUnits
 returns-4 c =
@@ -104,7 +88,6 @@ returns-4 c =
     let g = ltb (unitsEnd true (p .high) u) (10 ^ 19) in
     refused-as (isPair p && (inReach u && (l && g))) x (second-fails (isPair p) (inReach u && (l && g)) (sym (second-fails (inReach u) (l && g) (sym (second-fails l g (rw (toZ-ofZ (a .fits .unit)) at (failed (c .before .countable2 .ensures true) (c .if4 .taken))))))))
 
--- src/lib.rt:210:18
 units-requires : tie.Need-units-requires
 units-requires c κs =
     let a = c .before .before .before .before .before .before .before .before in
@@ -118,7 +101,6 @@ units-requires c κs =
     let m : l ≡ true = rw (toZ-ofZ (a .fits .unit)) at (passed (c .before .before .before .countable .ensures false) (c .before .before .if3 .left)) in
     (pair-low p h, (rw (toZ-ofZ (a .fits .unit)) k, rw (toZ-ofZ (a .fits .unit)) m))
 
--- src/lib.rt:211:19
 units-requires-2 : tie.Need-units-requires-2
 units-requires-2 c κs =
     let a = c .before .before .before .before .before .before .before .before .before in
@@ -133,7 +115,6 @@ units-requires-2 c κs =
     let n : g ≡ true = rw (toZ-ofZ (a .fits .unit)) at (passed (c .before .before .countable2 .ensures true) (c .before .if4 .left)) in
     (pair-high p h, (rw (toZ-ofZ (a .fits .unit)) k, rw (toZ-ofZ (a .fits .unit)) n))
 
--- src/lib.rt:194:5
 returns-5 : tie.Need-returns-5
 unfolding count inUnits
 returns-5 c =

@@ -1,12 +1,12 @@
 -- A pair whose high end is at most 1, and so is its low end. Assumes nothing.
-use mathlib.Core.Path.{_≡_, refl, sym, _∙_, ap, ap₂}
-use mathlib.Core.Bool.{Bool, true, false, _&&_, not}
+use mathlib.Core.Path.{_≡_, refl, sym, _∙_, ap₂}
+use mathlib.Core.Bool.{true, false, _&&_}
 use native.Mathlib.Omega.{arith}
 use borrow.Author.Needs.{needs}
 use Rattle.pair.specs.declared.Pair.{Pair}
 use Rattle.pair.specs.Number.{nineFigures, inReach, isZero, isNumber, isPair, atMost, one}
 use Rattle.pair.specs.Rounding.{restEnd}
-use Rattle.pair.specs.Calls.{Outcome, answer, ends, oneMinus}
+use Rattle.pair.specs.Calls.{answer, ends, oneMinus}
 use Rattle.pair.proofs.Numbers.{pair-low, pair-high, pair-order, number-mag}
 use Rattle.pair.proofs.Providing.{first-fails, second-fails, first-holds, refused-as, told-as, failed, passed}
 use Rattle.pair.proofs.Alignment.{Small, order-trans}
@@ -14,12 +14,6 @@ use Rattle.pair.specs.declared.Number.{Number}
 use lib.Dec.{lit<}
 use Rattle.pair.proofs.Pair.one_minus.Statement.{statement}
 use Rattle.pair.proofs.Pair.one_minus.Tie as tie
-use Rattle.pair.proofs.Pair.one_minus.Reads as reads
-use Rattle.pair.proofs.Pair.one_minus.Lts as lts
-use Rattle.pair.proofs.answered.Reads as answered-reads
-use Rattle.pair.proofs.ends.at_most.Reads as at-most-reads
-use Rattle.pair.proofs.ends.rest.Reads as rest-reads
-use Rattle.pair.proofs.is_pair.Reads as is-pair-reads
 
 small : (w : Number) → isNumber w ≡ true → Small (w .exponent)
 small w h = record { small = omega (arith, number-mag w h) }
@@ -36,32 +30,27 @@ low-below : (f : Pair) → isPair f ≡ true → atMost (f .high) one ≡ true �
 low-below f h k =
     order-trans (f .low) (f .high) one (small (f .low) (pair-low f h)) (small (f .high) (pair-high f h)) one-small (pair-order f h) k
 
--- src/lib.rt:184:13
 is-pair-requires : tie.Need-is-pair-requires
 is-pair-requires c κs = search needs
 
--- src/lib.rt:185:13
 returns : tie.Need-returns
 unfolding answer oneMinus
 returns c =
     let f = c .before .before .args .self in
     refused-as (isPair f && atMost (f .high) one) (ends (restEnd false (f .high)) (restEnd true (f .low))) (first-fails (isPair f) (atMost (f .high) one) (failed (c .before .is-pair .ensures) (c .if1 .taken)))
 
--- src/lib.rt:187:13
 at-most-requires : tie.Need-at-most-requires
 unfolding one
 at-most-requires c κs =
     let f = c .before .before .args .self in
     (pair-high f (passed (c .before .is-pair .ensures) (c .if1 .left)), one-number)
 
--- src/lib.rt:188:13
 returns-2 : tie.Need-returns-2
 unfolding answer oneMinus one
 returns-2 c =
     let f = c .before .before .before .before .args .self in
     refused-as (isPair f && atMost (f .high) one) (ends (restEnd false (f .high)) (restEnd true (f .low))) (second-fails (isPair f) (atMost (f .high) one) (failed (c .before .at-most .ensures) (c .if2 .taken)))
 
--- src/lib.rt:190:18
 rest-requires : tie.Need-rest-requires
 unfolding one
 rest-requires c κs =
@@ -70,7 +59,6 @@ rest-requires c κs =
     let k : atMost (f .high) one ≡ true = passed (c .before .at-most .ensures) (c .if2 .left) in
     (pair-high f h, k)
 
--- src/lib.rt:190:42
 rest-requires-2 : tie.Need-rest-requires-2
 unfolding one
 rest-requires-2 c κs =
@@ -79,11 +67,9 @@ rest-requires-2 c κs =
     let k : atMost (f .high) one ≡ true = passed (c .before .before .at-most .ensures) (c .before .if2 .left) in
     (pair-low f h, low-below f h k)
 
--- src/lib.rt:190:9
 answered-requires : tie.Need-answered-requires
 answered-requires c κs = search needs
 
--- src/lib.rt:181:5
 returns-3 : tie.Need-returns-3
 unfolding oneMinus one
 returns-3 c =

@@ -1,5 +1,5 @@
 -- Both operands are pairs, or the call is refused; then each end is worked. Assumes nothing.
-use mathlib.Core.Path.{_≡_, refl, sym, _∙_, ap, ap₂}
+use mathlib.Core.Path.{sym, _∙_, ap₂}
 use mathlib.Core.Bool.{true, false, _&&_}
 use borrow.Author.Needs.{needs}
 use Rattle.pair.specs.Number.{isPair}
@@ -9,34 +9,23 @@ use Rattle.pair.proofs.Numbers.{pairs-low, pairs-high}
 use Rattle.pair.proofs.Providing.{refused-as, told-as, failed, passed}
 use Rattle.pair.proofs.Pair.product.Statement.{statement}
 use Rattle.pair.proofs.Pair.product.Tie as tie
-use Rattle.pair.proofs.Pair.product.Reads as reads
-use Rattle.pair.proofs.Pair.product.Lts as lts
-use Rattle.pair.proofs.answered.Reads as answered-reads
-use Rattle.pair.proofs.are_pairs.Reads as are-pairs-reads
-use Rattle.pair.proofs.ends.product.Reads as product-reads
 
--- src/lib.rt:171:13
 are-pairs-requires : tie.Need-are-pairs-requires
 are-pairs-requires c κs = search needs
 
--- src/lib.rt:172:13
 returns : tie.Need-returns
 unfolding answer product
 returns c = let a = c .before .before .args in refused-as (isPair (a .self) && isPair (a .other)) (ends (productEnd false (a .self .low) (a .other .low)) (productEnd true (a .self .high) (a .other .high))) (sym (failed (c .before .are-pairs .ensures) (c .if1 .taken)))
 
--- src/lib.rt:175:13
 product-requires : tie.Need-product-requires
 product-requires c κs = let a = c .before .before .args in pairs-low (a .self) (a .other) (passed (c .before .are-pairs .ensures) (c .if1 .left))
 
--- src/lib.rt:176:13
 product-requires-2 : tie.Need-product-requires-2
 product-requires-2 c κs = let a = c .before .before .before .args in pairs-high (a .self) (a .other) (passed (c .before .before .are-pairs .ensures) (c .before .if1 .left))
 
--- src/lib.rt:174:9
 answered-requires : tie.Need-answered-requires
 answered-requires c κs = search needs
 
--- src/lib.rt:168:5
 returns-2 : tie.Need-returns-2
 unfolding product
 returns-2 c =

@@ -1,12 +1,12 @@
 -- Two pairs, the divisor's low end not 0, and so neither its high end. Assumes nothing.
-use mathlib.Core.Path.{_≡_, refl, sym, _∙_, ap, ap₂}
-use mathlib.Core.Bool.{Bool, true, false, _&&_, not}
+use mathlib.Core.Path.{_≡_, sym, _∙_, ap, ap₂}
+use mathlib.Core.Bool.{true, false, _&&_, not}
 use native.Mathlib.Omega.{arith}
 use borrow.Author.Needs.{needs}
 use Rattle.pair.specs.declared.Pair.{Pair}
-use Rattle.pair.specs.Number.{isZero, isNumber, isPair, atMost}
+use Rattle.pair.specs.Number.{isZero, isPair}
 use Rattle.pair.specs.Rounding.{quotientEnd}
-use Rattle.pair.specs.Calls.{Outcome, answer, ends, quotient}
+use Rattle.pair.specs.Calls.{answer, ends, quotient}
 use Rattle.pair.proofs.Numbers.{pair-low, pair-high, pair-order, zero-is, not-zero-is}
 use Rattle.pair.proofs.Providing.{first-fails, second-fails, first-holds, refused-as, told-as, failed, passed}
 use mathlib.Core.Bool.{true≢false}
@@ -16,11 +16,6 @@ use native.Mathlib.Nat.{eq-zero-or-pos}
 use Rattle.pair.proofs.Alignment.{order-zero-right}
 use Rattle.pair.proofs.Pair.quotient.Statement.{statement}
 use Rattle.pair.proofs.Pair.quotient.Tie as tie
-use Rattle.pair.proofs.Pair.quotient.Reads as reads
-use Rattle.pair.proofs.Pair.quotient.Lts as lts
-use Rattle.pair.proofs.answered.Reads as answered-reads
-use Rattle.pair.proofs.ends.quotient.Reads as quotient-reads
-use Rattle.pair.proofs.is_pair.Reads as is-pair-reads
 
 high-above : (q : Pair) → isPair q ≡ true → 0 < q .low .significand → 0 < q .high .significand
 high-above q h p =
@@ -29,11 +24,9 @@ high-above q h p =
     (λ l. l)
     (eq-zero-or-pos (q .high .significand))
 
--- src/lib.rt:164:13
 is-pair-requires : tie.Need-is-pair-requires
 is-pair-requires c κs = search needs
 
--- src/lib.rt:165:13
 returns : tie.Need-returns
 unfolding answer quotient
 returns c =
@@ -41,11 +34,9 @@ returns c =
     let q = c .before .before .args .divisor in
     refused-as (isPair p && (isPair q && not (isZero (q .low)))) (ends (quotientEnd false (p .low) (q .high)) (quotientEnd true (p .high) (q .low))) (first-fails (isPair p) (isPair q && not (isZero (q .low))) (failed (c .before .is-pair .ensures) (c .if1 .taken)))
 
--- src/lib.rt:167:13
 is-pair-requires-2 : tie.Need-is-pair-requires-2
 is-pair-requires-2 c κs = search needs
 
--- src/lib.rt:168:13
 returns-2 : tie.Need-returns-2
 unfolding answer quotient
 returns-2 c =
@@ -55,7 +46,6 @@ returns-2 c =
     (second-fails (isPair p) (isPair q && not (isZero (q .low)))
     (sym (first-fails (isPair q) (not (isZero (q .low))) (failed (c .before .is-pair2 .ensures) (c .if2 .taken)))))
 
--- src/lib.rt:172:13
 returns-3 : tie.Need-returns-3
 unfolding answer quotient
 returns-3 c =
@@ -67,7 +57,6 @@ returns-3 c =
     (second-fails (isPair p) (isPair q && not (isZero (q .low)))
     (sym (second-fails (isPair q) (not (isZero (q .low))) (ap not (zero-is (q .low) (pair-low q k) (c .if3 .taken))))))
 
--- src/lib.rt:175:13
 quotient-requires : tie.Need-quotient-requires
 quotient-requires c κs =
     let p = c .before .before .before .before .before .before .before .args .self in
@@ -76,7 +65,6 @@ quotient-requires c κs =
     let k : isPair q ≡ true = passed (c .before .before .before .before .is-pair2 .ensures) (c .before .before .before .if2 .left) in
     (pair-low p h, (pair-high q k, high-above q k (omega arith)))
 
--- src/lib.rt:176:13
 quotient-requires-2 : tie.Need-quotient-requires-2
 quotient-requires-2 c κs =
     let p = c .before .before .before .before .before .before .before .before .args .self in
@@ -85,11 +73,9 @@ quotient-requires-2 c κs =
     let k : isPair q ≡ true = passed (c .before .before .before .before .before .is-pair2 .ensures) (c .before .before .before .before .if2 .left) in
     (pair-high p h, (pair-low q k, omega arith))
 
--- src/lib.rt:174:9
 answered-requires : tie.Need-answered-requires
 answered-requires c κs = search needs
 
--- src/lib.rt:161:5
 returns-4 : tie.Need-returns-4
 unfolding answer quotient
 returns-4 c =

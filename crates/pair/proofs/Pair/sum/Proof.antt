@@ -1,5 +1,5 @@
 -- Both operands are pairs, or the call is refused; then each end is worked. Assumes nothing.
-use mathlib.Core.Path.{_≡_, refl, sym, _∙_, ap, ap₂}
+use mathlib.Core.Path.{sym, _∙_, ap₂}
 use mathlib.Core.Bool.{true, false, _&&_}
 use borrow.Author.Needs.{needs}
 use Rattle.pair.specs.Number.{isPair}
@@ -9,34 +9,23 @@ use Rattle.pair.proofs.Numbers.{pairs-low, pairs-high}
 use Rattle.pair.proofs.Providing.{refused-as, told-as, failed, passed}
 use Rattle.pair.proofs.Pair.sum.Statement.{statement}
 use Rattle.pair.proofs.Pair.sum.Tie as tie
-use Rattle.pair.proofs.Pair.sum.Reads as reads
-use Rattle.pair.proofs.Pair.sum.Lts as lts
-use Rattle.pair.proofs.answered.Reads as answered-reads
-use Rattle.pair.proofs.are_pairs.Reads as are-pairs-reads
-use Rattle.pair.proofs.ends.sum.Reads as sum-reads
 
--- src/lib.rt:159:13
 are-pairs-requires : tie.Need-are-pairs-requires
 are-pairs-requires c κs = search needs
 
--- src/lib.rt:160:13
 returns : tie.Need-returns
 unfolding answer sum
 returns c = let a = c .before .before .args in refused-as (isPair (a .self) && isPair (a .other)) (ends (sumEnd false (a .self .low) (a .other .low)) (sumEnd true (a .self .high) (a .other .high))) (sym (failed (c .before .are-pairs .ensures) (c .if1 .taken)))
 
--- src/lib.rt:163:13
 sum-requires : tie.Need-sum-requires
 sum-requires c κs = let a = c .before .before .args in pairs-low (a .self) (a .other) (passed (c .before .are-pairs .ensures) (c .if1 .left))
 
--- src/lib.rt:164:13
 sum-requires-2 : tie.Need-sum-requires-2
 sum-requires-2 c κs = let a = c .before .before .before .args in pairs-high (a .self) (a .other) (passed (c .before .before .are-pairs .ensures) (c .before .if1 .left))
 
--- src/lib.rt:162:9
 answered-requires : tie.Need-answered-requires
 answered-requires c κs = search needs
 
--- src/lib.rt:156:5
 returns-2 : tie.Need-returns-2
 unfolding sum
 returns-2 c =

@@ -1,7 +1,7 @@
 -- The sum of the aligned significands is divided by 10^g, or by ten times that where it has a figure more. Assumes nothing.
-use mathlib.Core.Path.{_≡_, refl, sym, _∙_, ap, subst}
-use Prim.Native.Nat.{ℕ, _+_, _*_, _^_, _≤_, _<_}
-use native.Mathlib.Nat.{mul-le-mul, mul-le-mul-right, le-trans}
+use mathlib.Core.Path.{subst}
+use Prim.Native.Nat.{ℕ, _+_, _*_, _≤_, _<_}
+use native.Mathlib.Nat.{mul-le-mul, mul-le-mul-right}
 use native.Mathlib.Omega.{arith}
 use lib.IntN.{ℤ, pos, _+ℤ_}
 use lib.Signed.{mag}
@@ -14,48 +14,37 @@ use Rattle.pair.proofs.Powers.{ten-above, power}
 use Rattle.pair.proofs.Sums.{sum-kept, sum-carried}
 use Rattle.pair.proofs.ends.added.Statement.{statement}
 use Rattle.pair.proofs.ends.added.Tie as tie
-use Rattle.pair.proofs.ends.added.Reads as reads
-use Rattle.pair.proofs.ends.added.Lts as lts
-use Rattle.pair.proofs.exponent.plus.Reads as plus-reads
-use Rattle.pair.proofs.rounding.nine.Reads as nine-reads
-use Rattle.pair.proofs.rounding.power.Reads as power-reads
 
 next-small : (e : ℤ) → mag e < 100000 → Small (e +ℤ pos 1)
 next-small e h = record { small = omega (arith, mag-plus e (pos 1)) }
 
--- src/ends.rt:94:9
 power-requires : tie.Need-power-requires
 power-requires c κs = search needs
 
--- src/ends.rt:95:13
 mul-t : tie.Need-mul-t
 mul-t c =
     let a = c .before in
     let p = power (a .args .g) (c .power .result) (a .pre .1 .1 .0) (c .power .ensures) in
     omega (arith, mul-le-mul (a .pre .0 .1) (p .most))
 
--- src/ends.rt:95:13
 add-t : tie.Need-add-t
 add-t c =
     let a = c .before in
     let p = power (a .args .g) (c .power .result) (a .pre .1 .1 .0) (c .power .ensures) in
     omega (arith, mul-le-mul (a .pre .0 .1) (p .most))
 
--- src/ends.rt:96:12
 mul-if1 : tie.Need-mul-if1
 mul-if1 c =
     let a = c .before in
     let p = power (a .args .g) (c .power .result) (a .pre .1 .1 .0) (c .power .ensures) in
     omega (arith, p .most)
 
--- src/ends.rt:97:9
 nine-requires : tie.Need-nine-requires
 nine-requires c κs =
     let a = c .before .before in
     let p = power (a .args .g) (c .before .power .result) (a .pre .1 .1 .0) (c .before .power .ensures) in
     (p .least, (omega (arith, mul-le-mul-right (c .before .power .result) (a .pre .0 .0)), (c .if1 .taken, rw (toZ-ofZ (a .fits .e)) (omega arith))))
 
--- src/ends.rt:97:9
 returns : tie.Need-returns
 returns c =
     let a = c .before .before .before in
@@ -64,18 +53,15 @@ returns c =
     (sum-kept (a .args .up) (a .args .m) (a .args .n) (a .args .g) (a .args .e) (a .pre .0 .0) (record { small = omega arith }) (omega arith)
     (subst (λ (x : ℕ). a .args .m * x + a .args .n < 1000000000 * x) (p .is) (c .before .if1 .taken)))
 
--- src/ends.rt:99:17
 mul-nine : tie.Need-mul-nine
 mul-nine c =
     let a = c .before .before in
     let p = power (a .args .g) (c .before .power .result) (a .pre .1 .1 .0) (c .before .power .ensures) in
     omega (arith, p .most)
 
--- src/ends.rt:99:25
 plus-requires : tie.Need-plus-requires
 plus-requires c κs = let a = c .before .before in rw (toZ-ofZ (a .fits .e)) (fits-plus (a .args .e) (pos 1) (omega arith))
 
--- src/ends.rt:99:5
 nine-requires-2 : tie.Need-nine-requires-2
 nine-requires-2 c κs =
     let a = c .before .before .before in
@@ -90,7 +76,6 @@ nine-requires-2 c κs =
       ),
     )
 
--- src/ends.rt:87:1
 returns-2 : tie.Need-returns-2
 returns-2 c =
     let a = c .before .before .before .before in

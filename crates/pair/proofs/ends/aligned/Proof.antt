@@ -1,24 +1,15 @@
 -- The two ways of the alignment, near and far, are one sum. Assumes nothing.
-use mathlib.Core.Path.{_≡_, refl, sym, _∙_, ap, subst}
-use mathlib.Core.Bool.{false}
-use Prim.Native.Nat.{ℕ, _+_, _*_, _^_, _≤_, _<_}
-use native.Mathlib.Omega.{arith}
+use mathlib.Core.Path.{_≡_, subst}
+use Prim.Native.Nat.{ℕ, _≤_, _<_}
 use lib.Dec.{lit≤}
-use lib.IntN.{ℤ, pos}
-use lib.Signed.{ltZ}
 use borrow.Author.Needs.{needs}
 use Rattle.pair.specs.Number.{place, rise}
 use Rattle.pair.proofs.Alignment.{nine-small, not-less-place}
-use Rattle.pair.proofs.Numbers.{Nine, number-nine, number-back, number-minus, back}
+use Rattle.pair.proofs.Numbers.{Nine, number-nine, number-back, number-minus}
 use Rattle.pair.proofs.Sums.{sum-near, sum-beyond}
 use Rattle.pair.proofs.ends.aligned.Statement.{statement}
 use Rattle.pair.proofs.ends.aligned.Tie as tie
-use Rattle.pair.proofs.ends.aligned.Reads as reads
-use Rattle.pair.proofs.ends.aligned.Lts as lts
-use Rattle.pair.proofs.ends.added.Reads as added-reads
-use Rattle.pair.proofs.exponent.above.Reads as above-reads
 
--- src/ends.rt:109:9
 above-requires : tie.Need-above-requires
 above-requires c κs =
     let a = c .before .before in (
@@ -26,11 +17,9 @@ above-requires c κs =
       rw (number-back (a .args .a) (a .pre .0 .0), number-back (a .args .b) (a .pre .1 .0 .0)) (a .pre .1 .1),
     )
 
--- src/ends.rt:111:26
 cast-added : tie.Need-cast-added
 cast-added c = search needs
 
--- src/ends.rt:111:9
 added-requires : tie.Need-added-requires
 added-requires c κs =
     let a = c .before .before .before .before .before .before in
@@ -38,7 +27,6 @@ added-requires c κs =
     let w : Nine (a .args .b) = number-nine (a .args .b) (a .pre .1 .0 .0) (a .pre .1 .0 .1) in
     ((v .least, v .most), (lit≤ tt, (lit≤ tt, rw (number-back (a .args .a) (a .pre .0 .0)) (v .reach))))
 
--- src/ends.rt:111:9
 returns : tie.Need-returns
 returns c =
     let a = c .before .before .before .before .before .before .before in
@@ -49,15 +37,12 @@ returns c =
     rw (c .added .ensures, number-back (a .args .a) (a .pre .0 .0))
     (sum-beyond (a .args .up) (a .args .a) (a .args .b) v w o (subst (λ (x : ℕ). 9 < x) h (search needs)))
 
--- src/ends.rt:113:15
 cast-added-2 : tie.Need-cast-added-2
 cast-added-2 c = search needs
 
--- src/ends.rt:113:49
 cast-added-3 : tie.Need-cast-added-3
 cast-added-3 c = search needs
 
--- src/ends.rt:113:5
 added-requires-2 : tie.Need-added-requires-2
 added-requires-2 c κs =
     let a = c .before .before .before .before .before .before .before in
@@ -65,7 +50,6 @@ added-requires-2 c κs =
     let w : Nine (a .args .b) = number-nine (a .args .b) (a .pre .1 .0 .0) (a .pre .1 .0 .1) in
     ((v .least, v .most), (w .most, (search needs, rw (number-back (a .args .a) (a .pre .0 .0)) (v .reach))))
 
--- src/ends.rt:103:1
 returns-2 : tie.Need-returns-2
 returns-2 c =
     let a = c .before .before .before .before .before .before .before .before in

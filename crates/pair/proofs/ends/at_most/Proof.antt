@@ -1,34 +1,24 @@
 -- 0 first, then the exponents, then the significands. Assumes nothing.
-use mathlib.Core.Path.{_≡_, refl, sym, _∙_, ap, subst}
-use mathlib.Core.Bool.{Bool, true, false}
-use Prim.Native.Nat.{ℕ, _≤_, _<_}
+use mathlib.Core.Path.{_≡_, sym, _∙_}
+use mathlib.Core.Bool.{true, false}
 use native.Mathlib.Nat.{le-antisymm}
 use native.Mathlib.Omega.{arith}
-use lib.IntN.{ℤ}
 use lib.Signed.{ltZ}
 use borrow.Author.Needs.{needs}
-use Rattle.pair.specs.Number.{place}
 use Rattle.pair.proofs.Alignment.{nine-small, less-place, not-less-place, order-below, order-above, order-same, order-zero-left, order-zero-right}
 use Rattle.pair.proofs.Numbers.{Nine, number-nine, number-back}
 use Rattle.pair.proofs.ends.at_most.Statement.{statement}
 use Rattle.pair.proofs.ends.at_most.Tie as tie
-use Rattle.pair.proofs.ends.at_most.Reads as reads
-use Rattle.pair.proofs.ends.at_most.Lts as lts
-use Rattle.pair.proofs.exponent.less.Reads as less-reads
 
--- src/ends.rt:35:9
 returns : tie.Need-returns
 returns c = let a = c .before .before in sym (order-zero-left (a .args .a) (a .args .b) (c .if1 .taken))
 
--- src/ends.rt:38:9
 returns-2 : tie.Need-returns-2
 returns-2 c = let a = c .before .before .before .before in sym (order-zero-right (a .args .a) (a .args .b) (omega arith) (c .if2 .taken))
 
--- src/ends.rt:40:8
 less-requires : tie.Need-less-requires
 less-requires c κs = search needs
 
--- src/ends.rt:41:9
 returns-3 : tie.Need-returns-3
 returns-3 c =
     let a = c .before .before .before .before .before .before .before .before in
@@ -37,11 +27,9 @@ returns-3 c =
     let t : ltZ (a .args .a .exponent) (a .args .b .exponent) ≡ true = rw (number-back (a .args .a) (a .pre .0), number-back (a .args .b) (a .pre .1)) at (sym (c .before .less .ensures) ∙ c .if3 .taken) in
     sym (order-below (a .args .a) (a .args .b) v w (less-place (nine-small v) (nine-small w) t))
 
--- src/ends.rt:43:8
 less-requires-2 : tie.Need-less-requires-2
 less-requires-2 c κs = search needs
 
--- src/ends.rt:44:9
 returns-4 : tie.Need-returns-4
 returns-4 c =
     let a = c .before .before .before .before .before .before .before .before .before .before .before .before in
@@ -50,7 +38,6 @@ returns-4 c =
     let t : ltZ (a .args .b .exponent) (a .args .a .exponent) ≡ true = rw (number-back (a .args .b) (a .pre .1), number-back (a .args .a) (a .pre .0)) at (sym (c .before .less2 .ensures) ∙ c .if4 .taken) in
     sym (order-above (a .args .a) (a .args .b) v w (less-place (nine-small w) (nine-small v) t))
 
--- src/ends.rt:29:1
 returns-5 : tie.Need-returns-5
 returns-5 c =
     let a = c .before .before .before .before .before .before .before .before .before .before .before .before .before .before in

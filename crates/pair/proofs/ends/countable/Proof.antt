@@ -1,43 +1,33 @@
 -- The difference of the exponents decides. Assumes nothing.
-use mathlib.Core.Path.{_≡_, refl, sym, _∙_, ap, subst}
-use mathlib.Core.Bool.{Bool, true, false, not}
-use Prim.Native.Nat.{ℕ, _≤_, _<_, _^_}
+use mathlib.Core.Path.{_≡_, sym, subst}
+use Prim.Native.Nat.{ℕ, _<_, _^_}
 use native.Mathlib.Omega.{arith}
-use lib.Dec.{lit<, ltb}
-use lib.IntN.{ℤ, pos, _-ℤ_}
+use lib.Dec.{lit<}
+use lib.IntN.{pos, _-ℤ_}
 use lib.Signed.{ltZ}
 use mir.Facts.{toZ-ofZ}
 use borrow.Author.Needs.{needs}
 use borrow.Author.Tests.{lt-ltb}
 use Rattle.pair.specs.Rounding.{unitsEnd}
-use Rattle.pair.proofs.Alignment.{Small}
 use Rattle.pair.proofs.Counts.{count-zero, count-test}
-use Rattle.pair.proofs.Numbers.{Nine, number-nine, number-back, number-mag, reach-mag, fits-minus, back}
+use Rattle.pair.proofs.Numbers.{number-nine, number-back, number-mag, reach-mag, fits-minus, back}
 use Rattle.pair.proofs.ends.countable.Statement.{statement}
 use Rattle.pair.proofs.ends.countable.Tie as tie
-use Rattle.pair.proofs.ends.countable.Reads as reads
-use Rattle.pair.proofs.ends.countable.Lts as lts
-use Rattle.pair.proofs.exponent.less.Reads as less-reads
-use Rattle.pair.proofs.exponent.minus.Reads as minus-reads
 
--- src/ends.rt:173:9
 returns : tie.Need-returns
 returns c up =
     let a = c .before .before in
     sym (lt-ltb (unitsEnd up (a .args .w) (a .args .u)) (10 ^ 19) (subst (λ (x : ℕ). x < 10 ^ 19) (count-zero up (a .args .w) (a .args .u) (c .if1 .taken)) (lit< tt)))
 
--- src/ends.rt:175:15
 minus-requires : tie.Need-minus-requires
 minus-requires c κs =
     let a = c .before .before .before in
     rw (number-back (a .args .w) (a .pre .0), toZ-ofZ (a .fits .u))
     (fits-minus (a .args .w .exponent) (a .args .u) (omega (arith, number-mag (a .args .w) (a .pre .0), reach-mag (a .args .u) (a .pre .1))))
 
--- src/ends.rt:175:6
 less-requires : tie.Need-less-requires
 less-requires c κs = search needs
 
--- src/ends.rt:167:1
 returns-2 : tie.Need-returns-2
 returns-2 c up =
     let a = c .before .before .before .before .before in

@@ -1,7 +1,6 @@
 -- 0 first, then the figures, then the exponent. Assumes nothing.
-use mathlib.Core.Path.{_≡_, refl, sym, _∙_, ap, subst}
-use mathlib.Core.Bool.{Bool, true, false, _&&_}
-use Prim.Native.Nat.{ℕ, _≤_, _<_}
+use mathlib.Core.Path.{sym, _∙_, ap}
+use mathlib.Core.Bool.{Bool, _&&_}
 use native.Mathlib.Omega.{arith}
 use mir.Facts.{toZ-ofZ}
 use mir.Syntax.{w32}
@@ -11,35 +10,25 @@ use Rattle.pair.specs.Number.{inReach}
 use Rattle.pair.proofs.Numbers.{is-zero-number, is-nine-number, nine-figures, too-few, too-many}
 use Rattle.pair.proofs.ends.is_number.Statement.{statement}
 use Rattle.pair.proofs.ends.is_number.Tie as tie
-use Rattle.pair.proofs.ends.is_number.Reads as reads
-use Rattle.pair.proofs.ends.is_number.Lts as lts
-use Rattle.pair.proofs.exponent.in_reach.Reads as in-reach-reads
-use Rattle.pair.proofs.exponent.is_zero.Reads as is-zero-reads
 
--- src/ends.rt:18:9
 is-zero-requires : tie.Need-is-zero-requires
 is-zero-requires c κs = search needs
 
--- src/ends.rt:18:9
 returns : tie.Need-returns
 returns c =
     let w = c .before .before .before .before .args .w in
     let f : SFits w32 (w .exponent) = search needs in
     rw (c .is-zero .ensures, toZ-ofZ f) (is-zero-number w (omega arith))
 
--- src/ends.rt:21:9
 returns-2 : tie.Need-returns-2
 returns-2 c = let w = c .before .before .before .before .args .w in ap (λ (t : Bool). t && inReach (w .exponent)) (sym (too-few (w .significand) (omega arith))) ∙ is-nine-number w (omega arith)
 
--- src/ends.rt:24:9
 returns-3 : tie.Need-returns-3
 returns-3 c = let w = c .before .before .before .before .before .before .args .w in ap (λ (t : Bool). t && inReach (w .exponent)) (sym (too-many (w .significand) (omega arith))) ∙ is-nine-number w (omega arith)
 
--- src/ends.rt:26:5
 in-reach-requires : tie.Need-in-reach-requires
 in-reach-requires c κs = search needs
 
--- src/ends.rt:14:1
 returns-4 : tie.Need-returns-4
 returns-4 c =
     let w = c .before .before .before .before .before .before .before .before .args .w in

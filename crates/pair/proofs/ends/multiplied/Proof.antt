@@ -1,30 +1,21 @@
 -- Either length of the product is divided by its own power of ten. Assumes nothing.
-use mathlib.Core.Path.{_≡_, refl, sym, _∙_, ap}
-use Prim.Native.Nat.{ℕ, _+_, _*_, _≤_, _<_}
+use Prim.Native.Nat.{_*_}
 use native.Mathlib.Omega.{arith}
 use lib.Dec.{lit<}
 use lib.IntN.{pos}
 use mir.Facts.{toZ-ofZ}
-use borrow.Author.Needs.{needs}
 use Rattle.pair.proofs.Exponents.{mag-plus}
 use Rattle.pair.proofs.Numbers.{fits-plus, back}
 use Rattle.pair.proofs.Shares.{product-least, product-most, product-short, product-long}
 use Rattle.pair.proofs.ends.multiplied.Statement.{statement}
 use Rattle.pair.proofs.ends.multiplied.Tie as tie
-use Rattle.pair.proofs.ends.multiplied.Reads as reads
-use Rattle.pair.proofs.ends.multiplied.Lts as lts
-use Rattle.pair.proofs.exponent.plus.Reads as plus-reads
-use Rattle.pair.proofs.rounding.nine.Reads as nine-reads
 
--- src/ends.rt:56:13
 mul-p : tie.Need-mul-p
 mul-p c = omega (arith, product-most (c .pre .0 .1) (c .pre .1 .0 .1))
 
--- src/ends.rt:58:41
 plus-requires : tie.Need-plus-requires
 plus-requires c κs = let a = c .before in rw (toZ-ofZ (a .fits .e)) (fits-plus (a .args .e) (pos 8) (omega arith))
 
--- src/ends.rt:58:9
 nine-requires : tie.Need-nine-requires
 nine-requires c κs =
     let a = c .before .before in (
@@ -38,18 +29,15 @@ nine-requires c κs =
       ),
     )
 
--- src/ends.rt:58:9
 returns : tie.Need-returns
 returns c =
     let a = c .before .before .before in
     rw (c .nine .ensures, back (c .before .plus .ok), c .before .plus .ensures, toZ-ofZ (a .fits .e))
     (product-short (a .args .up) (a .args .m * a .args .n) (a .args .e) (product-least (a .pre .0 .0) (a .pre .1 .0 .0)) (c .before .before .if1 .taken))
 
--- src/ends.rt:60:32
 plus-requires-2 : tie.Need-plus-requires-2
 plus-requires-2 c κs = let a = c .before in rw (toZ-ofZ (a .fits .e)) (fits-plus (a .args .e) (pos 9) (omega arith))
 
--- src/ends.rt:60:5
 nine-requires-2 : tie.Need-nine-requires-2
 nine-requires-2 c κs =
     let a = c .before .before in (
@@ -63,7 +51,6 @@ nine-requires-2 c κs =
       ),
     )
 
--- src/ends.rt:50:1
 returns-2 : tie.Need-returns-2
 returns-2 c =
     let a = c .before .before .before in

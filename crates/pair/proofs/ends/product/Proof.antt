@@ -1,52 +1,35 @@
 -- The significands are multiplied and the exponents added. Assumes nothing.
-use mathlib.Core.Path.{_≡_, refl, sym, _∙_, ap}
-use mathlib.Core.Bool.{true}
-use Prim.Native.Nat.{ℕ, _+_, _*_, _≤_, _<_}
-use native.Mathlib.Nat.{pos-of-ne-zero}
+use mathlib.Core.Path.{refl, _∙_}
 use native.Mathlib.Omega.{arith}
-use lib.IntN.{pos}
 use borrow.Author.Needs.{needs}
 use Rattle.pair.specs.Rounding.{productEnd}
 use Rattle.pair.proofs.Exponents.{mag-plus}
-use Rattle.pair.proofs.Numbers.{Nine, number-nine, number-mag, number-back, number-plus, back}
+use Rattle.pair.proofs.Numbers.{Nine, number-nine, number-back, number-plus, back}
 use Rattle.pair.proofs.Shares.{product-zero-left, product-zero-right}
 use Rattle.pair.proofs.ends.product.Statement.{statement}
 use Rattle.pair.proofs.ends.product.Tie as tie
-use Rattle.pair.proofs.ends.product.Reads as reads
-use Rattle.pair.proofs.ends.product.Lts as lts
-use Rattle.pair.proofs.ends.multiplied.Reads as multiplied-reads
-use Rattle.pair.proofs.exponent.plus.Reads as plus-reads
-use Rattle.pair.proofs.rounding.zero.Reads as zero-reads
 
--- src/ends.rt:69:9
 zero-requires : tie.Need-zero-requires
 zero-requires c κs = search needs
 
--- src/ends.rt:69:9
 returns : tie.Need-returns
 returns c = let a = c .before .before .before in c .zero .ensures ∙ product-zero-left (a .args .up) (a .args .a) (a .args .b) (search needs)
 
--- src/ends.rt:72:9
 zero-requires-2 : tie.Need-zero-requires-2
 zero-requires-2 c κs = search needs
 
--- src/ends.rt:72:9
 returns-2 : tie.Need-returns-2
 returns-2 c = let a = c .before .before .before .before .before in c .zero2 .ensures ∙ product-zero-right (a .args .up) (a .args .a) (a .args .b) (search needs)
 
--- src/ends.rt:74:9
 plus-requires : tie.Need-plus-requires
 plus-requires c κs = let a = c .before .before .before .before .before .before in number-plus (a .args .a) (a .args .b) (a .pre .0) (a .pre .1)
 
--- src/ends.rt:75:20
 cast-multiplied : tie.Need-cast-multiplied
 cast-multiplied c = search needs
 
--- src/ends.rt:75:42
 cast-multiplied-2 : tie.Need-cast-multiplied-2
 cast-multiplied-2 c = search needs
 
--- src/ends.rt:75:5
 multiplied-requires : tie.Need-multiplied-requires
 multiplied-requires c κs =
     let a = c .before .before .before .before .before .before .before .before .before in
@@ -60,7 +43,6 @@ multiplied-requires c κs =
       ),
     )
 
--- src/ends.rt:63:1
 returns-3 : tie.Need-returns-3
 unfolding productEnd
 returns-3 c =

@@ -1,44 +1,29 @@
 -- The significands are divided and the exponents subtracted. Assumes nothing.
-use mathlib.Core.Path.{_≡_, refl, sym, _∙_, ap}
-use mathlib.Core.Bool.{true}
-use Prim.Native.Nat.{ℕ, _+_, _*_, _≤_, _<_}
-use native.Mathlib.Nat.{pos-of-ne-zero}
+use mathlib.Core.Path.{refl, _∙_}
 use native.Mathlib.Omega.{arith}
-use lib.IntN.{pos}
 use borrow.Author.Needs.{needs}
 use Rattle.pair.specs.Rounding.{quotientEnd}
 use Rattle.pair.proofs.Exponents.{mag-minus}
-use Rattle.pair.proofs.Numbers.{Nine, number-nine, number-mag, number-back, number-minus, back}
+use Rattle.pair.proofs.Numbers.{Nine, number-nine, number-back, number-minus, back}
 use Rattle.pair.proofs.Shares.{quotient-zero}
 use Rattle.pair.proofs.ends.quotient.Statement.{statement}
 use Rattle.pair.proofs.ends.quotient.Tie as tie
-use Rattle.pair.proofs.ends.quotient.Reads as reads
-use Rattle.pair.proofs.ends.quotient.Lts as lts
-use Rattle.pair.proofs.ends.shared.Reads as shared-reads
-use Rattle.pair.proofs.exponent.minus.Reads as minus-reads
-use Rattle.pair.proofs.rounding.zero.Reads as zero-reads
 
--- src/ends.rt:98:9
 zero-requires : tie.Need-zero-requires
 zero-requires c κs = search needs
 
--- src/ends.rt:98:9
 returns : tie.Need-returns
 returns c = let a = c .before .before .before in c .zero .ensures ∙ quotient-zero (a .args .up) (a .args .a) (a .args .b) (search needs)
 
--- src/ends.rt:100:9
 minus-requires : tie.Need-minus-requires
 minus-requires c κs = let a = c .before .before .before .before in number-minus (a .args .a) (a .args .b) (a .pre .0) (a .pre .1 .0)
 
--- src/ends.rt:101:16
 cast-shared : tie.Need-cast-shared
 cast-shared c = search needs
 
--- src/ends.rt:101:38
 cast-shared-2 : tie.Need-cast-shared-2
 cast-shared-2 c = search needs
 
--- src/ends.rt:101:5
 shared-requires : tie.Need-shared-requires
 shared-requires c κs =
     let a = c .before .before .before .before .before .before .before in
@@ -52,7 +37,6 @@ shared-requires c κs =
       ),
     )
 
--- src/ends.rt:91:1
 returns-2 : tie.Need-returns-2
 unfolding quotientEnd
 returns-2 c =

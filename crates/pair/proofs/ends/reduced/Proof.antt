@@ -1,21 +1,17 @@
 -- What is taken away leaves nine figures. Assumes nothing.
-use mathlib.Core.Path.{_≡_, refl, sym, _∙_, ap, subst}
-use Prim.Native.Nat.{ℕ, _+_, _-_, _*_, _^_, _≤_, _<_}
+use mathlib.Core.Path.{_≡_, sym, subst}
+use Prim.Native.Nat.{ℕ, _+_, _*_, _≤_}
 use native.Mathlib.Omega.{arith}
 use lib.Dec.{lit<}
-use lib.IntN.{ℤ, pos, negsuc, _-ℤ_}
+use lib.IntN.{pos, negsuc, _-ℤ_}
 use borrow.Author.Needs.{needs}
 use Rattle.pair.specs.Number.{depth, place}
 use Rattle.pair.proofs.Alignment.{Small}
 use Rattle.pair.proofs.Exponents.{mag-minus, place-minus}
-use Rattle.pair.proofs.Powers.{ten-above, ten-rises, power}
+use Rattle.pair.proofs.Powers.{ten-rises, power}
 use Rattle.pair.proofs.Rests.{rest-near}
 use Rattle.pair.proofs.ends.reduced.Statement.{statement}
 use Rattle.pair.proofs.ends.reduced.Tie as tie
-use Rattle.pair.proofs.ends.reduced.Reads as reads
-use Rattle.pair.proofs.ends.reduced.Lts as lts
-use Rattle.pair.proofs.rounding.nine.Reads as nine-reads
-use Rattle.pair.proofs.rounding.power.Reads as power-reads
 
 lower : (g : ℕ) → g ≤ 9 → Small (negsuc 8 -ℤ pos g)
 lower g h = record { small = omega (arith, mag-minus (negsuc 8) (pos g)) }
@@ -24,11 +20,9 @@ apart : (g : ℕ) → g ≤ 9 → place (negsuc 8 -ℤ pos g) + g ≡ place (neg
 unfolding depth place
 apart g h = omega (arith, place-minus (negsuc 8) (pos g) (omega arith))
 
--- src/ends.rt:139:9
 power-requires : tie.Need-power-requires
 power-requires c κs = search needs
 
--- src/ends.rt:140:14
 mul-nine : tie.Need-mul-nine
 mul-nine c =
     let a = c .before in
@@ -36,7 +30,6 @@ mul-nine c =
     let ten : 10 ≤ c .power .result = subst (λ (x : ℕ). 10 ≤ x) (sym (p .is)) (ten-rises {i = 1} (a .pre .1 .0)) in
     omega (arith, p .most)
 
--- src/ends.rt:140:14
 sub-nine : tie.Need-sub-nine
 sub-nine c =
     let a = c .before in
@@ -44,7 +37,6 @@ sub-nine c =
     let ten : 10 ≤ c .power .result = subst (λ (x : ℕ). 10 ≤ x) (sym (p .is)) (ten-rises {i = 1} (a .pre .1 .0)) in
     omega (arith, ten)
 
--- src/ends.rt:140:5
 nine-requires : tie.Need-nine-requires
 nine-requires c κs =
     let a = c .before in
@@ -52,7 +44,6 @@ nine-requires c κs =
     let ten : 10 ≤ c .power .result = subst (λ (x : ℕ). 10 ≤ x) (sym (p .is)) (ten-rises {i = 1} (a .pre .1 .0)) in
     (p .least, (omega (arith, ten), (omega (arith, ten), lit< tt)))
 
--- src/ends.rt:134:1
 returns : tie.Need-returns
 returns c =
     let a = c .before .before in

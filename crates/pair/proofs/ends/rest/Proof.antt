@@ -1,28 +1,20 @@
 -- 0 and 1 by themselves, then by how far f's last figure lies below the ninth place. Assumes nothing.
-use mathlib.Core.Path.{_≡_, refl, sym, _∙_, ap, subst}
+use mathlib.Core.Path.{_≡_, sym, _∙_, ap, subst}
 use mathlib.Core.Bool.{Bool, true, false}
 use Prim.Native.Nat.{ℕ, _+_, _-_, _*_, _^_, _≤_, _<_}
-use native.Mathlib.Nat.{pos-of-ne-zero}
 use native.Mathlib.Omega.{arith}
 use lib.Dec.{lit<}
-use lib.IntN.{ℤ, pos, negsuc, _-ℤ_}
+use lib.IntN.{pos, negsuc, _-ℤ_}
 use lib.Signed.{ltZ}
 use borrow.Author.Needs.{needs}
 use Rattle.pair.specs.declared.Number.{Number}
-use Rattle.pair.specs.Number.{depth, place, rise, isNumber, atMost, one}
+use Rattle.pair.specs.Number.{place, rise}
 use Rattle.pair.specs.Rounding.{rounded, restEnd}
 use Rattle.pair.proofs.Alignment.{Small, nine-small, rise-of, same-place, fallen, less-place, not-less-place}
-use Rattle.pair.proofs.Numbers.{Nine, number-nine, number-back, number-mag, fits-minus}
+use Rattle.pair.proofs.Numbers.{Nine, number-nine, number-back, fits-minus}
 use Rattle.pair.proofs.Rests.{rest-zero, rest-one, rest-below, rest-far}
 use Rattle.pair.proofs.ends.rest.Statement.{statement}
 use Rattle.pair.proofs.ends.rest.Tie as tie
-use Rattle.pair.proofs.ends.rest.Reads as reads
-use Rattle.pair.proofs.ends.rest.Lts as lts
-use Rattle.pair.proofs.ends.reduced.Reads as reduced-reads
-use Rattle.pair.proofs.exponent.above.Reads as above-reads
-use Rattle.pair.proofs.exponent.less.Reads as less-reads
-use Rattle.pair.proofs.rounding.normal.Reads as normal-reads
-use Rattle.pair.proofs.rounding.zero.Reads as zero-reads
 
 nine-down : Small (negsuc 8)
 nine-down = record { small = lit< tt }
@@ -46,27 +38,21 @@ module _ (up : Bool) (f : Number) (n : Nine f) (h : place (f .exponent) ≤ plac
   beyond : 9 < g → rounded up (1000000000 * 10 ^ 9 - 1) 1 (negsuc 8 -ℤ pos 9) ≡ restEnd up f
   beyond far = rest-far up (f .significand) g (f .exponent) (omega (arith, n .least)) (n .most) (nine-small n) apart far ∙ by-g
 
--- src/ends.rt:168:9
 normal-requires : tie.Need-normal-requires
 normal-requires c κs = search needs
 
--- src/ends.rt:168:9
 returns : tie.Need-returns
 returns c = let a = c .before .before .before in c .normal .ensures (a .args .up) ∙ rest-zero (a .args .up) (a .args .f) (a .pre .0) (c .before .if1 .taken)
 
--- src/ends.rt:170:13
 cast-m : tie.Need-cast-m
 cast-m c = search needs
 
--- src/ends.rt:171:8
 less-requires : tie.Need-less-requires
 less-requires c κs = search needs
 
--- src/ends.rt:172:9
 zero-requires : tie.Need-zero-requires
 zero-requires c κs = search needs
 
--- src/ends.rt:172:9
 returns-2 : tie.Need-returns-2
 returns-2 c =
     let a = c .before .before .before .before .before .before .before in
@@ -74,7 +60,6 @@ returns-2 c =
     let t : ltZ (negsuc 8) (a .args .f .exponent) ≡ true = rw (number-back (a .args .f) (a .pre .0)) at (sym (c .before .before .less .ensures) ∙ c .before .if2 .taken) in
     c .zero .ensures ∙ rest-one (a .args .up) (a .args .f) n (a .pre .1) (less-place nine-down (nine-small n) t)
 
--- src/ends.rt:174:9
 above-requires : tie.Need-above-requires
 above-requires c κs =
     let a = c .before .before .before .before .before .before .before in
@@ -82,18 +67,15 @@ above-requires c κs =
     let t : ltZ (negsuc 8) (a .args .f .exponent) ≡ false = rw (number-back (a .args .f) (a .pre .0)) at (sym (c .before .before .less .ensures) ∙ c .before .if2 .left) in
     (rw (number-back (a .args .f) (a .pre .0)) (fits-minus (negsuc 8) (a .args .f .exponent) (omega (arith, n .reach))), rw (number-back (a .args .f) (a .pre .0)) t)
 
--- src/ends.rt:176:23
 sub-normal : tie.Need-sub-normal
 sub-normal c =
     let a = c .before .before .before .before .before .before .before .before .before in
     let n : Nine (a .args .f) = number-nine (a .args .f) (a .pre .0) (omega arith) in
     omega (arith, n .most)
 
--- src/ends.rt:176:9
 normal-requires-2 : tie.Need-normal-requires-2
 normal-requires-2 c κs = search needs
 
--- src/ends.rt:176:9
 returns-3 : tie.Need-returns-3
 returns-3 c =
     let a = c .before .before .before .before .before .before .before .before .before .before in
@@ -103,11 +85,9 @@ returns-3 c =
     let h : place (a .args .f .exponent) ≤ place (negsuc 8) = not-less-place nine-down (nine-small n) t in
     c .normal2 .ensures (a .args .up) ∙ at-nine (a .args .up) (a .args .f) n h (c .before .before .above .result) g (c .before .if3 .taken)
 
--- src/ends.rt:179:9
 reduced-requires : tie.Need-reduced-requires
 reduced-requires c κs = search needs
 
--- src/ends.rt:179:9
 returns-4 : tie.Need-returns-4
 returns-4 c =
     let a = c .before .before .before .before .before .before .before .before .before .before .before in
@@ -117,14 +97,12 @@ returns-4 c =
     let h : place (a .args .f .exponent) ≤ place (negsuc 8) = not-less-place nine-down (nine-small n) t in
     c .reduced .ensures ∙ beyond (a .args .up) (a .args .f) n h (c .before .before .before .above .result) g (c .before .if4 .taken)
 
--- src/ends.rt:181:5
 reduced-requires-2 : tie.Need-reduced-requires-2
 reduced-requires-2 c κs =
     let a = c .before .before .before .before .before .before .before .before .before .before in
     let n : Nine (a .args .f) = number-nine (a .args .f) (a .pre .0) (omega arith) in
     ((omega (arith, n .least), n .most), (omega arith, omega arith))
 
--- src/ends.rt:162:1
 returns-5 : tie.Need-returns-5
 returns-5 c =
     let a = c .before .before .before .before .before .before .before .before .before .before .before in

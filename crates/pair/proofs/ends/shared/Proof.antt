@@ -1,8 +1,5 @@
 -- Which of the two is greater decides how many zeros the dividend gets. Assumes nothing.
-use mathlib.Core.Path.{_≡_, refl, sym, _∙_, ap}
-use Prim.Native.Nat.{ℕ, _+_, _*_, _≤_, _<_}
 use native.Mathlib.Omega.{arith}
-use lib.Dec.{lit<}
 use lib.IntN.{negsuc}
 use mir.Facts.{toZ-ofZ}
 use borrow.Author.Needs.{needs}
@@ -11,47 +8,35 @@ use Rattle.pair.proofs.Numbers.{fits-plus, back}
 use Rattle.pair.proofs.Shares.{quotient-below, quotient-above}
 use Rattle.pair.proofs.ends.shared.Statement.{statement}
 use Rattle.pair.proofs.ends.shared.Tie as tie
-use Rattle.pair.proofs.ends.shared.Reads as reads
-use Rattle.pair.proofs.ends.shared.Lts as lts
-use Rattle.pair.proofs.exponent.plus.Reads as plus-reads
-use Rattle.pair.proofs.rounding.nine.Reads as nine-reads
 
--- src/ends.rt:86:25
 mul-nine : tie.Need-mul-nine
 mul-nine c = search needs
 
--- src/ends.rt:86:47
 plus-requires : tie.Need-plus-requires
 plus-requires c κs = let a = c .before in rw (toZ-ofZ (a .fits .e)) (fits-plus (a .args .e) (negsuc 8) (omega arith))
 
--- src/ends.rt:86:9
 nine-requires : tie.Need-nine-requires
 nine-requires c κs =
     let a = c .before .before in
     (omega arith, (omega arith, (omega arith, rw (back (c .plus .ok), c .plus .ensures, toZ-ofZ (a .fits .e)) (omega (arith, mag-plus (a .args .e) (negsuc 8))))))
 
--- src/ends.rt:86:9
 returns : tie.Need-returns
 returns c =
     let a = c .before .before .before in
     rw (c .nine .ensures, back (c .before .plus .ok), c .before .plus .ensures, toZ-ofZ (a .fits .e))
     (quotient-below (a .args .up) (a .args .m) (a .args .n) (a .args .e) (a .pre .0 .0) (a .pre .1 .0 .1) (omega arith) (c .before .before .if1 .taken))
 
--- src/ends.rt:88:14
 mul-nine-2 : tie.Need-mul-nine-2
 mul-nine-2 c = search needs
 
--- src/ends.rt:88:34
 plus-requires-2 : tie.Need-plus-requires-2
 plus-requires-2 c κs = let a = c .before in rw (toZ-ofZ (a .fits .e)) (fits-plus (a .args .e) (negsuc 7) (omega arith))
 
--- src/ends.rt:88:5
 nine-requires-2 : tie.Need-nine-requires-2
 nine-requires-2 c κs =
     let a = c .before .before in
     (omega arith, (omega arith, (omega arith, rw (back (c .plus2 .ok), c .plus2 .ensures, toZ-ofZ (a .fits .e)) (omega (arith, mag-plus (a .args .e) (negsuc 7))))))
 
--- src/ends.rt:79:1
 returns-2 : tie.Need-returns-2
 returns-2 c =
     let a = c .before .before .before in

@@ -1,31 +1,25 @@
 -- Which of the two exponents is the lower decides whether the significand is divided or multiplied. Assumes nothing.
-use mathlib.Core.Path.{_≡_, refl, sym, _∙_, ap, subst}
-use mathlib.Core.Bool.{Bool, true, false, not}
-use Prim.Native.Nat.{ℕ, _+_, _*_, _≤_, _<_, _^_}
-use native.Mathlib.Nat.{mul-le-mul, lt-of-not-le, le-trans}
+use mathlib.Core.Path.{_≡_, sym, _∙_, subst}
+use mathlib.Core.Bool.{Bool, true, false}
+use Prim.Native.Nat.{ℕ, _≤_, _<_, _^_}
+use native.Mathlib.Nat.{mul-le-mul}
 use native.Mathlib.Omega.{arith}
-use lib.Dec.{lit<, ltb}
-use lib.IntN.{ℤ, pos, _-ℤ_}
+use lib.Dec.{ltb}
+use lib.IntN.{ℤ}
 use lib.Signed.{ltZ}
 use mir.Facts.{toZ-ofZ}
 use borrow.Author.Needs.{needs}
 use borrow.Author.Tests.{ltb-true, ltb-false}
 use Rattle.pair.specs.declared.Number.{Number}
-use Rattle.pair.specs.Number.{place, rise, isNumber, inReach}
+use Rattle.pair.specs.Number.{place, rise, inReach}
 use Rattle.pair.specs.Rounding.{unitsEnd}
 use Rattle.pair.proofs.Alignment.{Small, nine-small, rise-of, less-place, not-less-place, less-turned}
 use Rattle.pair.proofs.Counts.{count-zero, count-above, count-far, count-below, count-long}
 use Rattle.pair.proofs.Exponents.{by-cases}
-use Rattle.pair.proofs.Numbers.{Nine, number-nine, number-back, number-mag, reach-mag, fits-minus, back}
-use Rattle.pair.proofs.Powers.{ten-above, ten-rises, power}
+use Rattle.pair.proofs.Numbers.{Nine, number-nine, number-back, reach-mag, fits-minus}
+use Rattle.pair.proofs.Powers.{ten-rises, power}
 use Rattle.pair.proofs.ends.units.Statement.{statement}
 use Rattle.pair.proofs.ends.units.Tie as tie
-use Rattle.pair.proofs.ends.units.Reads as reads
-use Rattle.pair.proofs.ends.units.Lts as lts
-use Rattle.pair.proofs.exponent.above.Reads as above-reads
-use Rattle.pair.proofs.exponent.less.Reads as less-reads
-use Rattle.pair.proofs.rounding.power.Reads as power-reads
-use Rattle.pair.proofs.rounding.whole.Reads as whole-reads
 
 unit-small : (u : ℤ) → inReach u ≡ true → Small u
 unit-small u h = record { small = omega (arith, reach-mag u h) }
@@ -41,19 +35,15 @@ short up w u n small t h =
     (arith, ltb-true (unitsEnd up w u) (10 ^ 19) t, count-long up w u n small (omega (arith, ltb-true 10 (rise u (w .exponent)) l, rise-of small (nine-small n) h)))))
     (λ l. ltb-false 10 (rise u (w .exponent)) l)
 
--- src/ends.rt:186:9
 returns : tie.Need-returns
 returns c = let a = c .before .before in count-zero (a .args .up) (a .args .w) (a .args .u) (c .if1 .taken)
 
--- src/ends.rt:188:13
 cast-m : tie.Need-cast-m
 cast-m c = search needs
 
--- src/ends.rt:189:8
 less-requires : tie.Need-less-requires
 less-requires c κs = search needs
 
--- src/ends.rt:190:13
 above-requires : tie.Need-above-requires
 above-requires c κs =
     let a = c .before .before .before .before .before .before .before in
@@ -64,11 +54,9 @@ above-requires c κs =
       rw (number-back (a .args .w) (a .pre .0), toZ-ofZ (a .fits .u)) (less-turned (nine-small n) v t),
     )
 
--- src/ends.rt:192:13
 whole-requires : tie.Need-whole-requires
 whole-requires c κs = search needs
 
--- src/ends.rt:192:13
 returns-2 : tie.Need-returns-2
 returns-2 c =
     let a = c .before .before .before .before .before .before .before .before .before .before in
@@ -79,11 +67,9 @@ returns-2 c =
     let l : place (a .args .w .exponent) < place (a .args .u) = less-place (nine-small n) v t in
     c .whole .ensures ∙ count-far (a .args .up) (a .args .w) (a .args .u) n v (omega arith) (subst (λ (x : ℕ). 9 < x) g (search needs))
 
--- src/ends.rt:194:29
 power-requires : tie.Need-power-requires
 power-requires c κs = search needs
 
--- src/ends.rt:194:9
 whole-requires-2 : tie.Need-whole-requires-2
 whole-requires-2 c κs =
     let a = c .before .before .before .before .before .before .before .before .before .before in
@@ -92,7 +78,6 @@ whole-requires-2 c κs =
     let p = power (c .before .before .above .result) (c .power .result) (search needs) (c .power .ensures) in
     (p .least, omega (arith, n .most, p .least))
 
--- src/ends.rt:194:9
 returns-3 : tie.Need-returns-3
 returns-3 c =
     let a = c .before .before .before .before .before .before .before .before .before .before .before in
@@ -104,7 +89,6 @@ returns-3 c =
     rw (c .whole2 .ensures, c .before .power .ensures, g)
     (count-above (a .args .up) (a .args .w) (a .args .u) n v (omega arith))
 
--- src/ends.rt:196:15
 above-requires-2 : tie.Need-above-requires-2
 above-requires-2 c κs =
     let a = c .before .before .before .before .before .before .before in
@@ -115,7 +99,6 @@ above-requires-2 c κs =
       rw (number-back (a .args .w) (a .pre .0), toZ-ofZ (a .fits .u)) t,
     )
 
--- src/ends.rt:196:9
 power-requires-2 : tie.Need-power-requires-2
 power-requires-2 c κs =
     let a = c .before .before .before .before .before .before .before .before in
@@ -127,7 +110,6 @@ power-requires-2 c κs =
     let s : rise (a .args .u) (a .args .w .exponent) ≤ 10 = short (a .args .up) (a .args .w) (a .args .u) n v (a .pre .1 .1) l in
     omega arith
 
--- src/ends.rt:196:5
 mul-result : tie.Need-mul-result
 mul-result c =
     let a = c .before .before .before .before .before .before .before .before .before in
@@ -140,7 +122,6 @@ mul-result c =
     let q : c .power2 .result ≤ 10 ^ 10 = subst (λ (x : ℕ). x ≤ 10 ^ 10) (sym (c .power2 .ensures)) (ten-rises {j = 10} (omega arith)) in
     omega (arith, mul-le-mul (n .most) q)
 
--- src/ends.rt:179:1
 returns-4 : tie.Need-returns-4
 returns-4 c =
     let a = c .before .before .before .before .before .before .before .before .before in

@@ -1,19 +1,10 @@
 -- The difference fits and is not negative, so the cast keeps it. Assumes nothing.
-use mathlib.Core.Path.{_≡_, refl, sym, _∙_, ap, subst}
-use Prim.Native.Nat.{_<_, _^_}
-use lib.Dec.{T}
-use lib.IntN.{ℤ, _-ℤ_, natAbs}
-use lib.Signed.{nonNeg, ltZ}
 use mir.Facts.{toZ-ofZ, fits-natAbs}
-use mir.Syntax.{w32, w64}
-use mir.Val.{SFits, Fits}
 use borrow.Author.Needs.{needs}
 use Rattle.pair.specs.Number.{rise}
 use Rattle.pair.proofs.Exponents.{minus-not-below}
 use Rattle.pair.proofs.exponent.above.Statement.{statement}
 use Rattle.pair.proofs.exponent.above.Tie as tie
-use Rattle.pair.proofs.exponent.above.Reads as reads
-use Rattle.pair.proofs.exponent.above.Lts as lts
 
 sub-result : tie.Need-sub-result
 sub-result c = search needs

@@ -1,16 +1,11 @@
 -- A number below 2^31 is the same signed. Assumes nothing.
-use mathlib.Core.Path.{_≡_}
-use Prim.Native.Nat.{_<_, _^_}
 use native.Mathlib.Omega.{arith}
-use lib.IntN.{ℤ, pos}
+use lib.IntN.{pos}
 use mir.Facts.{toZ-ofZ}
-use mir.Syntax.{w32, w64}
-use mir.Val.{SFits}
+use mir.Syntax.{w32}
 use borrow.Author.Needs.{needs}
 use Rattle.pair.proofs.exponent.figures.Statement.{statement}
 use Rattle.pair.proofs.exponent.figures.Tie as tie
-use Rattle.pair.proofs.exponent.figures.Reads as reads
-use Rattle.pair.proofs.exponent.figures.Lts as lts
 
 cast-result : tie.Need-cast-result
 cast-result c = search needs

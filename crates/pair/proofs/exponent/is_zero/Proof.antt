@@ -3,15 +3,10 @@ use borrow.Author.Needs.{needs}
 use Rattle.pair.specs.Number.{zeroExponent}
 use Rattle.pair.proofs.exponent.is_zero.Statement.{statement}
 use Rattle.pair.proofs.exponent.is_zero.Tie as tie
-use Rattle.pair.proofs.exponent.is_zero.Reads as reads
-use Rattle.pair.proofs.exponent.is_zero.Lts as lts
-use Rattle.pair.proofs.exponent.within.Reads as within-reads
 
--- src/exponent.rt:67:5
 within-requires : tie.Need-within-requires
 within-requires c κs = search needs
 
--- src/exponent.rt:64:1
 returns : tie.Need-returns
 unfolding zeroExponent
 returns c = simp (toZ-ofZ (c .before .fits .e)) at (c .within .ensures)

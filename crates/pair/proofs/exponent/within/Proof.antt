@@ -1,31 +1,24 @@
-use mathlib.Core.Path.{_≡_, refl, sym, _∙_, ap, subst}
-use mathlib.Core.Bool.{true, false, _&&_, not}
-use lib.Signed.{leZ, ltZ}
+use mathlib.Core.Path.{_≡_, sym, _∙_}
+use mathlib.Core.Bool.{true, false}
+use lib.Signed.{ltZ}
 use mir.Facts.{toZ-ofZ}
 use borrow.Author.Needs.{needs}
 use Rattle.pair.proofs.Exponents.{leZ-of}
 use Rattle.pair.proofs.exponent.within.Statement.{statement}
 use Rattle.pair.proofs.exponent.within.Tie as tie
-use Rattle.pair.proofs.exponent.within.Reads as reads
-use Rattle.pair.proofs.exponent.within.Lts as lts
-use Rattle.pair.proofs.exponent.less.Reads as less-reads
 
--- src/exponent.rt:51:8
 less-requires : tie.Need-less-requires
 less-requires c κs = search needs
 
--- src/exponent.rt:52:9
 returns : tie.Need-returns
 returns c =
     let a = c .before .before in
     let t : ltZ (a .args .e) (a .args .least) ≡ true = simp (toZ-ofZ (a .fits .e), toZ-ofZ (a .fits .least)) at (sym (c .before .less .ensures) ∙ c .if1 .taken) in
     rw (leZ-of (a .args .e) (a .args .least) true t)
 
--- src/exponent.rt:54:6
 less-requires-2 : tie.Need-less-requires-2
 less-requires-2 c κs = search needs
 
--- src/exponent.rt:48:1
 returns-2 : tie.Need-returns-2
 returns-2 c =
     let a = c .before .before .before in

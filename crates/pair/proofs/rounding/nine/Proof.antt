@@ -1,19 +1,14 @@
 -- Below 10^9 the whole part stands as it is, else it is 10^9 and the carry raises the exponent. Assumes nothing.
-use mathlib.Core.Path.{_≡_, refl, sym, _∙_, ap}
-use Prim.Native.Nat.{ℕ, _+_, _*_, _≤_, _<_}
+use mathlib.Core.Path.{refl}
 use native.Mathlib.Omega.{arith}
 use lib.IntN.{pos}
 use mir.Facts.{toZ-ofZ}
 use borrow.Author.Needs.{needs}
 use borrow.Author.Tests.{lt-ltb, le-ltb}
-use Rattle.pair.specs.Rounding.{divided, carried}
+use Rattle.pair.specs.Rounding.{carried}
 use Rattle.pair.proofs.Numbers.{fits-plus, back}
 use Rattle.pair.proofs.rounding.nine.Statement.{statement}
 use Rattle.pair.proofs.rounding.nine.Tie as tie
-use Rattle.pair.proofs.rounding.nine.Reads as reads
-use Rattle.pair.proofs.rounding.nine.Lts as lts
-use Rattle.pair.proofs.rounding.whole.Reads as whole-reads
-use Rattle.pair.proofs.exponent.plus.Reads as plus-reads
 
 whole-requires : tie.Need-whole-requires
 whole-requires c κs = search needs

@@ -1,11 +1,10 @@
 -- The loop keeps filled = m × 10^k, at most nine figures; at its end filled has nine. Assumes nothing.
-use mathlib.Core.Path.{_≡_, refl, sym, _∙_, ap, subst}
+use mathlib.Core.Path.{_≡_, sym, _∙_, ap, subst}
 use mathlib.Core.Bool.{Bool}
-use Prim.Native.Nat.{ℕ, zero, suc, _+_, _-_, _*_, _^_, _≤_, _<_}
-use native.Mathlib.Nat.{pow-suc, mul-assoc, le-mul-of-pos-right, lt-of-le-of-lt, le-trans, pos-of-ne-zero}
+use Prim.Native.Nat.{ℕ, zero, _+_, _-_, _*_, _^_, _≤_, _<_}
+use native.Mathlib.Nat.{pow-suc, mul-assoc, lt-of-le-of-lt, le-trans, pos-of-ne-zero}
 use native.Mathlib.Numerals.{add-one}
 use native.Mathlib.Omega.{arith}
-use lib.Dec.{lit<}
 use lib.IntN.{ℤ, pos, _-ℤ_}
 use mir.Facts.{toZ-ofZ}
 use borrow.Author.Needs.{needs}
@@ -18,11 +17,6 @@ use Rattle.pair.proofs.Powers.{ten-above, ten-add, ten-reflects}
 use Rattle.pair.proofs.Rounds.{rounded-exact}
 use Rattle.pair.proofs.rounding.normal.Statement.{statement}
 use Rattle.pair.proofs.rounding.normal.Tie as tie
-use Rattle.pair.proofs.rounding.normal.Reads as reads
-use Rattle.pair.proofs.rounding.normal.Lts as lts
-use Rattle.pair.proofs.rounding.zero.Reads as zero-reads
-use Rattle.pair.proofs.exponent.figures.Reads as figures-reads
-use Rattle.pair.proofs.exponent.minus.Reads as minus-reads
 
 record Filled (m filled k : ℕ) : Type 0 where
   figures : filled ≡ m * 10 ^ k

@@ -1,16 +1,11 @@
 -- Each way out is one case of what rounding adds. Assumes nothing.
-use mathlib.Core.Path.{_≡_, refl, sym, _∙_, ap}
-use mathlib.Core.Bool.{Bool, true, false}
-use Prim.Native.Nat.{ℕ, zero, suc, _+_, _*_, _/_, _%_, _≤_, _<_}
+use mathlib.Core.Path.{sym}
 use native.Mathlib.Nat.{div-lt-iff-lt-mul}
 use native.Mathlib.Omega.{arith}
 use borrow.Author.Needs.{needs}
-use Rattle.pair.specs.Rounding.{divided}
 use Rattle.pair.proofs.Dividing.{divided-down, divided-even, divided-left}
 use Rattle.pair.proofs.rounding.whole.Statement.{statement}
 use Rattle.pair.proofs.rounding.whole.Tie as tie
-use Rattle.pair.proofs.rounding.whole.Reads as reads
-use Rattle.pair.proofs.rounding.whole.Lts as lts
 
 div-q : tie.Need-div-q
 div-q c = search needs

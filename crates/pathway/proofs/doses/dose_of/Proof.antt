@@ -1,45 +1,34 @@
 -- A refusal is carried along, else the product answers. Assumes nothing.
-use mathlib.Core.Path.{_≡_, refl, sym, _∙_, ap, ap₂}
+use mathlib.Core.Path.{refl, sym, _∙_, ap}
 use borrow.Author.Needs.{needs}
 use Rattle.pair.specs.Calls.{answer, after}
 use Rattle.pathway.specs.Lines.{factored, dosed}
 use Rattle.pathway.proofs.doses.dose_of.Statement.{statement}
 use Rattle.pathway.proofs.doses.dose_of.Tie as tie
-use Rattle.pathway.proofs.doses.dose_of.Reads as reads
-use Rattle.pathway.proofs.doses.dose_of.Lts as lts
-use Rattle.pair.proofs.Pair.product.Reads as product-reads
 
--- src/doses.rt:28:22
 enum-known-factor : tie.Need-enum-known-factor
 enum-known-factor c = search needs
 
--- src/doses.rt:29:9
 enum-told : tie.Need-enum-told
 enum-told c = search needs
 
--- src/doses.rt:29:9
 returns : tie.Need-returns
 unfolding after factored dosed
 returns c = rw (c .enum-told .given .1) refl
 
--- src/doses.rt:31:11
 product-requires : tie.Need-product-requires
 product-requires c κs = search needs
 
--- src/doses.rt:32:20
 enum-known-p : tie.Need-enum-known-p
 enum-known-p c = search needs
 
--- src/doses.rt:33:28
 enum-told-2 : tie.Need-enum-told-2
 enum-told-2 c = search needs
 
--- src/doses.rt:25:1
 returns-2 : tie.Need-returns-2
 unfolding answer after factored dosed
 returns-2 c = rw (c .before .before .before .before .before .factor .given .1) (ap answer (sym (c .before .p .given .1)) ∙ c .before .before .before .product .ensures)
 
--- src/doses.rt:25:1
 returns-3 : tie.Need-returns-3
 unfolding answer after factored dosed
 returns-3 c = rw (c .before .before .before .before .factor .given .1) (ap answer (sym (c .enum-told2 .given .1)) ∙ c .before .before .product .ensures)

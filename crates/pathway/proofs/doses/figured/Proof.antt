@@ -1,27 +1,21 @@
 -- Case by case. Assumes nothing.
-use mathlib.Core.Path.{_≡_, refl, sym, _∙_, ap, ap₂}
+use mathlib.Core.Path.{refl}
 use borrow.Author.Needs.{needs}
-use Rattle.pair.specs.Calls.{answer, after}
+use Rattle.pair.specs.Calls.{answer}
 use Rattle.pathway.specs.Lines.{figure, present}
 use Rattle.pathway.proofs.doses.figured.Statement.{statement}
 use Rattle.pathway.proofs.doses.figured.Tie as tie
-use Rattle.pathway.proofs.doses.figured.Reads as reads
-use Rattle.pathway.proofs.doses.figured.Lts as lts
 
--- src/doses.rt:42:20
 enum-known-a : tie.Need-enum-known-a
 enum-known-a c = search needs
 
--- src/doses.rt:43:28
 enum-told : tie.Need-enum-told
 enum-told c = search needs
 
--- src/doses.rt:38:1
 returns : tie.Need-returns
 unfolding answer figure present
 returns c = rw (c .before .a .given .1) refl
 
--- src/doses.rt:38:1
 returns-2 : tie.Need-returns-2
 unfolding answer figure present
 returns-2 c = rw (c .enum-told .given .1) refl

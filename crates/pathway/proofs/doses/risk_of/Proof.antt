@@ -1,50 +1,37 @@
 -- No reference value gives no figure; a refusal is carried along. Assumes nothing.
-use mathlib.Core.Path.{_≡_, refl, sym, _∙_, ap, ap₂}
+use mathlib.Core.Path.{refl, _∙_, ap}
 use borrow.Author.Needs.{needs}
-use Rattle.pair.specs.Calls.{answer, after}
+use Rattle.pair.specs.Calls.{after}
 use Rattle.pathway.specs.Lines.{figure, present, dosed, cancerOf}
 use Rattle.pathway.proofs.doses.risk_of.Statement.{statement}
 use Rattle.pathway.proofs.doses.risk_of.Tie as tie
-use Rattle.pathway.proofs.doses.risk_of.Reads as reads
-use Rattle.pathway.proofs.doses.risk_of.Lts as lts
-use Rattle.pair.proofs.Pair.product.Reads as product-reads
-use Rattle.pathway.proofs.doses.figured.Reads as figured-reads
 
--- src/doses.rt:64:23
 enum-known-csf : tie.Need-enum-known-csf
 enum-known-csf c = search needs
 
--- src/doses.rt:65:9
 enum-told : tie.Need-enum-told
 enum-told c = search needs
 
--- src/doses.rt:65:9
 returns : tie.Need-returns
 unfolding figure cancerOf
 returns c = rw (c .enum-told .given .1) refl
 
--- src/doses.rt:67:19
 enum-known-dose : tie.Need-enum-known-dose
 enum-known-dose c = search needs
 
--- src/doses.rt:68:9
 enum-told-2 : tie.Need-enum-told-2
 enum-told-2 c = search needs
 
--- src/doses.rt:68:9
 returns-2 : tie.Need-returns-2
 unfolding after figure present dosed cancerOf
 returns-2 c = rw (c .before .before .before .csf .given .1, c .enum-told2 .given .1) refl
 
--- src/doses.rt:70:13
 product-requires : tie.Need-product-requires
 product-requires c κs = search needs
 
--- src/doses.rt:70:5
 figured-requires : tie.Need-figured-requires
 figured-requires c κs = search needs
 
--- src/doses.rt:61:1
 returns-3 : tie.Need-returns-3
 unfolding after dosed cancerOf
 returns-3 c = rw (c .before .before .before .before .before .before .csf .given .1, c .before .before .before .dose .given .1) (c .figured .ensures ∙ ap present (c .before .product .ensures))

@@ -1,5 +1,5 @@
 -- The operations in the formula's order. Assumes nothing.
-use mathlib.Core.Path.{_≡_, refl, sym, _∙_, ap, ap₂}
+use mathlib.Core.Path.{refl}
 use borrow.Author.Needs.{needs}
 use Rattle.equations.specs.Formula.{read, pairs}
 use Rattle.equations.specs.Page.{AT, B}
@@ -8,59 +8,42 @@ use Rattle.pathway.specs.Lines.{ofReceptor}
 use Rattle.pathway.specs.Slots.{pathwaySlots}
 use Rattle.pathway.proofs.exposure.base_of.Statement.{statement}
 use Rattle.pathway.proofs.exposure.base_of.Tie as tie
-use Rattle.pathway.proofs.exposure.base_of.Reads as reads
-use Rattle.pathway.proofs.exposure.base_of.Lts as lts
-use Rattle.pair.proofs.Answer.times.Reads as times-reads
-use Rattle.pair.proofs.Pair.answer.Reads as answer-reads
-use Rattle.pair.proofs.Pair.entry.Reads as entry-reads
 
--- src/exposure.rt:19:27
 enum-told : tie.Need-enum-told
 enum-told c = search needs
 
--- src/exposure.rt:19:27
 answer-requires : tie.Need-answer-requires
 answer-requires c κs = search needs
 
--- src/exposure.rt:21:20
 entry-requires : tie.Need-entry-requires
 entry-requires c κs = search needs
 
--- src/exposure.rt:21:46
 answer-requires-2 : tie.Need-answer-requires-2
 answer-requires-2 c κs = search needs
 
--- src/exposure.rt:21:20
 times-requires : tie.Need-times-requires
 times-requires c κs = search needs
 
--- src/exposure.rt:19:27
 times-requires-2 : tie.Need-times-requires-2
 times-requires-2 c κs = search needs
 
--- src/exposure.rt:22:27
 enum-told-2 : tie.Need-enum-told-2
 enum-told-2 c = search needs
 
--- src/exposure.rt:22:27
 answer-requires-3 : tie.Need-answer-requires-3
 answer-requires-3 c κs = search needs
 
--- src/exposure.rt:22:47
 answer-requires-4 : tie.Need-answer-requires-4
 answer-requires-4 c κs = search needs
 
--- src/exposure.rt:22:27
 times-requires-3 : tie.Need-times-requires-3
 times-requires-3 c κs = search needs
 
--- src/exposure.rt:15:1
 returns : tie.Need-returns
 unfolding ofReceptor plain read letters pathwaySlots pairs B AT
 returns c = rw (c .times2 .ensures, c .before .times .ensures, c .before .before .answer2 .ensures, c .before .before .before .entry .ensures, c .before .before .before .before .answer .ensures, c .before .before .before .before .before .enum-told .given .1)
     refl
 
--- src/exposure.rt:15:1
 returns-2 : tie.Need-returns-2
 unfolding ofReceptor plain read letters pathwaySlots pairs B AT
 returns-2 c = rw (c .times3 .ensures, c .before .answer4 .ensures, c .before .before .answer3 .ensures, c .before .before .before .enum-told2 .given .1)

@@ -1,5 +1,5 @@
 -- The operations in the formula's order. Assumes nothing.
-use mathlib.Core.Path.{_≡_, refl, sym, _∙_, ap, ap₂}
+use mathlib.Core.Path.{refl}
 use borrow.Author.Needs.{needs}
 use Rattle.equations.specs.Formula.{read, pairs}
 use Rattle.equations.specs.Page.{exposure}
@@ -8,57 +8,40 @@ use Rattle.pathway.specs.Lines.{ofReceptor}
 use Rattle.pathway.specs.Slots.{pathwaySlots}
 use Rattle.pathway.proofs.exposure.soil_summer.Statement.{statement}
 use Rattle.pathway.proofs.exposure.soil_summer.Tie as tie
-use Rattle.pathway.proofs.exposure.soil_summer.Reads as reads
-use Rattle.pathway.proofs.exposure.soil_summer.Lts as lts
-use Rattle.pair.proofs.Answer.times.Reads as times-reads
-use Rattle.pair.proofs.Pair.answer.Reads as answer-reads
-use Rattle.pair.proofs.Pair.entry.Reads as entry-reads
 
--- src/exposure.rt:39:17
 answer-requires : tie.Need-answer-requires
 answer-requires c κs = search needs
 
--- src/exposure.rt:41:16
 answer-requires-2 : tie.Need-answer-requires-2
 answer-requires-2 c κs = search needs
 
--- src/exposure.rt:39:17
 times-requires : tie.Need-times-requires
 times-requires c κs = search needs
 
--- src/exposure.rt:42:16
 answer-requires-3 : tie.Need-answer-requires-3
 answer-requires-3 c κs = search needs
 
--- src/exposure.rt:39:9
 times-requires-2 : tie.Need-times-requires-2
 times-requires-2 c κs = search needs
 
--- src/exposure.rt:44:16
 answer-requires-4 : tie.Need-answer-requires-4
 answer-requires-4 c κs = search needs
 
--- src/exposure.rt:43:5
 times-requires-3 : tie.Need-times-requires-3
 times-requires-3 c κs = search needs
 
--- src/exposure.rt:45:16
 answer-requires-5 : tie.Need-answer-requires-5
 answer-requires-5 c κs = search needs
 
--- src/exposure.rt:43:5
 times-requires-4 : tie.Need-times-requires-4
 times-requires-4 c κs = search needs
 
--- src/exposure.rt:46:16
 entry-requires : tie.Need-entry-requires
 entry-requires c κs = search needs
 
--- src/exposure.rt:43:5
 times-requires-5 : tie.Need-times-requires-5
 times-requires-5 c κs = search needs
 
--- src/exposure.rt:36:1
 returns : tie.Need-returns
 unfolding ofReceptor plain read letters pathwaySlots pairs exposure
 returns c = rw (c .times5 .ensures, c .before .entry .ensures, c .before .before .times4 .ensures, c .before .before .before .answer5 .ensures, c .before .before .before .before .times3 .ensures, c .before .before .before .before .before .answer4 .ensures, c .before .before .before .before .before .before .times2 .ensures, c .before .before .before .before .before .before .before .answer3 .ensures, c .before .before .before .before .before .before .before .before .times .ensures, c .before .before .before .before .before .before .before .before .before .answer2 .ensures, c .before .before .before .before .before .before .before .before .before .before .answer .ensures)

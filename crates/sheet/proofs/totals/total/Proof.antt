@@ -2,10 +2,9 @@
 -- the numbers left are all small enough where the list's are. Assumes nothing.
 use mathlib.Core.Path.{_≡_, refl}
 use Prim.Native.Nat.{_+_, _*_, _-_, _^_, _≤_}
-use native.Mathlib.Nat.{add-zero}
 use native.Mathlib.Omega.{arith}
 use borrow.Author.Needs.{needs}
-use lib.ListN.{length, getD, drop}
+use lib.ListN.{length, drop}
 use Rattle.sheet.specs.Totals.{allAtMost}
 use Rattle.sheet.specs.Totals.{sum as sumOf}
 use Rattle.sheet.proofs.Sums.{sum-from, all-past, too-many, too-large, summed}

@@ -1,74 +1,54 @@
 -- Each field is its slot. Assumes nothing.
-use mathlib.Core.Path.{_≡_, refl, sym, _∙_, ap}
 use borrow.Author.Needs.{needs}
 use Rattle.sheet.specs.Values.{chemicalFrom}
 use Rattle.sheet.proofs.values.chemical_of.Statement.{statement}
 use Rattle.sheet.proofs.values.chemical_of.Tie as tie
-use Rattle.sheet.proofs.values.chemical_of.Reads as reads
-use Rattle.sheet.proofs.values.chemical_of.Lts as lts
-use Rattle.sheet.proofs.values.slot.Reads as slot-reads
 
--- src/values.rt:67:12
 slot-requires : tie.Need-slot-requires
 slot-requires c κs = search needs
 
--- src/values.rt:68:15
 slot-requires-2 : tie.Need-slot-requires-2
 slot-requires-2 c κs = search needs
 
--- src/values.rt:69:15
 slot-requires-3 : tie.Need-slot-requires-3
 slot-requires-3 c κs = search needs
 
--- src/values.rt:70:13
 slot-requires-4 : tie.Need-slot-requires-4
 slot-requires-4 c κs = search needs
 
--- src/values.rt:71:14
 slot-requires-5 : tie.Need-slot-requires-5
 slot-requires-5 c κs = search needs
 
--- src/values.rt:72:14
 slot-requires-6 : tie.Need-slot-requires-6
 slot-requires-6 c κs = search needs
 
--- src/values.rt:73:15
 slot-requires-7 : tie.Need-slot-requires-7
 slot-requires-7 c κs = search needs
 
--- src/values.rt:74:15
 slot-requires-8 : tie.Need-slot-requires-8
 slot-requires-8 c κs = search needs
 
--- src/values.rt:75:15
 slot-requires-9 : tie.Need-slot-requires-9
 slot-requires-9 c κs = search needs
 
--- src/values.rt:76:15
 slot-requires-10 : tie.Need-slot-requires-10
 slot-requires-10 c κs = search needs
 
--- src/values.rt:77:14
 slot-requires-11 : tie.Need-slot-requires-11
 slot-requires-11 c κs = search needs
 
--- src/values.rt:78:14
 slot-requires-12 : tie.Need-slot-requires-12
 slot-requires-12 c κs = search needs
 
--- src/values.rt:79:14
 slot-requires-13 : tie.Need-slot-requires-13
 slot-requires-13 c κs = search needs
 
--- src/values.rt:80:13
 slot-requires-14 : tie.Need-slot-requires-14
 slot-requires-14 c κs = search needs
 
--- src/values.rt:81:14
 slot-requires-15 : tie.Need-slot-requires-15
 slot-requires-15 c κs = search needs
 
--- src/values.rt:63:1
 returns : tie.Need-returns
 unfolding chemicalFrom
 returns c = λ i.

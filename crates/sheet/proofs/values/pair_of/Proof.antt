@@ -1,5 +1,5 @@
 -- What is printed is entered; what is absent reads as 1. Assumes nothing.
-use mathlib.Core.Path.{_≡_, refl, sym, _∙_, ap}
+use mathlib.Core.Path.{refl, sym, _∙_, ap}
 use borrow.Author.Needs.{needs}
 use Rattle.pair.specs.Number.{one}
 use Rattle.pair.specs.Calls.{answer, onePair}
@@ -9,11 +9,7 @@ use mir.Val.{SFits}
 use Rattle.sheet.specs.Values.{orOne, pairOf}
 use Rattle.sheet.proofs.values.pair_of.Statement.{statement}
 use Rattle.sheet.proofs.values.pair_of.Tie as tie
-use Rattle.sheet.proofs.values.pair_of.Reads as reads
-use Rattle.sheet.proofs.values.pair_of.Lts as lts
-use Rattle.pair.proofs.Pair.entry.Reads as entry-reads
 
--- src/values.rt:15:26
 enum-known-v : tie.Need-enum-known-v
 enum-known-v c = search needs
 
@@ -21,20 +17,16 @@ enum-known-v c = search needs
 enum-told : tie.Need-enum-told
 enum-told c = search needs
 
--- src/values.rt:16:9
 returns : tie.Need-returns
 unfolding pairOf onePair one
 returns c = rw (c .enum-told .given .1) refl
 
--- src/values.rt:18:37
 cast-entry : tie.Need-cast-entry
 cast-entry c = search needs
 
--- src/values.rt:18:25
 entry-requires : tie.Need-entry-requires
 entry-requires c κs = search needs
 
--- src/values.rt:18:20
 enum-known-p : tie.Need-enum-known-p
 enum-known-p c = search needs
 
@@ -42,13 +34,11 @@ enum-known-p c = search needs
 enum-told-2 : tie.Need-enum-told-2
 enum-told-2 c = search needs
 
--- src/values.rt:19:9
 returns-2 : tie.Need-returns-2
 unfolding pairOf orOne answer onePair one
 returns-2 c = let f : SFits w32 (c .before .before .before .before .v .given .0 .1 .0) = search needs in
     rw (c .before .before .before .before .v .given .1) (ap orOne (ap answer (sym (c .enum-told2 .given .1)) ∙ rw (toZ-ofZ f) at (c .before .before .entry .ensures)))
 
--- src/values.rt:12:1
 returns-3 : tie.Need-returns-3
 unfolding pairOf orOne answer onePair one
 returns-3 c = let f : SFits w32 (c .before .before .before .before .before .v .given .0 .1 .0) = search needs in

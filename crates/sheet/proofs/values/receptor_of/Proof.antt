@@ -1,98 +1,72 @@
 -- Each field is its slot. Assumes nothing.
-use mathlib.Core.Path.{_≡_, refl, sym, _∙_, ap}
 use borrow.Author.Needs.{needs}
 use Rattle.sheet.specs.Values.{receptorFrom}
 use Rattle.sheet.proofs.values.receptor_of.Statement.{statement}
 use Rattle.sheet.proofs.values.receptor_of.Tie as tie
-use Rattle.sheet.proofs.values.receptor_of.Reads as reads
-use Rattle.sheet.proofs.values.receptor_of.Lts as lts
-use Rattle.sheet.proofs.values.slot.Reads as slot-reads
 
--- src/values.rt:100:13
 slot-requires : tie.Need-slot-requires
 slot-requires c κs = search needs
 
--- src/values.rt:101:13
 slot-requires-2 : tie.Need-slot-requires-2
 slot-requires-2 c κs = search needs
 
--- src/values.rt:102:14
 slot-requires-3 : tie.Need-slot-requires-3
 slot-requires-3 c κs = search needs
 
--- src/values.rt:103:17
 slot-requires-4 : tie.Need-slot-requires-4
 slot-requires-4 c κs = search needs
 
--- src/values.rt:104:17
 slot-requires-5 : tie.Need-slot-requires-5
 slot-requires-5 c κs = search needs
 
--- src/values.rt:105:17
 slot-requires-6 : tie.Need-slot-requires-6
 slot-requires-6 c κs = search needs
 
--- src/values.rt:106:18
 slot-requires-7 : tie.Need-slot-requires-7
 slot-requires-7 c κs = search needs
 
--- src/values.rt:107:18
 slot-requires-8 : tie.Need-slot-requires-8
 slot-requires-8 c κs = search needs
 
--- src/values.rt:108:15
 slot-requires-9 : tie.Need-slot-requires-9
 slot-requires-9 c κs = search needs
 
--- src/values.rt:109:15
 slot-requires-10 : tie.Need-slot-requires-10
 slot-requires-10 c κs = search needs
 
--- src/values.rt:110:15
 slot-requires-11 : tie.Need-slot-requires-11
 slot-requires-11 c κs = search needs
 
--- src/values.rt:111:16
 slot-requires-12 : tie.Need-slot-requires-12
 slot-requires-12 c κs = search needs
 
--- src/values.rt:112:15
 slot-requires-13 : tie.Need-slot-requires-13
 slot-requires-13 c κs = search needs
 
--- src/values.rt:113:16
 slot-requires-14 : tie.Need-slot-requires-14
 slot-requires-14 c κs = search needs
 
--- src/values.rt:114:18
 slot-requires-15 : tie.Need-slot-requires-15
 slot-requires-15 c κs = search needs
 
--- src/values.rt:115:16
 slot-requires-16 : tie.Need-slot-requires-16
 slot-requires-16 c κs = search needs
 
--- src/values.rt:116:15
 slot-requires-17 : tie.Need-slot-requires-17
 slot-requires-17 c κs = search needs
 
--- src/values.rt:117:16
 slot-requires-18 : tie.Need-slot-requires-18
 slot-requires-18 c κs = search needs
 
--- src/values.rt:118:15
 slot-requires-19 : tie.Need-slot-requires-19
 slot-requires-19 c κs = search needs
 
--- src/values.rt:119:13
 slot-requires-20 : tie.Need-slot-requires-20
 slot-requires-20 c κs = search needs
 
--- src/values.rt:120:15
 slot-requires-21 : tie.Need-slot-requires-21
 slot-requires-21 c κs = search needs
 
--- src/values.rt:96:1
 returns : tie.Need-returns
 unfolding receptorFrom
 returns c = λ i.

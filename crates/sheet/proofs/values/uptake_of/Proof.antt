@@ -1,30 +1,21 @@
 -- Each field is its slot. Assumes nothing.
-use mathlib.Core.Path.{_≡_, refl, sym, _∙_, ap}
 use borrow.Author.Needs.{needs}
 use Rattle.sheet.specs.Values.{uptakeFrom}
 use Rattle.sheet.proofs.values.uptake_of.Statement.{statement}
 use Rattle.sheet.proofs.values.uptake_of.Tie as tie
-use Rattle.sheet.proofs.values.uptake_of.Reads as reads
-use Rattle.sheet.proofs.values.uptake_of.Lts as lts
-use Rattle.sheet.proofs.values.slot.Reads as slot-reads
 
--- src/values.rt:89:17
 slot-requires : tie.Need-slot-requires
 slot-requires c κs = search needs
 
--- src/values.rt:90:18
 slot-requires-2 : tie.Need-slot-requires-2
 slot-requires-2 c κs = search needs
 
--- src/values.rt:91:18
 slot-requires-3 : tie.Need-slot-requires-3
 slot-requires-3 c κs = search needs
 
--- src/values.rt:92:18
 slot-requires-4 : tie.Need-slot-requires-4
 slot-requires-4 c κs = search needs
 
--- src/values.rt:85:1
 returns : tie.Need-returns
 unfolding uptakeFrom
 returns c = λ i.
