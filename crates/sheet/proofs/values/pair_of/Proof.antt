@@ -13,7 +13,6 @@ use Rattle.sheet.proofs.values.pair_of.Tie as tie
 enum-known-v : tie.Need-enum-known-v
 enum-known-v c = search needs
 
--- /work/codework/target/rlib/pair.rlib/interface/lang/src/lib.rt:13:37
 enum-told : tie.Need-enum-told
 enum-told c = search needs
 
@@ -30,7 +29,6 @@ entry-requires c κs = search needs
 enum-known-p : tie.Need-enum-known-p
 enum-known-p c = search needs
 
--- /work/codework/target/rlib/pair.rlib/interface/lang/src/lib.rt:13:37
 enum-told-2 : tie.Need-enum-told-2
 enum-told-2 c = search needs
 
