@@ -1,4 +1,5 @@
--- What the crates below work from their own structs is the page read from the case's slots. Assumes nothing.
+-- What the crates below work from their own structs is the page read from the case's slots, and a line counts by the reference value that its
+-- formula names. Assumes nothing.
 use mathlib.Core.Path.{_≡_, refl}
 use Prim.Native.Nat.{ℕ}
 use Rattle.pair.specs.declared.Pair.{Pair}
@@ -7,14 +8,31 @@ use Rattle.equations.specs.declared.Pathway.{Pathway}
 use Rattle.equations.specs.declared.Pathway.the-variants.{Air, SoilSummer, SoilWinter, Skin, AboveGround, BelowGround}
 use Rattle.equations.specs.declared.Effect.{Effect}
 use Rattle.equations.specs.declared.Effect.the-variants.{Hazard, Cancer}
-use Rattle.equations.specs.Formula.{read, pairs}
+use Rattle.equations.specs.Formula.{read, pairs, letter, slot}
 use Rattle.equations.specs.Page as page
 use Rattle.equations.specs.Readings.{letters, plain}
 use Rattle.deck.specs.declared.Case.{Case}
 use Rattle.media.specs.Slots.{mediaSlots}
 use Rattle.pathway.specs.Slots.{pathwaySlots}
 use Rattle.pathway.specs.Lines.{ofReceptor}
+use Rattle.sheet.specs.Sheet.{referenceSlot}
 use Rattle.sheet.specs.Values.{siteIndex, chemicalIndex, receptorIndex, chemicalAt, receptorAt, printed, pairsAt, siteFrom, chemicalFrom, receptorFrom, uptakeFrom}
+
+-- the slot that decides whether a line counts is the one that its formula names as reference value
+reference-agrees : (e : Effect) (p : Pathway) → page.reference e p ≡ letter (slot (referenceSlot e p))
+unfolding page.reference page.byRoute referenceSlot
+reference-agrees Hazard Air = refl
+reference-agrees Hazard SoilSummer = refl
+reference-agrees Hazard SoilWinter = refl
+reference-agrees Hazard Skin = refl
+reference-agrees Hazard AboveGround = refl
+reference-agrees Hazard BelowGround = refl
+reference-agrees Cancer Air = refl
+reference-agrees Cancer SoilSummer = refl
+reference-agrees Cancer SoilWinter = refl
+reference-agrees Cancer Skin = refl
+reference-agrees Cancer AboveGround = refl
+reference-agrees Cancer BelowGround = refl
 
 module _ (case : Case) (i j : ℕ) where
   x-agrees : plain pairs (λ s. is (mediaSlots (siteFrom (case .site)) (chemicalFrom (chemicalAt case i)) s)) page.x ≡ plain pairs (λ s. is (pairsAt case i j s)) page.x

@@ -27,10 +27,6 @@ use Rattle.sheet.specs.declared.Row.{Row}
 use Rattle.sheet.specs.Text.{lineWidth}
 use Rattle.sheet.specs.Values.{printed, pairsAt, chemicalAt, receptorAt}
 
--- pathways in report order, numbered from 1
-unfoldable pub pathways : List Pathway
-pathways = Air ∷ SoilSummer ∷ SoilWinter ∷ Skin ∷ AboveGround ∷ BelowGround ∷ []
-
 abbrev pub pathwaysPerChemical : ℕ
 pathwaysPerChemical = 6
 
