@@ -179,7 +179,7 @@ tabulated f d (suc n) k h =
     (λ l. List·getD-append (tabulate n f) (f n ∷ []) d k (subst (λ (m : ℕ). k < m) (sym (length-tabulate f d 0 n)) l) ∙ tabulated f d n k l)
     (eq-or-lt-of-le (le-of-suc-le-suc h))
 
-filled-at : {A : Type 0} (f : ℕ → A) (d : A) (n : ℕ) (rest : List A) (k : ℕ) → k < n → getD (tabulate n f ++ rest) k d ≡ f k
+pub filled-at : {A : Type 0} (f : ℕ → A) (d : A) (n : ℕ) (rest : List A) (k : ℕ) → k < n → getD (tabulate n f ++ rest) k d ≡ f k
 filled-at f d n rest k h =
     List·getD-append (tabulate n f) rest d k (subst (λ (m : ℕ). k < m) (sym (length-tabulate f d 0 n)) h) ∙ tabulated f d n k h
 

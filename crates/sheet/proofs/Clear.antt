@@ -1,7 +1,7 @@
 -- Where no condition of the sheet holds: no chemical's x is above 64, and no line with a reference value above its cap. Assumes nothing.
 use mathlib.Core.Path.{_≡_, sym, subst}
 use mathlib.Core.Bool.{Bool, false, _||_}
-use mathlib.Core.List.{List, [], _∷_, _++_}
+use mathlib.Core.List.{List, [], _++_}
 use mathlib.Core.Logic.{⊎-elim}
 use Prim.Native.Nat.{ℕ, zero, suc, _+_, _-_, _*_, _<_}
 use native.Mathlib.Nat.{eq-or-lt-of-le, le-of-suc-le-suc, not-suc-le-zero}
@@ -30,6 +30,14 @@ either : (e : Effect) (f : Effect → Bool) → (f Hazard || f Cancer) ≡ false
 either Hazard f h = neither (f Hazard) (f Cancer) h .0
 either Cancer f h = neither (f Hazard) (f Cancer) h .1
 
+-- where no condition 41 holds
+pub none-fast : (case : Case) → first (upTo (tooFast case) (case .chemicals .count)) ≡ Read → (i : ℕ) → i < case .chemicals .count → highAbove sixtyFour (exponentAt case i) ≡ false
+unfolding tooFast
+none-fast case e i h =
+    let c : suc i - 1 ≡ i = omega arith in
+    subst (λ (k : ℕ). highAbove sixtyFour (exponentAt case k) ≡ false) c
+    (first-read (at 41 (suc i) 0 (highAbove sixtyFour (exponentAt case (suc i - 1)))) [] (upTo-each (tooFast case) (case .chemicals .count) e i h) .0)
+
 module _ (case : Case) (room : ℕ) (none : first (sheetConditions case room) ≡ Read) where
   lines : ℕ → List Condition
   lines j = chained (λ i. upTo (lineTooLarge case j i) pathwaysPerChemical) (case .chemicals .count)
@@ -42,11 +50,7 @@ module _ (case : Case) (room : ℕ) (none : first (sheetConditions case room) �
 
   -- 41 does not hold
   pub not-fast : (i : ℕ) → i < case .chemicals .count → highAbove sixtyFour (exponentAt case i) ≡ false
-  unfolding tooFast
-  not-fast i h =
-      let c : suc i - 1 ≡ i = omega arith in
-      subst (λ (k : ℕ). highAbove sixtyFour (exponentAt case k) ≡ false) c
-      (first-read (at 41 (suc i) 0 (highAbove sixtyFour (exponentAt case (suc i - 1)))) [] (upTo-each (tooFast case) (case .chemicals .count) (parts .0) i h) .0)
+  not-fast i h = none-fast case (parts .0) i h
 
   -- 42 does not hold
   pub not-large : (e : Effect) (j i p : ℕ) → j < case .receptors .count → i < case .chemicals .count → p < pathwaysPerChemical → overCap e case j i (pathwayAt (suc p)) ≡ false

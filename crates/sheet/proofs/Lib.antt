@@ -8,6 +8,13 @@ mod Ranges
 mod Clear
 mod TotalLaws
 mod LineTotals
+mod Chains
+mod ChemicalLaws
+mod ReceptorLaws
+mod SourceLaws
+mod ReportLaws
+mod TotalRows
+mod CallLaws
 mod Agreement
 pub mod DemandThree
 pub mod Figures

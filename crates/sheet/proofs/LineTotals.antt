@@ -38,7 +38,7 @@ use Rattle.sheet.proofs.Inputs.{Ranged, inputs, ten-above, place-power}
 use Rattle.sheet.proofs.TotalLaws.{Totals, totals-none}
 
 -- ---- bounds
-high-number : (p : Pair) → isPair p ≡ true → isNumber (p .high) ≡ true
+pub high-number : (p : Pair) → isPair p ≡ true → isNumber (p .high) ≡ true
 unfolding isPair
 high-number p h =
     both (isNumber (p .high)) (atMost (p .low) (p .high)) (both (isNumber (p .low)) (isNumber (p .high) && atMost (p .low) (p .high)) h .1) .0
@@ -63,7 +63,7 @@ sixty-four : (p : Pair) → value (p .high) ≤ᶠ value sixtyFour → value (p 
 unfolding value sixtyFour ranges.sixtyFour
 sixty-four p h = record { across = omega (arith, le-of-mul-le-mul-right {k = 10 ^ depth} (h .across) (ten-above depth), power 6 (lit≤ tt)) }
 
-sixty-four-number : isNumber sixtyFour ≡ true
+pub sixty-four-number : isNumber sixtyFour ≡ true
 unfolding isNumber isZero zeroExponent nineFigures inReach sixtyFour
 sixty-four-number = refl
 
@@ -73,10 +73,12 @@ cap-number Hazard = refl
 cap-number Cancer = refl
 
 -- 10,000 and 1 are no more than 10^16 units
-cap-units : (e : Effect) → value (capOf e) ≤ᶠ scaled 9999999999999999999 (unitOf e)
+pub cap-units : (e : Effect) (m : ℕ) → 10 ^ 16 ≤ m → value (capOf e) ≤ᶠ scaled m (unitOf e)
 unfolding value scaled capOf unitOf
-cap-units Hazard = record { across = mul-le-mul-right (10 ^ depth) (omega (arith, power 3 (lit≤ tt), power 11 (lit≤ tt))) }
-cap-units Cancer = record { across = mul-le-mul-right (10 ^ depth) (omega (arith, power 7 (lit≤ tt), power 14 (lit≤ tt))) }
+cap-units Hazard m h =
+    record { across = mul-le-mul-right (10 ^ depth) (omega (arith, power 3 (lit≤ tt), power 11 (lit≤ tt), mul-le-mul-right (10 ^ place (negsuc 11)) h)) }
+cap-units Cancer m h =
+    record { across = mul-le-mul-right (10 ^ depth) (omega (arith, power 7 (lit≤ tt), power 14 (lit≤ tt), mul-le-mul-right (10 ^ place (negsuc 14)) h)) }
 
 unit-reach : (e : Effect) → inReach (unitOf e) ≡ true
 unfolding inReach unitOf
@@ -114,13 +116,21 @@ line-enclosed e r n y t h c =
     }
 
 -- ---- a line of a case
+-- the line's pair, at most the cap, and its counts
+pub record Figure (case : Case) (i j : ℕ) (e : Effect) (w : Pathway) : Type 0 where
+  pub pair : Pair
+  pub works : Works (pairsAt case i j) (exactAt case i j) (line e w) pair
+  pub capped : value (pair .high) ≤ᶠ value (capOf e)
+  pub units : pairUnits.Units
+  pub told : inUnits pair (unitOf e) ≡ is units
+
 module _ (case : Case) (ranged : Ranged case) (i j : ℕ) (i-small : i < case .chemicals .count) (j-small : j < case .receptors .count) (slow : highAbove sixtyFour (exponentAt case i) ≡ false) where
   -- x names no receptor's slot
   x-same : plain pairs (λ s. is (pairsAt case i j s)) x ≡ exponentAt case i
   unfolding exponentAt plain read letters x page.k page.u page.kse page.ksr page.ksl pairs pairsAt printed
   x-same = refl
 
-  x-most : (p : Pair) × (plain pairs (λ s. is (pairsAt case i j s)) x ≡ is p) × (value (p .high) ≤ᶠ ranges.sixtyFour)
+  pub x-most : (p : Pair) × (plain pairs (λ s. is (pairsAt case i j s)) x ≡ is p) × (value (p .high) ≤ᶠ ranges.sixtyFour)
   x-most =
       let a = x-answered (pairsAt case i j) (exactAt case i j) (inputs case ranged i j i-small j-small) in
       let t : highAbove sixtyFour (is (a .0)) ≡ false = subst (λ (o : Outcome Pair). highAbove sixtyFour o ≡ false) (sym x-same ∙ a .1) slow in
@@ -129,15 +139,21 @@ module _ (case : Case) (ranged : Ranged case) (i j : ℕ) (i-small : i < case .c
   figure-works : (e : Effect) (w : Pathway) → (r : Pair) × Works (pairsAt case i j) (exactAt case i j) (line e w) r
   figure-works e w = line-works (pairsAt case i j) (exactAt case i j) (inputs case ranged i j i-small j-small) (x-most .0) (x-most .1) (x-most .2) e w
 
+  pub figure-counted : (e : Effect) (w : Pathway) → highAbove (capOf e) (figureAt e case j i w) ≡ false → Figure case i j e w
+  unfolding figureAt
+  figure-counted e w c =
+      let r : Pair = figure-works e w .0 in
+      let k : Works (pairsAt case i j) (exactAt case i j) (line e w) r = figure-works e w .1 in
+      let b : value (r .high) ≤ᶠ value (capOf e) = not-above (capOf e) r (cap-number e) (k .pair) (subst (λ (o : Outcome Pair). highAbove (capOf e) o ≡ false) (k .told) c) in
+      let a = units-answered r (unitOf e) (k .pair) (unit-reach e) (through (value-proper (capOf e)) b (cap-units e 9999999999999999999 (lit≤ tt))) in
+      record { pair = r; works = k; capped = b; units = a .0; told = a .1 }
+
   figure-totals : (e : Effect) (w : Pathway) → highAbove (capOf e) (figureAt e case j i w) ≡ false → (N : ℕ) → 256 ≤ N →
       Totals (countedIn (unitOf e) (figureAt e case j i w)) 1 (inUnitsOf e (exactly N (exactAt case i j) (line e w)))
   unfolding figureAt countedIn counted Totals
   figure-totals e w c N n =
-      let r : Pair = figure-works e w .0 in
-      let k : Works (pairsAt case i j) (exactAt case i j) (line e w) r = figure-works e w .1 in
-      let b : value (r .high) ≤ᶠ value (capOf e) = not-above (capOf e) r (cap-number e) (k .pair) (subst (λ (o : Outcome Pair). highAbove (capOf e) o ≡ false) (k .told) c) in
-      let a = units-answered r (unitOf e) (k .pair) (unit-reach e) (through (value-proper (capOf e)) b (cap-units e)) in
-      rw (k .told, a .1) (line-enclosed e r (a .0) (exactly N (exactAt case i j) (line e w)) (a .1) (k .held N n) (line-narrow (pairsAt case i j) (exactAt case i j) e w r k))
+      let f : Figure case i j e w = figure-counted e w c in
+      rw (f .works .told, f .told) (line-enclosed e (f .pair) (f .units) (exactly N (exactAt case i j) (line e w)) (f .told) (f .works .held N n) (line-narrow (pairsAt case i j) (exactAt case i j) e w (f .pair) (f .works)))
 
   by-reference : (t : Bool) (e : Effect) (w : Pathway) → (t && highAbove (capOf e) (figureAt e case j i w)) ≡ false → (N : ℕ) → 256 ≤ N →
       Totals (cond t (countedIn (unitOf e) (figureAt e case j i w)) Columns.Absent) (cond t 1 0) (cond t (inUnitsOf e (exactly N (exactAt case i j) (line e w))) nothing)

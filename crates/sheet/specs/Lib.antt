@@ -3,5 +3,7 @@ pub mod Values
 pub mod Text
 pub mod Totals
 pub mod Sheet
+pub mod Worked
 pub mod Demand
+pub mod Report
 pub mod Figures

@@ -1,0 +1,96 @@
+-- Lists chained from parts: f 0 ++ f 1 ++ .. by index, in one loop or in two, and the first condition that holds in such a list.
+-- Assumes nothing.
+use mathlib.Core.Path.{_≡_, refl, sym, ap, _∙_}
+use mathlib.Core.List.{List, [], _∷_, _++_, append-assoc, append-nil}
+use Prim.Native.Nat.{ℕ, zero, suc, _+_, _-_, _*_, _/_, _%_, _<_}
+use native.Mathlib.Nat.{add-zero, add-suc, le-refl, le-of-suc-le-suc, not-suc-le-zero}
+use native.Mathlib.Numerals.{add-one}
+use native.Mathlib.Omega.{arith}
+use lib.ListN.{length, getD, take, set, length-set}
+use lib.Seq.{take-suc, take-set-le, getD-set-same}
+use Rattle.deck.specs.declared.Status.{Status}
+use Rattle.deck.specs.declared.Status.the-variants.{Read, Stopped}
+use Rattle.deck.specs.Conditions.{Condition, first, upTo}
+use Rattle.deck.proofs.First.{turn-on, turn-out}
+use Rattle.sheet.specs.Sheet.{chained}
+
+module _ {A : Type 0} where
+  pub chained-same : (f g : ℕ → List A) (n : ℕ) → ((k : ℕ) → k < n → f k ≡ g k) → chained f n ≡ chained g n
+  unfolding chained
+  chained-same f g zero h = refl
+  chained-same f g (suc n) h =
+      ap (λ (l : List A). l ++ f n) (chained-same f g n (λ k l. h k (omega arith)))
+      ∙ ap (λ (l : List A). chained g n ++ l) (h n (omega arith))
+
+  -- one part more
+  pub chained-more : (f : ℕ → List A) (k : ℕ) → chained f (k + 1) ≡ chained f k ++ f k
+  unfolding chained
+  chained-more f k = rw add-one refl
+
+  chained-add : (f : ℕ → List A) (a b : ℕ) → chained f (a + b) ≡ chained f a ++ chained (λ k. f (a + k)) b
+  unfolding chained
+  chained-add f a zero = rw add-zero (sym (append-nil (chained f a)))
+  chained-add f a (suc b) =
+      rw add-suc
+      (ap (λ (l : List A). l ++ f (a + b)) (chained-add f a b)
+      ∙ append-assoc (chained f a) (chained (λ k. f (a + k)) b) (f (a + b)))
+
+  -- two loops, the inner one of six, as one
+  pub flat : (f : ℕ → ℕ → List A) (n : ℕ) → chained (λ i. chained (f i) 6) n ≡ chained (λ q. f (q / 6) (q % 6)) (n * 6)
+  unfolding chained
+  flat f zero = refl
+  flat f (suc n) =
+      let more : suc n * 6 ≡ n * 6 + 6 = omega arith in
+      let same : chained (f n) 6 ≡ chained (λ k. f ((n * 6 + k) / 6) ((n * 6 + k) % 6)) 6 =
+      chained-same (f n) (λ k. f ((n * 6 + k) / 6) ((n * 6 + k) % 6)) 6
+      (λ k h.
+      let d : n ≡ (n * 6 + k) / 6 = omega arith in
+      let m : k ≡ (n * 6 + k) % 6 = omega arith in
+      ap (λ (i : ℕ). f i k) d ∙ ap (λ (p : ℕ). f ((n * 6 + k) / 6) p) m)
+      in
+      ap (λ (l : List A). l ++ chained (f n) 6) (flat f n)
+      ∙ ap (λ (l : List A). chained (λ q. f (q / 6) (q % 6)) (n * 6) ++ l) same
+      ∙ sym (chained-add (λ q. f (q / 6) (q % 6)) (n * 6) 6)
+      ∙ ap (chained (λ q. f (q / 6) (q % 6))) (sym more)
+
+  -- a list and the parts so far, with one part more after them
+  pub part-after : (start list : List A) (f : ℕ → List A) (k : ℕ) → list ≡ (start ++ chained f k) ++ f k → list ≡ start ++ chained f (k + 1)
+  part-after start list f k e = e ∙ append-assoc start (chained f k) (f k) ∙ ap (λ (l : List A). start ++ l) (sym (chained-more f k))
+
+  -- a store past the first k elements
+  pub stored : (l : List A) (k : ℕ) (v : A) → k < length l → take (k + 1) (set l k v) ≡ take k l ++ (v ∷ [])
+  stored l k v h =
+      let long : k < length (set l k v) = rw length-set h in
+      rw add-one (take-suc (set l k v) k v long)
+      ∙ ap (λ (x : List A). x ++ (getD (set l k v) k v ∷ [])) (take-set-le k l k v (le-refl k))
+      ∙ ap (λ (x : A). take k l ++ (x ∷ [])) (getD-set-same l k v v h)
+
+  -- an element that is there, whatever would stand for a missing one
+  pub any-default : (l : List A) (i : ℕ) (d e : A) → i < length l → getD l i d ≡ getD l i e
+  any-default [] i d e h = absurd (not-suc-le-zero h)
+  any-default (x ∷ xs) zero d e h = refl
+  any-default (x ∷ xs) (suc i) d e h = any-default xs i d e (le-of-suc-le-suc h)
+
+-- f 1, f 2, .. as a chain
+pub upTo-chained : (f : ℕ → List Condition) (n : ℕ) → upTo f n ≡ chained (λ p. f (suc p)) n
+unfolding chained upTo
+upTo-chained f zero = refl
+upTo-chained f (suc n) = ap (λ (l : List Condition). l ++ f (suc n)) (upTo-chained f n)
+
+as-upTo : (f : ℕ → List Condition) (n : ℕ) → chained f n ≡ upTo (λ k. f (k - 1)) n
+as-upTo f n =
+    chained-same f (λ p. f (suc p - 1)) n (λ k h. let e : k ≡ suc k - 1 = omega arith in ap f e) ∙ sym (upTo-chained (λ k. f (k - 1)) n)
+
+module _ (f : ℕ → List Condition) where
+  part : (k : ℕ) (s : Status) → s ≡ first (f k) → s ≡ first (f (k + 1 - 1))
+  part k s e = let c : k ≡ k + 1 - 1 = omega arith in e ∙ ap (λ (m : ℕ). first (f m)) c
+
+  -- the next part goes on, or stops the whole
+  pub goes-on : (k : ℕ) → first (chained f k) ≡ Read → (s : Status) → s ≡ first (f k) → s ≡ Read → first (chained f (k + 1)) ≡ Read
+  goes-on k e s p q =
+      ap first (as-upTo f (k + 1)) ∙ turn-on (λ k. f (k - 1)) k (sym (ap first (as-upTo f k)) ∙ e) s (part k s p) q
+
+  pub stops : (k m : ℕ) → k < m → first (chained f k) ≡ Read → (s : Status) → s ≡ first (f k) → (number line field : ℕ) → s ≡ Stopped number line field
+      → s ≡ first (chained f m)
+  stops k m h e s p number line field q =
+      turn-out (λ k. f (k - 1)) k m h (sym (ap first (as-upTo f k)) ∙ e) s (part k s p) number line field q ∙ sym (ap first (as-upTo f m))

@@ -1,0 +1,155 @@
+-- `sheet::chemicals::sources_of` meets its contract. The invariant: the sources so far, then empty ones; none of them stopped.
+-- Assumes nothing.
+use mathlib.Core.Path.{_≡_, refl, sym, ap, _∙_}
+use mathlib.Core.List.{_++_}
+use mathlib.Core.Bool.{true}
+use Prim.Native.Nat.{_+_, _-_, _≤_, _<_}
+use native.Mathlib.Omega.{arith}
+use borrow.Author.Needs.{needs}
+use lib.ListN.{length, getD, replicate, length-map}
+use Rattle.deck.specs.declared.Status.the-variants.{Read}
+use Rattle.deck.specs.Conditions.{first, upTo}
+use Rattle.deck.specs.Cases.{tabulate, noRecord}
+use Rattle.deck.proofs.Scan.{never}
+use Rattle.deck.proofs.CaseLaws.{filled-start, filled-more}
+use Rattle.media.specs.Media.{found}
+use Rattle.sheet.specs.Worked.{notFound, noSource, sourceOf, sourcesOf, fastSource}
+use Rattle.sheet.proofs.ChemicalLaws.{source-is, goes-on, stops}
+use Rattle.sheet.proofs.chemicals.sources_of.Statement.{statement}
+use Rattle.sheet.proofs.chemicals.sources_of.Tie as tie
+
+abbrev Inv-loop : tie.InvT-loop
+Inv-loop site place count records list₀ i₀ list i =
+    (i ≤ count)
+    × (list ≡ tabulate i (λ k. sourceOf site (getD records k noRecord)) ++ replicate (16 - i) noSource)
+    × (first (upTo (fastSource site records) i) ≡ Read)
+
+abbrev μ-loop : tie.MeasureT-loop
+μ-loop site place count records list₀ i₀ list i = count - i
+
+site-of-requires : tie.Need-site-of-requires Inv-loop μ-loop
+site-of-requires c κs = search needs
+
+no-source-requires : tie.Need-no-source-requires Inv-loop μ-loop
+no-source-requires c κs = search needs
+
+loop-holds : tie.Need-loop-holds Inv-loop μ-loop
+unfolding upTo first
+loop-holds c =
+    let s = c .before .before .before in
+    (omega arith, ap (replicate 16) (c .no-source .ensures) ∙ filled-start (λ k. sourceOf (s .args .site) (getD (s .args .chemicals .records) k noRecord)) noSource 16, refl)
+
+add-next : tie.Need-add-next Inv-loop μ-loop
+add-next c = search needs
+
+mul-chemical : tie.Need-mul-chemical Inv-loop μ-loop
+mul-chemical c = search needs
+
+array-copy-out-chemical : tie.Need-array-copy-out-chemical Inv-loop μ-loop
+array-copy-out-chemical c = search needs
+
+chemical-of-requires : tie.Need-chemical-of-requires Inv-loop μ-loop
+chemical-of-requires c κs = search needs
+
+concentrations-requires : tie.Need-concentrations-requires Inv-loop μ-loop
+concentrations-requires c κs = search needs
+
+enum-known-media : tie.Need-enum-known-media Inv-loop μ-loop
+enum-known-media c = search needs
+
+source-with-requires : tie.Need-source-with-requires Inv-loop μ-loop
+source-with-requires c κs = search needs
+
+mul-list : tie.Need-mul-list Inv-loop μ-loop
+mul-list c = record { fits = omega (arith, c .before .before .before .before .before .before .before .loop-test .taken, c .before .before .before .before .before .before .before .before .before .before .before .before .pre) }
+
+array-set-from-list : tie.Need-array-set-from-list Inv-loop μ-loop
+array-set-from-list c = omega (arith, c .before .before .before .before .before .before .before .loop-test .taken, c .before .before .before .before .before .before .before .before .before .before .before .before .pre)
+
+enum-told : tie.Need-enum-told Inv-loop μ-loop
+enum-told c = search needs
+
+stopped-at-requires : tie.Need-stopped-at-requires Inv-loop μ-loop
+stopped-at-requires c κs = search needs
+
+returns : tie.Need-returns Inv-loop μ-loop
+unfolding found notFound
+returns c =
+    let s = c .before .before .before .before .before .before .before .before .before .before .before in
+    let l = c .before .before .before .before .before .before .before .loop in
+    let long : length (s .args .chemicals .records) ≡ 16 = sym (length-map (s .args .chemicals .records) _) ∙ s .good .1 .0 .1 .1 .1 .0 .1 .0 .1 in
+    let here : l .i < length (s .args .chemicals .records) = omega (arith, c .before .before .before .before .before .before .loop-test .taken, s .pre) in
+    let none : notFound (found (c .before .before .before .concentrations .result)) ≡ true = rw (c .before .enum-told .given .1) refl in (
+      stops (s .args .site) (s .args .chemicals .records) _ (l .i) here _ _ (c .before .before .before .concentrations .result) (c .before .before .before .before .before .before .before .before .before .before .site-of .ensures) (c .before .before .before .before .chemical-of .ensures) (c .before .before .before .concentrations .ensures) none (s .args .chemicals .count) (c .before .before .before .before .before .before .loop-test .taken) (l .inv .2) _ (c .stopped-at .ensures),
+      λ e. absurd (never _ 41 _ 0 (c .stopped-at .ensures) e),
+    )
+
+enum-told-2 : tie.Need-enum-told-2 Inv-loop μ-loop
+enum-told-2 c = search needs
+
+stopped-at-requires-2 : tie.Need-stopped-at-requires-2 Inv-loop μ-loop
+stopped-at-requires-2 c κs = search needs
+
+returns-2 : tie.Need-returns-2 Inv-loop μ-loop
+unfolding found notFound
+returns-2 c =
+    let s = c .before .before .before .before .before .before .before .before .before .before .before in
+    let l = c .before .before .before .before .before .before .before .loop in
+    let long : length (s .args .chemicals .records) ≡ 16 = sym (length-map (s .args .chemicals .records) _) ∙ s .good .1 .0 .1 .1 .1 .0 .1 .0 .1 in
+    let here : l .i < length (s .args .chemicals .records) = omega (arith, c .before .before .before .before .before .before .loop-test .taken, s .pre) in
+    let none : notFound (found (c .before .before .before .concentrations .result)) ≡ true = rw (c .before .enum-told2 .given .1) refl in (
+      stops (s .args .site) (s .args .chemicals .records) _ (l .i) here _ _ (c .before .before .before .concentrations .result) (c .before .before .before .before .before .before .before .before .before .before .site-of .ensures) (c .before .before .before .before .chemical-of .ensures) (c .before .before .before .concentrations .ensures) none (s .args .chemicals .count) (c .before .before .before .before .before .before .loop-test .taken) (l .inv .2) _ (c .stopped-at2 .ensures),
+      λ e. absurd (never _ 41 _ 0 (c .stopped-at2 .ensures) e),
+    )
+
+loop-less : tie.Need-loop-less Inv-loop μ-loop
+loop-less c = search needs
+
+loop-again : tie.Need-loop-again Inv-loop μ-loop
+loop-again c =
+    let s = c .before .before .before .before .before .before .before .before .before .before .before .before in
+    let l = c .before .before .before .before .before .before .before .before .loop in
+    let long : length (s .args .chemicals .records) ≡ 16 = sym (length-map (s .args .chemicals .records) _) ∙ s .good .1 .0 .1 .1 .1 .0 .1 .0 .1 in
+    let here : l .i < length (s .args .chemicals .records) = omega (arith, c .before .before .before .before .before .before .before .loop-test .taken, s .pre) in
+    let is = c .before .before .media .given .1 in (
+      omega (arith, c .before .before .before .before .before .before .before .loop-test .taken),
+      filled-more (λ k. sourceOf (s .args .site) (getD (s .args .chemicals .records) k noRecord)) noSource 16 (l .i) (omega (arith, c .before .before .before .before .before .before .before .loop-test .taken, s .pre)) (l .list) (l .inv .1) _
+          (source-is (s .args .site) (s .args .chemicals .records) _ (l .i) here _ _ (c .before .before .before .before .concentrations .result) (c .before .before .before .before .before .before .before .before .before .before .before .site-of .ensures) (c .before .before .before .before .before .chemical-of .ensures) (c .before .before .before .before .concentrations .ensures) _ is _ (c .source-with .ensures)),
+      goes-on (s .args .site) (s .args .chemicals .records) _ (l .i) here _ _ (c .before .before .before .before .concentrations .result) (c .before .before .before .before .before .before .before .before .before .before .before .site-of .ensures) (c .before .before .before .before .before .chemical-of .ensures) (c .before .before .before .before .concentrations .ensures) _ is (l .inv .2),
+    )
+
+returns-3 : tie.Need-returns-3 Inv-loop μ-loop
+unfolding sourcesOf
+returns-3 c =
+    let s = c .before .before .before .before .before in
+    let l = c .before .loop in
+    let all : l .i ≡ s .args .chemicals .count = omega (arith, c .loop-test .left) in
+    (sym (rw all at (l .inv .2)), λ _. ap (λ x. record { count = s .args .chemicals .count; list = x }) (rw all at (l .inv .1)))
+
+pub sources-of-spec : {M : Type 1} → statement M
+sources-of-spec =
+    tie.close
+    (tie.spec
+    Inv-loop
+    μ-loop
+    site-of-requires
+    no-source-requires
+    loop-holds
+    add-next
+    mul-chemical
+    array-copy-out-chemical
+    chemical-of-requires
+    concentrations-requires
+    enum-known-media
+    source-with-requires
+    mul-list
+    array-set-from-list
+    enum-told
+    stopped-at-requires
+    returns
+    enum-told-2
+    stopped-at-requires-2
+    returns-2
+    loop-less
+    loop-again
+    returns-3)

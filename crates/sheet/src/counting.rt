@@ -1,0 +1,90 @@
+// A line's figures counted in units, and held against their caps.
+use equations::Effect;
+use pair::Count;
+use pair::Number;
+use pair::Order;
+use pair::Pair;
+use pathway::Figure;
+ghost use mathlib.Core.Path.{_≡_};
+ghost use Rattle.pair.specs.Calls.{is};
+ghost use Rattle.pathway.specs.Lines as lines;
+ghost use Rattle.sheet.specs.Sheet.{unitOf, capOf, countedIn, highAbove};
+ghost use Rattle.sheet.specs.Worked.{columnsOf, aboveCap};
+use crate::Units;
+
+// A quotient's high end is at most 10,000, a risk's at most 1.
+const HAZARD_CAP: Number = Number {
+    significand: 100_000_000,
+    exponent: -4,
+};
+
+const CANCER_CAP: Number = Number {
+    significand: 100_000_000,
+    exponent: -8,
+};
+
+// Quotients are counted in units of 1E-12, risks in 1E-15.
+const HAZARD_UNIT: i32 = -12;
+
+const CANCER_UNIT: i32 = -15;
+
+fn cap_of(effect: Effect) -> Number
+    ensures { λ r. ⌜ r ≡ capOf effect ⌝ }
+{
+    match effect {
+        Effect::Hazard => HAZARD_CAP,
+        Effect::Cancer => CANCER_CAP,
+    }
+}
+
+fn unit_of(effect: Effect) -> i32
+    ensures { λ r. ⌜ r ≡ unitOf effect ⌝ }
+{
+    match effect {
+        Effect::Hazard => HAZARD_UNIT,
+        Effect::Cancer => CANCER_UNIT,
+    }
+}
+
+fn is_above(p: Pair, bound: Number) -> bool
+    ensures { λ r. ⌜ r ≡ highAbove bound (is p) ⌝ }
+{
+    match p.high.compare(bound) {
+        Order::AtMost => false,
+        Order::Above => true,
+        Order::Refused => false,
+    }
+}
+
+fn counted(p: Pair, unit: i32) -> Units
+    ensures { λ r. ⌜ r ≡ countedIn unit (is p) ⌝ }
+{
+    match p.in_units(unit) {
+        Count::Is(n) => Units::Counted {
+            low: n.low,
+            high: n.high,
+        },
+        Count::Refused => Units::Absent,
+    }
+}
+
+// The two columns of a figure.
+pub(crate) fn columns_of(figure: Figure, effect: Effect) -> Units
+    ensures { λ r. ⌜ r ≡ columnsOf effect (lines.figure figure) ⌝ }
+{
+    match figure {
+        Figure::Is(p) => counted(p, unit_of(effect)),
+        Figure::Absent => Units::Absent,
+        Figure::Refused => Units::Absent,
+    }
+}
+
+pub(crate) fn above_cap(figure: Figure, effect: Effect) -> bool
+    ensures { λ r. ⌜ r ≡ aboveCap effect (lines.figure figure) ⌝ }
+{
+    match figure {
+        Figure::Is(p) => is_above(p, cap_of(effect)),
+        Figure::Absent => false,
+        Figure::Refused => false,
+    }
+}
