@@ -1,20 +1,15 @@
 -- A deck is read exactly where no condition of the list holds.
 -- Assumes nothing.
 use mathlib.Core.Path.{_≡_, refl, ap, _∙_}
-use mathlib.Core.Bool.{Bool, false, cond}
+use mathlib.Core.Bool.{Bool, cond}
 use mathlib.Core.List.{List, [], _∷_}
 use Prim.Native.Nat.{ℕ}
-use Rattle.deck.specs.Conditions.{Condition, first, conditions}
+use Rattle.deck.specs.Conditions.{Condition, first, NoneHolds, conditions}
 use Rattle.deck.specs.Cases.{readOf}
 use Rattle.deck.specs.declared.Status.the-variants.{Read, Stopped}
 use Rattle.deck.proofs.Scan.{first-read}
 
--- no condition of the list holds
-abbrev pub NoneHolds : List Condition → Type 0
-NoneHolds [] = Unit {0}
-NoneHolds (c ∷ cs) = (c .holds ≡ false) × NoneHolds cs
-
-read-none : (cs : List Condition) → first cs ≡ Read → NoneHolds cs
+pub read-none : (cs : List Condition) → first cs ≡ Read → NoneHolds cs
 read-none [] e = tt
 read-none (c ∷ cs) e = let p = first-read c cs e in (p .0, read-none cs (p .1))
 

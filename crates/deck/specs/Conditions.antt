@@ -1,6 +1,7 @@
 -- Where a deck stops (document 01): the conditions 11 to 33 as one ordered list. The answer is the first that holds, and a deck is read
 -- exactly where none holds. Later stages append their own conditions to this list.
 -- Assumes nothing.
+use mathlib.Core.Path.{_≡_}
 use Prim.Native.Nat.{ℕ, zero, suc, _+_, _*_, _-_, _/_, _%_}
 use mathlib.Core.Bool.{Bool, true, false, cond, not, _&&_, _||_}
 use mathlib.Core.List.{List, [], _∷_, _++_}
@@ -29,6 +30,11 @@ at n l f b = record { number = n; line = l; field = f; holds = b }
 unfoldable pub first : List Condition → Status
 first [] = Read
 first (c ∷ cs) = cond (c .holds) (Stopped (c .number) (c .line) (c .field)) (first cs)
+
+-- none of them holds
+abbrev pub NoneHolds : List Condition → Type 0
+NoneHolds [] = Unit {0}
+NoneHolds (c ∷ cs) = (c .holds ≡ false) × NoneHolds cs
 
 -- f 1, f 2, .., f n
 unfoldable pub upTo : (ℕ → List Condition) → ℕ → List Condition

@@ -22,7 +22,7 @@ use Rattle.sheet.specs.declared.Sources.{Sources}
 use Rattle.sheet.specs.Text.{linesText}
 use Rattle.sheet.specs.Sheet.{rowsOf, linesPerReceptor, linesOfReport, sheetConditions}
 use Rattle.sheet.specs.Worked.{sourcesOf, fastSource, perReceptor, allRows, allLarge, rowsIn, workedRows, workedConditions}
-use Rattle.sheet.specs.Demand.{allConditions}
+use Rattle.sheet.specs.Report.{allConditions}
 use Rattle.sheet.specs.Report.{statusOf, lengthOf, outcomeFor, outcomeOf, bufferFor, bufferOf}
 use Rattle.sheet.proofs.Ranges.{deck-ranged}
 use Rattle.sheet.proofs.SourceLaws.{some-receptor, counts-small}

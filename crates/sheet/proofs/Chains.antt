@@ -6,7 +6,7 @@ use Prim.Native.Nat.{ℕ, zero, suc, _+_, _-_, _*_, _/_, _%_, _<_}
 use native.Mathlib.Nat.{add-zero, add-suc, le-refl, le-of-suc-le-suc, not-suc-le-zero}
 use native.Mathlib.Numerals.{add-one}
 use native.Mathlib.Omega.{arith}
-use lib.ListN.{length, getD, take, set, length-set}
+use lib.ListN.{length, getD, take, set, length-set, length-append}
 use lib.Seq.{take-suc, take-set-le, getD-set-same}
 use Rattle.deck.specs.declared.Status.{Status}
 use Rattle.deck.specs.declared.Status.the-variants.{Read, Stopped}
@@ -34,6 +34,20 @@ module _ {A : Type 0} where
       rw add-suc
       (ap (λ (l : List A). l ++ f (a + b)) (chained-add f a b)
       ∙ append-assoc (chained f a) (chained (λ k. f (a + k)) b) (f (a + b)))
+
+  -- part k with what stands before and after it
+  pub chained-split : (f : ℕ → List A) (n k : ℕ) → k < n → chained f n ≡ chained f k ++ (f k ++ chained (λ j. f (k + 1 + j)) (n - (k + 1)))
+  chained-split f n k h =
+      let e : n ≡ k + 1 + (n - (k + 1)) = omega arith in
+      ap (chained f) e
+      ∙ chained-add f (k + 1) (n - (k + 1))
+      ∙ ap (λ (l : List A). l ++ chained (λ j. f (k + 1 + j)) (n - (k + 1))) (chained-more f k)
+      ∙ append-assoc (chained f k) (f k) (chained (λ j. f (k + 1 + j)) (n - (k + 1)))
+
+  pub chained-length : (f : ℕ → List A) (n m : ℕ) → ((k : ℕ) → length (f k) ≡ m) → length (chained f n) ≡ n * m
+  unfolding chained
+  chained-length f zero m h = omega arith
+  chained-length f (suc n) m h = length-append (chained f n) (f n) ∙ omega (arith, chained-length f n m h, h n)
 
   -- two loops, the inner one of six, as one
   pub flat : (f : ℕ → ℕ → List A) (n : ℕ) → chained (λ i. chained (f i) 6) n ≡ chained (λ q. f (q / 6) (q % 6)) (n * 6)

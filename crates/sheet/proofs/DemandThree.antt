@@ -10,7 +10,8 @@ use Rattle.deck.specs.Conditions.{first, conditions}
 use Rattle.deck.specs.Cases.{caseOf}
 use Rattle.deck.proofs.Places.{append-read}
 use Rattle.sheet.specs.Sheet.{pathwayAt, columnsAt, totalAt, sheetConditions}
-use Rattle.sheet.specs.Demand.{allConditions, exactLine, counts, exactTotal, linesAdded, Holds, Demand3}
+use Rattle.sheet.specs.Report.{allConditions}
+use Rattle.sheet.specs.DemandThree.{exactLine, counts, exactTotal, linesAdded, Holds, Demand3}
 use Rattle.sheet.proofs.Inputs.{Ranged}
 use Rattle.sheet.proofs.Ranges.{deck-ranged}
 use Rattle.sheet.proofs.Clear.{not-fast, not-large}

@@ -33,7 +33,8 @@ use Rattle.sheet.specs.Values.{siteIndex, chemicalIndex, receptorIndex, 
 use Rattle.sheet.specs.Text as text
 use Rattle.sheet.specs.Text.{digits, justified, number, unitsText, rowText, linesText}
 use Rattle.sheet.specs.Sheet.{pathwayAt, referenceSlot, isPrinted, hasReference, figureAt, unitOf, capOf, counted, countedIn, columnsAt, _added_, addedPathways, addedChemicals, totalAt, rowAt, totalRow, chained, rowsAt, rowsOf, linesPerReceptor, linesOfReport, isAbove, highAbove, exponentAt, tooFast, overCap, lineTooLarge, sheetConditions}
-use Rattle.sheet.specs.Demand.{allConditions}
+use Rattle.deck.specs.declared.Status.{Status}
+use Rattle.sheet.specs.Report.{allConditions, statusOf, lengthOf, outcomeFor, outcomeOf}
 use Rattle.sheet.specs.Figures.{bytes, lines, deckLines, deck, printedLines, printed, row, rows, xAt, Winter, cases, CheckedFigures}
 
 -- x = 0
@@ -64,6 +65,10 @@ read-whole : first (allConditions deck 665) ≡ Read
 unfolding bytes lines deckLines deck within leading linesOf lineOf fieldIn fieldOf decimal idSpelled idIn signSpelled exponentSpelled powerOf digitsRead endedOf pointedOf spelledOf loneDash wordOf kindOf idOf countOf tabulate valueOf records.slotOf recordOf recordsOf caseWith caseOf siteIndex chemicalIndex receptorIndex slotOf chemicalAt receptorAt values.printed orOne pairOf pairsAt nineFigures inReach zeroExponent isZero isNumber zero one lesser rise unitsAt lower atMost isPair extra divided excessFrom excess carried rounded sumEnd productEnd quotientEnd restEnd provided calls.ends after afterOne zeroPair onePair entry sum product quotient oneMinus pairs read letters plain worked terms fromZero pairSeries u kse ksr ksl k x g A D C aboveGround belowGround AT B exposure factor medium intake byRoute reference line pathwayAt referenceSlot isPrinted hasReference figureAt chained order befores among table ruleOf rulesIn rulesOf above below rules.atMost atLeast inRange first upTo misspelled misplaced outOfRange fieldConditions fieldAt badBytes badKind begins sameLetter wrongId badId lineConditionsAfter lineConditions badLength noEnd conditions compared sixtyFour capOf linesPerReceptor linesOfReport isAbove highAbove exponentAt tooFast overCap lineTooLarge sheetConditions allConditions
 read-whole = refl
 
+answer-is : outcomeOf deck 665 ≡ record { number = 0; line = 665; field = 0 }
+unfolding bytes lines deckLines deck within leading linesOf lineOf fieldIn fieldOf decimal idSpelled idIn signSpelled exponentSpelled powerOf digitsRead endedOf pointedOf spelledOf loneDash wordOf kindOf idOf countOf tabulate caseWith caseOf linesPerReceptor linesOfReport lengthOf statusOf outcomeFor outcomeOf
+answer-is = ap (λ (s : Status). outcomeFor s (caseOf deck)) read-whole
+
 -- What the cases x = 0, ED 4.5 and winter ask of the slots is met: by the deck, by 4.5 in every slot, and by these values.
 receptorValues : List (Outcome Pair)
 receptorValues = entry 633 (negsuc 0) ∷ whole 75 ∷ whole 27375 ∷ whole 1 ∷ whole 1 ∷ whole 1 ∷ whole 25 ∷ whole 1 ∷ whole 1 ∷ whole 151 ∷ []
@@ -88,4 +93,4 @@ winter-met = record { irSoil = refl; afOral = refl; frSnow = refl; etSoil = refl
 -- the single list
 pub checked-figures : CheckedFigures
 unfolding CheckedFigures cases figures
-checked-figures = (figures-hold .0, (figures-hold .1 .0, (at-zero, (year, (winter, (read-whole, (lines-are, (ap linesText lines-are ∙ text-is, tt))))))))
+checked-figures = (figures-hold .0, (figures-hold .1 .0, (at-zero, (year, (winter, (read-whole, (answer-is, (lines-are, (ap linesText lines-are ∙ text-is, tt)))))))))

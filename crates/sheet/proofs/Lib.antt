@@ -16,5 +16,6 @@ mod ReportLaws
 mod TotalRows
 mod CallLaws
 mod Agreement
+pub mod DemandTwo
 pub mod DemandThree
 pub mod Figures

@@ -33,7 +33,7 @@ use Rattle.sheet.specs.declared.Units.the-variants as Columns
 use Rattle.sheet.specs.Values.{printed, pairsAt, exactAt}
 use Rattle.media.specs.Media.{sixtyFour}
 use Rattle.sheet.specs.Sheet.{hasReference, figureAt, unitOf, capOf, counted, countedIn, columnsAt, isAbove, highAbove, exponentAt, overCap}
-use Rattle.sheet.specs.Demand.{Enclosed, unitsPerOne, inUnitsOf, nothing, exactLine, counts}
+use Rattle.sheet.specs.DemandThree.{Enclosed, unitsPerOne, inUnitsOf, nothing, exactLine, counts}
 use Rattle.sheet.proofs.Inputs.{Ranged, inputs, ten-above, place-power}
 use Rattle.sheet.proofs.TotalLaws.{Totals, totals-none}
 

@@ -141,11 +141,15 @@ unfolding linesText
 length-lines [] = refl
 length-lines (row ∷ rows) = simp (length-append, length-row, length-lines rows) (omega arith)
 
+pub lines-append : (rows more : List Row) → linesText (rows ++ more) ≡ linesText rows ++ linesText more
+unfolding linesText
+lines-append [] more = refl
+lines-append (first ∷ rows) more =
+    ap (λ (x : List ℕ). rowText first ++ x) (lines-append rows more) ∙ sym (append-assoc (rowText first) (linesText rows) (linesText more))
+
 lines-snoc : (rows : List Row) (row : Row) → linesText (rows ++ (row ∷ [])) ≡ linesText rows ++ rowText row
 unfolding linesText
-lines-snoc [] row = append-nil (rowText row)
-lines-snoc (first ∷ rows) row =
-    ap (λ (x : List ℕ). rowText first ++ x) (lines-snoc rows row) ∙ sym (append-assoc (rowText first) (linesText rows) (rowText row))
+lines-snoc rows row = lines-append rows (row ∷ []) ∙ ap (λ (x : List ℕ). linesText rows ++ x) (append-nil (rowText row))
 
 -- a line more of the report
 pub lines-more : (rows : List Row) (blank : Row) (entry out : List ℕ) (k : ℕ) → k < length rows

@@ -8,7 +8,7 @@ use Rattle.pair.specs.Fraction.{Fraction, plus}
 use Rattle.sheet.specs.declared.Units.{Units}
 use Rattle.sheet.specs.declared.Units.the-variants as Columns
 use Rattle.sheet.specs.Sheet.{_added_, addedPathways, addedChemicals, pathwaysPerChemical}
-use Rattle.sheet.specs.Demand.{Enclosed, Holds, nothing, sumPathways, sumChemicals, countPathways, countChemicals}
+use Rattle.sheet.specs.DemandThree.{Enclosed, Holds, nothing, sumPathways, sumChemicals, countPathways, countChemicals}
 
 -- no line, and so 0
 pub record None (n : ℕ) (x : Fraction) : Type 0 where

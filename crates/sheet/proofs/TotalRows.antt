@@ -39,6 +39,7 @@ use Rattle.sheet.specs.Sheet.{pathwaysPerChemical, pathwayAt, hasReferen
 use Rattle.sheet.specs.Values.{exactAt}
 use Rattle.sheet.specs.Worked.{unitsFor, lowIn, highIn, lows, highs, totalled, totalUnits}
 use Rattle.sheet.proofs.Inputs.{Ranged, ten-above}
+use Rattle.sheet.proofs.Chains.{chained-length}
 use Rattle.sheet.proofs.Clear.{not-fast, not-large}
 use Rattle.sheet.proofs.LineTotals.{cap-units, Figure, figure-counted}
 
@@ -251,11 +252,6 @@ chained-small w e f zero h = rw (ends-none w e) refl
 chained-small w e f (suc n) h =
     rw (ends-append w e (chained f n) (f n))
     (all-append (10 ^ 16) (ends w e (chained f n)) (ends w e (f n)) (chained-small w e f n (λ i l. h i (omega arith))) (h n (omega arith)))
-
-chained-length : (f : ℕ → List Row) (n m : ℕ) → ((i : ℕ) → length (f i) ≡ m) → length (chained f n) ≡ n * m
-unfolding chained
-chained-length f zero m h = omega arith
-chained-length f (suc n) m h = length-append (chained f n) (f n) ∙ omega (arith, chained-length f n m h, h n)
 
 pathways-summed : (e : Effect) (f : ℕ → Row) (g : ℕ → Units) → ((p : ℕ) → unitsFor e (f p) ≡ g (suc p)) → (n : ℕ)
     → summed e (chained (λ p. f p ∷ []) n) ≡ addedPathways g n

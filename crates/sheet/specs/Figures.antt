@@ -24,7 +24,7 @@ use Rattle.sheet.specs.declared.Units.the-variants.{Absent, Counted}
 use Rattle.sheet.specs.declared.Row.{Row}
 use Rattle.sheet.specs.Text.{linesText}
 use Rattle.sheet.specs.Sheet.{rowsOf}
-use Rattle.sheet.specs.Demand.{allConditions}
+use Rattle.sheet.specs.Report.{allConditions, outcomeOf}
 
 -- a text's bytes; every character here is one byte
 unfoldable pub bytes : String → List ℕ
@@ -119,8 +119,9 @@ cases =
     ∷ ((env : Slot → Pair) → is (env (receptor slots.ed)) ≡ entry 45 (negsuc 0) → worked env (AT Hazard) ≡ ends 164250000 164250000 (negsuc 4))
     -- 002's winter factor
     ∷ ((env : Slot → Pair) → Winter env → worked env (factor Cancer SoilWinter) ≡ ends 996667315 996667316 (negsuc 15))
-    -- the deck: no condition holds, with a buffer of 665 bytes; its report's lines, and their bytes
+    -- the deck: no condition holds, with a buffer of 665 bytes; its answer, its report's lines, and their bytes
     ∷ (first (allConditions deck 665) ≡ Read)
+    ∷ (outcomeOf deck 665 ≡ record { number = 0; line = 665; field = 0 })
     ∷ (rowsOf (caseOf deck) ≡ rows)
     ∷ (linesText (rowsOf (caseOf deck)) ≡ printed)
     ∷ []

@@ -4,6 +4,7 @@ pub mod Text
 pub mod Totals
 pub mod Sheet
 pub mod Worked
-pub mod Demand
 pub mod Report
+pub mod DemandTwo
+pub mod DemandThree
 pub mod Figures

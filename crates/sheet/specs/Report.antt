@@ -7,13 +7,16 @@ use Rattle.deck.specs.declared.Case.{Case}
 use Rattle.deck.specs.declared.Status.{Status}
 use Rattle.deck.specs.declared.Status.the-variants.{Read, Stopped}
 use Rattle.deck.specs.declared.Told.{Told}
-use Rattle.deck.specs.Conditions.{first}
+use Rattle.deck.specs.Conditions.{Condition, first, conditions}
 use Rattle.deck.specs.Cases.{caseOf}
 use Rattle.sheet.specs.Text.{lineWidth, linesText}
-use Rattle.sheet.specs.Sheet.{rowsOf, linesOfReport}
-use Rattle.sheet.specs.Demand.{allConditions}
+use Rattle.sheet.specs.Sheet.{rowsOf, linesOfReport, sheetConditions}
 
--- the first condition of document 01's table that holds, or none
+-- the conditions of document 01's table, for a deck and a report buffer of so many bytes
+unfoldable pub allConditions : List ℕ → ℕ → List Condition
+allConditions deck room = conditions deck ++ sheetConditions (caseOf deck) room
+
+-- the first of them that holds, or none
 unfoldable pub statusOf : List ℕ → ℕ → Status
 statusOf deck room = first (allConditions deck room)
 

@@ -2,7 +2,7 @@
 -- from the printed values with N terms of the series, counted in units and not rounded.
 use mathlib.Core.Path.{_≡_}
 use mathlib.Core.Bool.{cond}
-use mathlib.Core.List.{List, _++_}
+use mathlib.Core.List.{List}
 use Prim.Native.Nat.{ℕ, zero, suc, _+_, _*_, _^_, _≤_, _<_}
 use Rattle.pair.specs.Fraction.{Fraction, plus}
 use Rattle.equations.specs.declared.Pathway.{Pathway}
@@ -12,18 +12,15 @@ use Rattle.equations.specs.Page.{line}
 use Rattle.equations.specs.Readings.{exactly}
 use Rattle.deck.specs.declared.Case.{Case}
 use Rattle.deck.specs.declared.Status.the-variants.{Read}
-use Rattle.deck.specs.Conditions.{Condition, first, conditions}
+use Rattle.deck.specs.Conditions.{first}
 use Rattle.deck.specs.Cases.{caseOf}
 use Rattle.sheet.specs.declared.Units.{Units}
 use Rattle.sheet.specs.declared.Units.the-variants as Columns
 use Rattle.sheet.specs.Values.{exactAt}
-use Rattle.sheet.specs.Sheet.{pathwayAt, pathwaysPerChemical, hasReference, totalAt, sheetConditions}
+use Rattle.sheet.specs.Sheet.{pathwayAt, pathwaysPerChemical, hasReference, totalAt}
+use Rattle.sheet.specs.Report.{allConditions}
 
--- the conditions of document 01's table, for a deck and a report buffer of so many bytes
-unfoldable pub allConditions : List ℕ → ℕ → List Condition
-allConditions deck room = conditions deck ++ sheetConditions (caseOf deck) room
-
--- a deck is accepted where none of them holds, with some buffer
+-- a deck is accepted where no condition of document 01's table holds, with some buffer
 pub record Accepted (deck : List ℕ) : Type 0 where
   pub room : ℕ
   pub none : first (allConditions deck room) ≡ Read
