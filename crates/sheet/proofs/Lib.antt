@@ -1,4 +1,5 @@
--- The crate's laws: the text of a report, demand 3 of document 01 (`DemandThree`) and its checked figures (`Figures`). Assumes nothing.
+-- The crate's laws: the text of a report, what is worked against what is defined, and demands 1 to 3 of document 01 (`DemandTwo`, `DemandThree`).
+-- Assumes nothing.
 mod Sums
 mod Columns
 mod Places
@@ -18,4 +19,3 @@ mod CallLaws
 mod Agreement
 pub mod DemandTwo
 pub mod DemandThree
-pub mod Figures

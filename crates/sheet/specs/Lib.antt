@@ -1,4 +1,4 @@
--- What the crate `sheet` promises: the values of a case, the report's lines and their text, the totals, demand 3, and the checked figures.
+-- What the crate `sheet` promises: the values of a case, the report's lines and their text, the totals, the report call, and demands 1 to 3.
 pub mod Values
 pub mod Text
 pub mod Totals
@@ -7,4 +7,3 @@ pub mod Worked
 pub mod Report
 pub mod DemandTwo
 pub mod DemandThree
-pub mod Figures

@@ -28,14 +28,14 @@ use Rattle.deck.specs.Slots.{kindOf, order, befores, among, table, ruleOf, rule
 use Rattle.deck.specs.Conditions.{first, upTo, misspelled, misplaced, outOfRange, fieldConditions, fieldAt, badBytes, badKind, begins, idOf, sameLetter, wrongId, badId, lineConditionsAfter, countOf, lineConditions, badLength, noEnd, conditions}
 use Rattle.deck.specs.Cases as records
 use Rattle.deck.specs.Cases.{tabulate, valueOf, recordOf, recordsOf, caseWith, caseOf}
 use Rattle.sheet.specs.Values as values
 use Rattle.sheet.specs.Values.{siteIndex, chemicalIndex, receptorIndex, slotOf, chemicalAt, receptorAt, orOne, pairOf, pairsAt}
 use Rattle.sheet.specs.Text as text
 use Rattle.sheet.specs.Text.{digits, justified, number, unitsText, rowText, linesText}
 use Rattle.sheet.specs.Sheet.{pathwayAt, referenceSlot, isPrinted, hasReference, figureAt, unitOf, capOf, counted, countedIn, columnsAt, _added_, addedPathways, addedChemicals, totalAt, rowAt, totalRow, chained, rowsAt, rowsOf, linesPerReceptor, linesOfReport, isAbove, highAbove, exponentAt, tooFast, overCap, lineTooLarge, sheetConditions}
 use Rattle.deck.specs.declared.Status.{Status}
 use Rattle.sheet.specs.Report.{allConditions, statusOf, lengthOf, outcomeFor, outcomeOf}
-use Rattle.sheet.specs.Figures.{bytes, lines, deckLines, deck, printedLines, printed, row, rows, xAt, Winter, cases, CheckedFigures}
+use Rattle.figures.specs.Figures.{bytes, lines, deckLines, deck, printedLines, printed, row, rows, xAt, Winter, cases, CheckedFigures}
 
 -- x = 0
 at-zero : (env : Slot → Pair) → xAt env ≡ is zeroPair → (worked env φ ≡ is onePair) × (worked env g ≡ is onePair)

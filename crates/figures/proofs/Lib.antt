@@ -1,0 +1,2 @@
+-- The checked figures hold, jointly (`Figures`). Assumes nothing.
+pub mod Figures

@@ -1,0 +1,2 @@
+-- Document 01's checked figures.
+pub mod Figures
