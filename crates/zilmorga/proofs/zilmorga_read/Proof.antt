@@ -1,0 +1,19 @@
+-- `zilmorga_read` tells what the deck's reader answers. Assumes nothing.
+use mathlib.Core.Path.{refl}
+use borrow.Author.Needs.{needs}
+use Rattle.zilmorga.specs.Calls.{readTold}
+use Rattle.zilmorga.proofs.zilmorga_read.Statement.{statement}
+use Rattle.zilmorga.proofs.zilmorga_read.Tie as tie
+
+read-requires : tie.Need-read-requires
+read-requires c κs = search needs
+
+tell-requires : tie.Need-tell-requires
+tell-requires c κs = search needs
+
+returns : tie.Need-returns
+unfolding readTold
+returns c = rw (c .tell .ensures, c .before .read .ensures) refl
+
+pub zilmorga-read-spec : {M : Type 1} → statement M
+zilmorga-read-spec = tie.close (tie.spec read-requires tell-requires returns)

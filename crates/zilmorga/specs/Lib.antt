@@ -1,0 +1,2 @@
+-- What the crate `zilmorga` promises.
+pub mod Calls
