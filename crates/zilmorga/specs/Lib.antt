@@ -1,2 +1,3 @@
 -- What the crate `zilmorga` promises.
+pub mod Numbers
 pub mod Calls

@@ -1,10 +1,24 @@
 //! The library for C and Rust: each function passes on to a proved call, and returns 0 or the number of the refusal.
 //! include/zilmorga.h says the same to a C compiler.
+mod numbers;
+
 ghost use mathlib.Core.Path.{_≡_};
 ghost use lib.ListN.{length};
+ghost use Rattle.pair.specs.Calls as calls;
+ghost use Rattle.equations.specs.Series.{pairSeries};
 ghost use Rattle.sheet.specs.Report.{outcomeOf, bufferOf};
 ghost use Rattle.sheet.specs.Totals.{totalOf};
-ghost use Rattle.zilmorga.specs.Calls.{left, after, told, readTold};
+ghost use Rattle.zilmorga.specs.Numbers.{numbersOf};
+ghost use Rattle.zilmorga.specs.Calls.{left, leaves, told, readTold, onePair, twoPairs, comparison, units, countOf};
+use crate::numbers::REFUSED;
+use crate::numbers::compared;
+use crate::numbers::number_of;
+use crate::numbers::pair_of;
+use crate::numbers::put;
+use crate::numbers::put_order;
+use pair::Answer;
+use pair::Count;
+use pair::Pair;
 use sheet::Total;
 
 // The report of a deck: 0, the report's length and 0; or number, line and field of the refusal, and the report as it was.
@@ -40,7 +54,7 @@ pub extern "C" fn zilmorga_read(deck: &[u8], line: &mut usize, field: &mut usize
 // The sum of a list of units; 52, and sum as it was, for more than 96 numbers or one above 1E+16.
 #[no_mangle]
 pub extern "C" fn zilmorga_total(list: &[u64], sum: &mut u64) -> u32
-    ensures { λ r. ⌜ left r (now (sum .exit)) ≡ after (λ n. n) (totalOf (now (list .entry))) (now (sum .entry)) ⌝ }
+    ensures { λ r. ⌜ left r (now (sum .exit)) ≡ leaves (λ n. n) (totalOf (now (list .entry))) (now (sum .entry)) ⌝ }
 {
     match sheet::totals::total(list) {
         Total::Is(n) => {
@@ -48,5 +62,87 @@ pub extern "C" fn zilmorga_total(list: &[u64], sum: &mut u64) -> u32
             0
         }
         Total::Refused => 52,
+    }
+}
+
+// The pair of a number as printed.
+#[no_mangle]
+pub extern "C" fn zilmorga_entry(digits: u64, power: i32, out: &mut [i64; 4]) -> u32
+    ensures { λ r. ⌜ left r (now (out .exit)) ≡ leaves numbersOf (calls.entry digits power) (now (out .entry)) ⌝ }
+{
+    put(Pair::entry(digits, power), out)
+}
+
+#[no_mangle]
+pub extern "C" fn zilmorga_sum(a: &[i64; 4], b: &[i64; 4], out: &mut [i64; 4]) -> u32
+    ensures { λ r. ⌜ left r (now (out .exit)) ≡ twoPairs calls.sum (now (a .entry)) (now (b .entry)) (now (out .entry)) ⌝ }
+{
+    let x = pair_of(a);
+    let y = pair_of(b);
+    put(x.plus(y), out)
+}
+
+#[no_mangle]
+pub extern "C" fn zilmorga_product(a: &[i64; 4], b: &[i64; 4], out: &mut [i64; 4]) -> u32
+    ensures { λ r. ⌜ left r (now (out .exit)) ≡ twoPairs calls.product (now (a .entry)) (now (b .entry)) (now (out .entry)) ⌝ }
+{
+    let x = pair_of(a);
+    let y = pair_of(b);
+    put(x.times(y), out)
+}
+
+#[no_mangle]
+pub extern "C" fn zilmorga_quotient(a: &[i64; 4], b: &[i64; 4], out: &mut [i64; 4]) -> u32
+    ensures { λ r. ⌜ left r (now (out .exit)) ≡ twoPairs calls.quotient (now (a .entry)) (now (b .entry)) (now (out .entry)) ⌝ }
+{
+    let x = pair_of(a);
+    let y = pair_of(b);
+    put(x.over(y), out)
+}
+
+// 1 − f.
+#[no_mangle]
+pub extern "C" fn zilmorga_one_minus(f: &[i64; 4], out: &mut [i64; 4]) -> u32
+    ensures { λ r. ⌜ left r (now (out .exit)) ≡ onePair calls.oneMinus (now (f .entry)) (now (out .entry)) ⌝ }
+{
+    put(pair_of(f).one_minus(), out)
+}
+
+// φ at x.
+#[no_mangle]
+pub extern "C" fn zilmorga_series(x: &[i64; 4], out: &mut [i64; 4]) -> u32
+    ensures { λ r. ⌜ left r (now (out .exit)) ≡ onePair (λ p. pairSeries (calls.is p)) (now (x .entry)) (now (out .entry)) ⌝ }
+{
+    let Answer::Is(p) = pair_of(x) else {
+        return REFUSED;
+    };
+    put(media::series(p), out)
+}
+
+// Whether a working number is at most a bound: 1 or 0.
+#[no_mangle]
+pub extern "C" fn zilmorga_compare(end: &[i64; 2], bound: &[i64; 2], at_most: &mut u32) -> u32
+    ensures { λ r. ⌜ left r (now («at_most» .exit)) ≡ comparison (now (end .entry)) (now (bound .entry)) (now («at_most» .entry)) ⌝ }
+{
+    let x = number_of(end[0], end[1]);
+    let y = number_of(bound[0], bound[1]);
+    put_order(compared(x, y), at_most)
+}
+
+// The ends of a pair in units of 10^unit: the low end down, the high end up.
+#[no_mangle]
+pub extern "C" fn zilmorga_in_units(p: &[i64; 4], unit: i32, low: &mut u64, high: &mut u64) -> u32
+    ensures { λ r. ⌜ left r (units (now (low .exit)) (now (high .exit))) ≡ countOf (now (p .entry)) unit (units (now (low .entry)) (now (high .entry))) ⌝ }
+{
+    let Answer::Is(q) = pair_of(p) else {
+        return REFUSED;
+    };
+    match q.in_units(unit) {
+        Count::Is(n) => {
+            *low = n.low;
+            *high = n.high;
+            0
+        }
+        Count::Refused => REFUSED,
     }
 }

@@ -2,7 +2,7 @@
 use mathlib.Core.Path.{refl}
 use borrow.Author.Needs.{needs}
 use Rattle.sheet.specs.Totals.{totalled}
-use Rattle.zilmorga.specs.Calls.{after}
+use Rattle.zilmorga.specs.Calls.{leaves}
 use Rattle.zilmorga.proofs.zilmorga_total.Statement.{statement}
 use Rattle.zilmorga.proofs.zilmorga_total.Tie as tie
 
@@ -16,11 +16,11 @@ enum-told : tie.Need-enum-told
 enum-told c = search needs
 
 returns : tie.Need-returns
-unfolding after totalled
+unfolding leaves totalled
 returns c = rw (← c .before .before .before .total .ensures, c .before .n .given .1) refl
 
 returns-2 : tie.Need-returns-2
-unfolding after totalled
+unfolding leaves totalled
 returns-2 c = rw (← c .before .before .total .ensures, c .enum-told .given .1) refl
 
 pub zilmorga-total-spec : {M : Type 1} → statement M
