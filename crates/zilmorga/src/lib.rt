@@ -16,10 +16,20 @@ use crate::numbers::number_of;
 use crate::numbers::pair_of;
 use crate::numbers::put;
 use crate::numbers::put_order;
+use deck::Told;
 use pair::Answer;
 use pair::Count;
 use pair::Pair;
 use sheet::Total;
+
+// The number, with line and field written.
+fn put_told(t: Told, line: &mut usize, field: &mut usize) -> u32
+    ensures { λ r. ⌜ told r (now (line .exit)) (now (field .exit)) ≡ t ⌝ }
+{
+    *line = t.line;
+    *field = t.field;
+    t.number
+}
 
 // The report of a deck: 0, the report's length and 0; or number, line and field of the refusal, and the report as it was.
 #[no_mangle]
@@ -33,9 +43,7 @@ pub extern "C" fn zilmorga_report(
     ensures { λ _. ⌜ now (report .exit) ≡ bufferOf (now (deck .entry)) (now (report .entry)) ⌝ }
 {
     let told = sheet::report(deck, report);
-    *line = told.line;
-    *field = told.field;
-    told.number
+    put_told(told, line, field)
 }
 
 // A deck read alone: 0, 0 and 0; or number, line and field of the refusal.
@@ -45,10 +53,7 @@ pub extern "C" fn zilmorga_read(deck: &[u8], line: &mut usize, field: &mut usize
 {
     let reading = deck::read(deck);
     let status = reading.status;
-    let told = deck::tell(status);
-    *line = told.line;
-    *field = told.field;
-    told.number
+    put_told(deck::tell(status), line, field)
 }
 
 // The sum of a list of units; 52, and sum as it was, for more than 96 numbers or one above 1E+16.

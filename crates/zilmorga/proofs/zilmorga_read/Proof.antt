@@ -11,9 +11,13 @@ read-requires c κs = search needs
 tell-requires : tie.Need-tell-requires
 tell-requires c κs = search needs
 
+put-told-requires : tie.Need-put-told-requires
+put-told-requires c κs = search needs
+
 returns : tie.Need-returns
 unfolding readTold
-returns c = rw (c .tell .ensures, c .before .read .ensures) refl
+returns c =
+    rw (c .put-told .ensures, c .before .before .before .tell .ensures, c .before .before .before .before .read .ensures) refl
 
 pub zilmorga-read-spec : {M : Type 1} → statement M
-zilmorga-read-spec = tie.close (tie.spec read-requires tell-requires returns)
+zilmorga-read-spec = tie.close (tie.spec read-requires tell-requires put-told-requires returns)

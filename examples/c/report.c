@@ -1,0 +1,30 @@
+/* Reads a deck from standard input and writes its report to standard output, or the number, line and field of what stops it.
+ * Then works 2 / 3 as a pair, on standard error. */
+#include <stdio.h>
+#include "zilmorga.h"
+
+int main(void)
+{
+    /* One byte more than the longest deck, so that a longer one is refused and not cut. */
+    static uint8_t deck[ZILMORGA_LONGEST_DECK + 1];
+    static uint8_t report[ZILMORGA_LONGEST_REPORT];
+    size_t line, field;
+    size_t n = fread(deck, 1, sizeof deck, stdin);
+    uint32_t number = zilmorga_report(deck, n, report, sizeof report, &line, &field);
+    if (number == 0)
+        fwrite(report, 1, line, stdout);
+    else
+        printf("%6u%6zu%6zu\n", (unsigned)number, line, field);
+
+    int64_t two[4], three[4], p[4];
+    uint32_t refused = zilmorga_entry(2, 0, two);
+    if (refused == 0)
+        refused = zilmorga_entry(3, 0, three);
+    if (refused == 0)
+        refused = zilmorga_quotient(two, three, p);
+    if (refused == 0)
+        fprintf(stderr, "2 / 3 is from %lldE%lld to %lldE%lld\n", (long long)p[0], (long long)p[1], (long long)p[2], (long long)p[3]);
+    else
+        fprintf(stderr, "2 / 3 is refused by %u\n", (unsigned)refused);
+    return number != 0;
+}
