@@ -1,0 +1,124 @@
+//! The pair calls as a caller sees them: any numbers in, a pair or 53 out.
+//!
+//! A pair travels as low significand, low exponent, high significand, high exponent.
+
+use crate::pairs::{self, Pair, Working, LEAST, MOST, REACH};
+
+/// A pair call's refusal.
+pub const REFUSED: u32 = 53;
+
+pub type Raw = [i64; 4];
+pub type Answer<T> = Result<T, u32>;
+
+fn in_reach(e: i64) -> bool {
+    (-(REACH as i64)..=REACH as i64).contains(&e)
+}
+
+fn working(m: i64, e: i64) -> Answer<Working> {
+    let nine_figures = (LEAST as i64..=MOST as i64).contains(&m);
+    if (m == 0 && e == 0) || (nine_figures && in_reach(e)) {
+        Ok(Working { m: m as u32, e: e as i32 })
+    } else {
+        Err(REFUSED)
+    }
+}
+
+fn operand(raw: &Raw) -> Answer<Pair> {
+    let p = Pair { low: working(raw[0], raw[1])?, high: working(raw[2], raw[3])? };
+    if p.low.at_most(p.high) {
+        Ok(p)
+    } else {
+        Err(REFUSED)
+    }
+}
+
+fn result(p: Pair) -> Answer<Raw> {
+    if p.in_reach() {
+        Ok([p.low.m as i64, p.low.e as i64, p.high.m as i64, p.high.e as i64])
+    } else {
+        Err(REFUSED)
+    }
+}
+
+/// Document 01 says of an entry only "e out of reach in operand or result": both are tested, for 0 too.
+pub fn entry(digits: u64, power: i32) -> Answer<Raw> {
+    if digits > MOST as u64 || !in_reach(power as i64) {
+        return Err(REFUSED);
+    }
+    result(Pair::entry(digits as u32, power))
+}
+
+pub fn sum(a: &Raw, b: &Raw) -> Answer<Raw> {
+    result(operand(a)? + operand(b)?)
+}
+
+pub fn product(a: &Raw, b: &Raw) -> Answer<Raw> {
+    result(operand(a)? * operand(b)?)
+}
+
+pub fn quotient(a: &Raw, b: &Raw) -> Answer<Raw> {
+    let (a, b) = (operand(a)?, operand(b)?);
+    if b.low.m == 0 {
+        return Err(REFUSED);
+    }
+    result(a / b)
+}
+
+pub fn one_minus(f: &Raw) -> Answer<Raw> {
+    let f = operand(f)?;
+    if !f.high.at_most(Working::ONE) {
+        return Err(REFUSED);
+    }
+    result(f.one_minus())
+}
+
+pub fn series(x: &Raw) -> Answer<Raw> {
+    let (phi, near) = pairs::series(operand(x)?);
+    if near {
+        result(phi)
+    } else {
+        Err(REFUSED)
+    }
+}
+
+/// Whether an end is at most a bound.
+pub fn compare(end: &[i64; 2], bound: &[i64; 2]) -> Answer<bool> {
+    Ok(working(end[0], end[1])?.at_most(working(bound[0], bound[1])?))
+}
+
+/// Low end down, high end up, in units of 10^unit.
+pub fn in_units(p: &Raw, unit: i32) -> Answer<(u64, u64)> {
+    let p = operand(p)?;
+    if !in_reach(unit as i64) {
+        return Err(REFUSED);
+    }
+    p.in_units(unit).ok_or(REFUSED)
+}
+
+#[cfg(test)]
+mod tests {
+    use super::*;
+
+    const ONE: Raw = [100_000_000, -8, 100_000_000, -8];
+
+    #[test]
+    fn refusals() {
+        assert_eq!(entry(1_000_000_000, 0), Err(53));
+        assert_eq!(entry(0, 100_000), Err(53));
+        assert_eq!(entry(0, 99_999), Ok([0; 4]));
+        assert_eq!(entry(1, -99_992), Err(53));
+        assert_eq!(entry(1, -99_991), Ok([100_000_000, -99_999, 100_000_000, -99_999]));
+        assert_eq!(sum(&ONE, &[0, 1, 0, 1]), Err(53));
+        assert_eq!(sum(&ONE, &[100_000_001, 0, 100_000_000, 0]), Err(53));
+        assert_eq!(sum(&ONE, &[99_999_999, 0, 100_000_000, 0]), Err(53));
+        assert_eq!(quotient(&ONE, &[0, 0, 100_000_000, 0]), Err(53));
+        assert_eq!(one_minus(&[100_000_000, -8, 100_000_001, -8]), Err(53));
+        assert_eq!(one_minus(&ONE), Ok([0; 4]));
+        let top = [999_999_999, 99_999, 999_999_999, 99_999];
+        assert_eq!(sum(&top, &ONE), Err(53));
+        assert_eq!(sum(&top, &[0; 4]), Ok(top));
+        assert_eq!(compare(&[100_000_000, -8], &[0, 7]), Err(53));
+        assert_eq!(compare(&[0, 0], &[0, 0]), Ok(true));
+        assert_eq!(in_units(&[0; 4], 100_000), Err(53));
+    }
+}

@@ -1,0 +1,382 @@
+//! A deck read into a case, or where it stops.
+
+use crate::pairs::Working;
+use crate::Outcome;
+
+pub const LINE: usize = 81;
+pub const MOST_CHEMICALS: usize = 16;
+pub const MOST_RECEPTORS: usize = 4;
+
+/// What a slot takes besides a number from 1E-20 to `cap` or 0.
+#[derive(Clone, Copy, PartialEq, Eq, Debug)]
+pub struct Slot {
+    pub cap: Working,
+    pub never_0: bool,
+    /// A lone - is allowed.
+    pub may_lack: bool,
+}
+
+const LEAST_VALUE: Working = Working::entry(1, -20);
+
+/// Any number in range.
+const ANY: Slot = Slot { cap: Working::entry(1, 9), never_0: false, may_lack: false };
+/// Never 0.
+const POS: Slot = Slot { never_0: true, ..ANY };
+/// At most 1.
+const SHARE: Slot = Slot { cap: Working::ONE, ..ANY };
+/// At most 366 days a year.
+const DAYS: Slot = Slot { cap: Working::entry(366, 0), ..ANY };
+const RFD: Slot = Slot { may_lack: true, ..POS };
+const CSF: Slot = Slot { may_lack: true, ..ANY };
+
+/// Zs BD tD θ Xe SD | ER RO R VG FRsnow
+pub const SITE: [Slot; 11] = [POS, POS, POS, POS, ANY, ANY, ANY, ANY, ANY, SHARE, SHARE];
+/// Q HgA HgD Fv Cyv Cyp | Dydv Dywv Dydp Dywp Kds ksg | ksv Br RCF AFinh AForal AFderm | RfDo RfDi CSFo CSFi
+pub const CHEMICAL: [Slot; 22] = [
+    ANY, SHARE, SHARE, SHARE, ANY, ANY, //
+    ANY, ANY, ANY, ANY, POS, ANY, //
+    ANY, ANY, ANY, SHARE, SHARE, SHARE, //
+    RFD, RFD, CSF, CSF,
+];
+/// BW ED ATc IRinh ETinh EFinh | IRsoil ETsoil EFs EFw SAb SAFb | SAh SAFh ETderm IRag Fag IRbg | Fbg WP EFp
+pub const RECEPTOR: [Slot; 21] = [
+    POS, POS, POS, ANY, SHARE, DAYS, //
+    ANY, SHARE, DAYS, DAYS, ANY, ANY, //
+    ANY, ANY, SHARE, ANY, SHARE, ANY, //
+    SHARE, SHARE, DAYS,
+];
+
+/// A chemical's slots before its reference values.
+pub const CHEMICAL_VALUES: usize = 18;
+
+#[derive(Clone, Copy, Debug)]
+pub struct Chemical {
+    pub id: u32,
+    pub value: [Working; CHEMICAL_VALUES],
+    /// RfDo, RfDi, CSFo, CSFi.
+    pub reference: [Option<Working>; 4],
+}
+
+#[derive(Clone, Copy, Debug)]
+pub struct Receptor {
+    pub id: u32,
+    pub value: [Working; 21],
+}
+
+/// What an accepted deck says.
+#[derive(Clone, Debug)]
+pub struct Case {
+    pub site: [Working; 11],
+    pub chemicals: usize,
+    pub receptors: usize,
+    chemical: [Chemical; MOST_CHEMICALS],
+    receptor: [Receptor; MOST_RECEPTORS],
+}
+
+impl Case {
+    pub fn empty() -> Case {
+        Case {
+            site: [Working::ZERO; 11],
+            chemicals: 0,
+            receptors: 0,
+            chemical: [Chemical { id: 0, value: [Working::ZERO; CHEMICAL_VALUES], reference: [None; 4] };
+                MOST_CHEMICALS],
+            receptor: [Receptor { id: 0, value: [Working::ZERO; 21] }; MOST_RECEPTORS],
+        }
+    }
+
+    pub fn chemicals(&self) -> &[Chemical] {
+        &self.chemical[..self.chemicals]
+    }
+
+    pub fn receptors(&self) -> &[Receptor] {
+        &self.receptor[..self.receptors]
+    }
+
+    pub fn report_lines(&self) -> usize {
+        self.receptors * (6 * self.chemicals + 1)
+    }
+
+    pub fn report_length(&self) -> usize {
+        self.report_lines() * crate::report::LINE
+    }
+}
+
+/// Reading alone: 0, 0, 0 where no condition up to 33 holds. There is no report, so no length.
+pub fn read(deck: &[u8]) -> Outcome {
+    let mut case = Case::empty();
+    match read_case(deck, &mut case) {
+        Ok(()) => (0, 0, 0),
+        Err(stop) => stop,
+    }
+}
+
+/// The length of the report that a deck would have, or where its reading stops.
+pub fn report_length(deck: &[u8]) -> Result<usize, Outcome> {
+    let mut case = Case::empty();
+    read_case(deck, &mut case)?;
+    Ok(case.report_length())
+}
+
+/// The lines of a record, and the line at either end.
+#[derive(Clone, Copy, PartialEq)]
+enum Kind {
+    Start,
+    Site(usize),
+    Chemical(usize),
+    Receptor(usize),
+    End,
+}
+
+/// Reads into an empty case.
+pub fn read_case(deck: &[u8], case: &mut Case) -> Result<(), Outcome> {
+    if deck.is_empty() || deck.len() > crate::LONGEST_DECK || deck.len() % LINE != 0 {
+        return Err((11, 0, 0));
+    }
+    let mut before = Kind::Start;
+    let mut site_id = 0;
+    for (i, line) in deck.chunks_exact(LINE).enumerate() {
+        let stop = |number, field| (number, i + 1, field);
+        let (text, feed) = line.split_at(LINE - 1);
+        if feed[0] != b'\n' || !text.iter().all(|b| (32..=126).contains(b)) {
+            return Err(stop(12, 0));
+        }
+        let kind = next(before, [text[0], text[1]], case).ok_or(stop(21, 0))?;
+        if kind == Kind::End {
+            if !blank(&text[2..]) {
+                return Err(stop(22, 0));
+            }
+            before = kind;
+            continue;
+        }
+        let id = id(&text[2..8]).ok_or(stop(22, 0))?;
+        // A first line's id is above that of the record before; the others repeat it.
+        let right = match kind {
+            Kind::Site(0) => true,
+            Kind::Site(_) => id == site_id,
+            Kind::Chemical(0) => case.chemicals == 0 || id > case.chemical[case.chemicals - 1].id,
+            Kind::Chemical(_) => id == case.chemical[case.chemicals - 1].id,
+            Kind::Receptor(0) => case.receptors == 0 || id > case.receptor[case.receptors - 1].id,
+            Kind::Receptor(_) => id == case.receptor[case.receptors - 1].id,
+            Kind::Start | Kind::End => true,
+        };
+        if !right {
+            return Err(stop(22, 0));
+        }
+        match kind {
+            Kind::Site(0) => site_id = id,
+            Kind::Chemical(0) => {
+                case.chemical[case.chemicals].id = id;
+                case.chemicals += 1;
+            }
+            Kind::Receptor(0) => {
+                case.receptor[case.receptors].id = id;
+                case.receptors += 1;
+            }
+            _ => {}
+        }
+        let (slots, first): (&[Slot], usize) = match kind {
+            Kind::Site(k) => (&SITE, 6 * k),
+            Kind::Chemical(k) => (&CHEMICAL, 6 * k),
+            Kind::Receptor(k) => (&RECEPTOR, 6 * k),
+            Kind::Start | Kind::End => (&[], 0),
+        };
+        for f in 0..6 {
+            let slot = slots.get(first + f);
+            let value = fill(slot, mark(field(text, f))).map_err(|number| stop(number, f + 1))?;
+            if slot.is_none() {
+                continue;
+            }
+            let at = first + f;
+            match kind {
+                Kind::Site(_) => case.site[at] = value.unwrap_or(Working::ZERO),
+                Kind::Chemical(_) => {
+                    let c = &mut case.chemical[case.chemicals - 1];
+                    if at < CHEMICAL_VALUES {
+                        c.value[at] = value.unwrap_or(Working::ZERO);
+                    } else {
+                        c.reference[at - CHEMICAL_VALUES] = value;
+                    }
+                }
+                _ => case.receptor[case.receptors - 1].value[at] = value.unwrap_or(Working::ZERO),
+            }
+        }
+        before = kind;
+    }
+    if before == Kind::End {
+        Ok(())
+    } else {
+        Err((21, deck.len() / LINE + 1, 0))
+    }
+}
+
+/// The kind these two columns name, if it can come next.
+fn next(before: Kind, columns: [u8; 2], case: &Case) -> Option<Kind> {
+    let k = columns[1].wrapping_sub(b'1') as usize;
+    let kind = match columns[0] {
+        b'S' if k < 2 => Kind::Site(k),
+        b'C' if k < 4 => Kind::Chemical(k),
+        b'R' if k < 4 => Kind::Receptor(k),
+        b'E' if columns[1] == b'N' => Kind::End,
+        _ => return None,
+    };
+    let fits = match (before, kind) {
+        (Kind::Start, Kind::Site(0)) => true,
+        (Kind::Site(0), Kind::Site(1)) => true,
+        (Kind::Site(1), Kind::Chemical(0)) => true,
+        (Kind::Chemical(3), Kind::Chemical(0)) => case.chemicals < MOST_CHEMICALS,
+        (Kind::Chemical(3), Kind::Receptor(0)) => true,
+        (Kind::Chemical(a), Kind::Chemical(b)) => b == a + 1,
+        (Kind::Receptor(3), Kind::Receptor(0)) => case.receptors < MOST_RECEPTORS,
+        (Kind::Receptor(3), Kind::End) => true,
+        (Kind::Receptor(a), Kind::Receptor(b)) => b == a + 1,
+        _ => false,
+    };
+    fits.then_some(kind)
+}
+
+fn blank(part: &[u8]) -> bool {
+    part.iter().all(|&b| b == b' ')
+}
+
+/// What stands right-justified after spaces.
+fn after_spaces(part: &[u8]) -> &[u8] {
+    let spaces = part.iter().take_while(|&&b| b == b' ').count();
+    &part[spaces..]
+}
+
+/// 1 to 999999, no leading zero.
+fn id(columns: &[u8]) -> Option<u32> {
+    let digits = after_spaces(columns);
+    if *digits.first()? == b'0' {
+        return None;
+    }
+    digits.iter().try_fold(0, |n, b| b.is_ascii_digit().then(|| 10 * n + (b - b'0') as u32))
+}
+
+/// The twelve bytes of field f, from 0.
+fn field(text: &[u8], f: usize) -> &[u8] {
+    &text[8 + 12 * f..20 + 12 * f]
+}
+
+/// What a field says by itself.
+#[derive(Clone, Copy, PartialEq, Debug)]
+enum Mark {
+    Blank,
+    Dash,
+    /// digits × 10^power
+    Number(u32, i32),
+    Misspelled,
+}
+
+fn mark(field: &[u8]) -> Mark {
+    match after_spaces(field) {
+        [] => Mark::Blank,
+        [b'-'] => Mark::Dash,
+        text => number(text).map_or(Mark::Misspelled, |(digits, power)| Mark::Number(digits, power)),
+    }
+}
+
+/// Digits, or digits point digits, nine digits at most; optionally E, a sign, two digits.
+fn number(text: &[u8]) -> Option<(u32, i32)> {
+    let (mut digits, mut power, mut taken) = (0u32, 0, 0);
+    let mut at = 0;
+    let run = |at: &mut usize, digits: &mut u32, taken: &mut usize| -> Option<i32> {
+        let from = *at;
+        while *at < text.len() && text[*at].is_ascii_digit() {
+            *taken += 1;
+            if *taken > 9 {
+                return None;
+            }
+            *digits = *digits * 10 + (text[*at] - b'0') as u32;
+            *at += 1;
+        }
+        (*at > from).then_some((*at - from) as i32)
+    };
+    run(&mut at, &mut digits, &mut taken)?;
+    if text.get(at) == Some(&b'.') {
+        at += 1;
+        power = -run(&mut at, &mut digits, &mut taken)?;
+    }
+    match text[at..] {
+        [] => {}
+        [b'E', sign, tens, ones] if tens.is_ascii_digit() && ones.is_ascii_digit() => {
+            let n = (tens - b'0') as i32 * 10 + (ones - b'0') as i32;
+            power += match sign {
+                b'+' => n,
+                b'-' => -n,
+                _ => return None,
+            };
+        }
+        _ => return None,
+    }
+    Some((digits, power))
+}
+
+/// What a slot takes from a field (`None`: no value), or the refusal's number. A later slot has no `slot`.
+fn fill(slot: Option<&Slot>, mark: Mark) -> Result<Option<Working>, u32> {
+    let (digits, power) = match (slot, mark) {
+        (_, Mark::Misspelled) => return Err(31),
+        (None, Mark::Blank) => return Ok(None),
+        (Some(slot), Mark::Dash) if slot.may_lack => return Ok(None),
+        (None, _) | (_, Mark::Blank | Mark::Dash) => return Err(32),
+        (Some(_), Mark::Number(digits, power)) => (digits, power),
+    };
+    let slot = slot.ok_or(32u32)?;
+    let value = Working::entry(digits, power);
+    let in_range = if value.m == 0 { !slot.never_0 } else { LEAST_VALUE.at_most(value) && value.at_most(slot.cap) };
+    if in_range {
+        Ok(Some(value))
+    } else {
+        Err(33)
+    }
+}
+
+#[cfg(test)]
+mod tests {
+    use super::*;
+
+    fn m(s: &str) -> Mark {
+        mark(format!("{s:>12}").as_bytes())
+    }
+
+    #[test]
+    fn spellings() {
+        assert_eq!(m(""), Mark::Blank);
+        assert_eq!(m("-"), Mark::Dash);
+        assert_eq!(m("0.2"), Mark::Number(2, -1));
+        assert_eq!(m("000000001"), Mark::Number(1, 0));
+        assert_eq!(m("12345678E-05"), Mark::Number(12_345_678, -5));
+        assert_eq!(m("1.2345678E+0"), Mark::Misspelled);
+        assert_eq!(m("0.12345678"), Mark::Number(12_345_678, -8));
+        for bad in [
+            "0.123456789",
+            "1234567890",
+            "+1",
+            "-1",
+            ".5",
+            "5.",
+            "1E5",
+            "1e+05",
+            "1E+005",
+            "1 2",
+            "1 ",
+            "- ",
+            "--",
+            "E+01",
+            "1.E+01",
+            "1..2",
+        ] {
+            assert_eq!(m(bad), Mark::Misspelled, "{bad}");
+        }
+    }
+
+    #[test]
+    fn ids() {
+        assert_eq!(id(b"     1"), Some(1));
+        assert_eq!(id(b"999999"), Some(999_999));
+        for bad in [b"      ", b"     0", b"000001", b"1     ", b" 1   2", b"    -1"] {
+            assert_eq!(id(bad), None);
+        }
+    }
+}

@@ -1,0 +1,694 @@
+//! Trial decks from a seed: realistic, extreme and damaged, each with a report buffer of its own length and earlier content.
+
+use crate::deck::{Chemical, Receptor, Slot, CHEMICAL, CHEMICAL_VALUES, LINE, RECEPTOR, SITE};
+use crate::page::{pathways, Body, Figures, Media, Site};
+use crate::pairs::{Pair, Working};
+use crate::rng::Rng;
+use crate::LONGEST_REPORT;
+
+/// A deck, the length of the report buffer lent with it, and the seed of what that buffer holds before.
+pub struct Trial {
+    pub deck: Vec<u8>,
+    pub room: usize,
+    pub before: u64,
+}
+
+/// Trial number `place` of a run; each can be made again by itself.
+pub fn trial(seed: u64, place: u64) -> Trial {
+    let mut rng = Rng::new(Rng::new(seed).word() ^ Rng::new(!place).word());
+    let rng = &mut rng;
+    let deck = match rng.below(100) {
+        0..=52 => sound(rng),
+        53..=95 => damaged(rng),
+        96..=97 => crowded(rng),
+        _ => noise(rng),
+    };
+    let room = room(rng, &deck);
+    Trial { deck, room, before: rng.word() }
+}
+
+/// A sound deck of this many chemicals and receptors with everyday values, for timing.
+pub fn everyday(seed: u64, chemicals: usize, receptors: usize) -> Vec<u8> {
+    let mut rng = Rng::new(seed);
+    loop {
+        let draft = Draft::new(&mut rng, chemicals, receptors, 0);
+        let deck = draft.deck(&mut rng);
+        if crate::report(&deck, &mut [0; LONGEST_REPORT]).0 == 0 {
+            return deck;
+        }
+    }
+}
+
+fn room(rng: &mut Rng, deck: &[u8]) -> usize {
+    match crate::deck::report_length(deck) {
+        Ok(length) => match rng.below(100) {
+            0..=54 => length,
+            55..=59 => length + 1,
+            60..=76 => length + rng.below(400),
+            77..=86 => LONGEST_REPORT,
+            87..=91 => length - 1,
+            92..=93 => 0,
+            94..=95 => length - crate::report::LINE,
+            _ => rng.below(length),
+        },
+        _ => match rng.below(4) {
+            0 => 0,
+            1 => LONGEST_REPORT,
+            _ => rng.below(2_000),
+        },
+    }
+}
+
+/// What a slot is to say: digits × 10^power, or - for `None`.
+type Value = Option<(u32, i32)>;
+
+fn working(v: Value) -> Working {
+    v.map_or(Working::ZERO, |(digits, power)| Working::entry(digits, power))
+}
+
+fn in_range(slot: &Slot, v: (u32, i32)) -> bool {
+    let w = Working::entry(v.0, v.1);
+    if w.m == 0 {
+        !slot.never_0
+    } else {
+        Working::entry(1, -20).at_most(w) && w.at_most(slot.cap)
+    }
+}
+
+/// Everyday values of a slot: whole numbers of 10^power between two ends.
+type Usual = (i64, i64, i32);
+
+#[rustfmt::skip]
+const SITE_USUAL: [Usual; 11] = [
+    (1, 20, 0), (80, 200, -2), (1, 100, 0), (5, 40, -2), (0, 300, -2), (0, 100, -2),
+    (0, 30, -1), (0, 60, 0), (0, 60, 0), (0, 100, -2), (0, 100, -2),
+];
+#[rustfmt::skip]
+const CHEMICAL_USUAL: [Usual; 22] = [
+    (1, 999, -5), (0, 100, -2), (0, 100, -2), (0, 100, -2), (0, 999, -3), (0, 999, -3),
+    (0, 99, -3), (0, 99, -3), (0, 99, -3), (0, 99, -3), (1, 999, 2), (0, 300, -3),
+    (0, 99, -3), (0, 999, -3), (0, 999, -1), (0, 100, -2), (0, 100, -2), (0, 100, -2),
+    (1, 99, -3), (1, 99, -3), (1, 99, -2), (1, 99, -2),
+];
+#[rustfmt::skip]
+const RECEPTOR_USUAL: [Usual; 21] = [
+    (8, 80, 0), (5, 75, 0), (25_000, 28_000, 0), (1, 25, 0), (0, 100, -2), (0, 366, 0),
+    (10, 200, 0), (0, 100, -2), (0, 366, 0), (0, 366, 0), (100, 20_000, 0), (0, 99, -3),
+    (100, 1_000, 0), (0, 99, -2), (0, 100, -2), (0, 500, -3), (0, 100, -2), (0, 500, -3),
+    (0, 100, -2), (0, 100, -2), (0, 366, 0),
+];
+
+/// A value inside the slot's range, as it might stand in a real deck.
+fn usual(rng: &mut Rng, slot: &Slot, (low, high, power): Usual) -> Value {
+    if slot.may_lack && rng.chance(25) {
+        return None;
+    }
+    if !slot.never_0 && rng.chance(5) {
+        return Some((0, 0));
+    }
+    if slot.cap == Working::ONE && rng.chance(25) {
+        return Some((1, 0));
+    }
+    let more = rng.one_of(&[0, 0, 0, 1, 2, 3, 4]);
+    let scale = 10i64.pow(more);
+    let n = rng.between(low * scale, high * scale).min(999_999_999);
+    let v = (n as u32, power - more as i32);
+    Some(if in_range(slot, v) { v } else { (1, 0) })
+}
+
+/// A value anywhere in the slot's range, its ends above all.
+fn far(rng: &mut Rng, slot: &Slot) -> Value {
+    if slot.may_lack && rng.chance(15) {
+        return None;
+    }
+    let cap = (slot.cap.m, slot.cap.e);
+    for _ in 0..20 {
+        let v = match rng.below(8) {
+            0 => (0, rng.between(-99, 99) as i32),
+            1 => (1, -20),
+            2 => (rng.between(100_000, 100_009) as u32, -25),
+            3 => cap,
+            4 => (rng.between(99_999_990, 99_999_999) as u32, rng.between(-10, 1) as i32),
+            5 => (cap.0 / 10 - rng.below(3) as u32, cap.1 + 1),
+            6 => (rng.between(1, 999_999) as u32, rng.between(-8, 0) as i32),
+            _ => (rng.figures(1, 9) as u32, rng.between(-28, 8) as i32),
+        };
+        if in_range(slot, v) {
+            return Some(v);
+        }
+    }
+    Some((1, 0))
+}
+
+/// What a sound deck is to say.
+struct Draft {
+    site_id: u32,
+    site: Vec<Value>,
+    chemicals: Vec<(u32, Vec<Value>)>,
+    receptors: Vec<(u32, Vec<Value>)>,
+}
+
+// Places of slots that a style sets.
+const TD: usize = 2;
+const FRSNOW: usize = 10;
+const KDS: usize = 10;
+const KSG: usize = 11;
+const RFDO: usize = 18;
+
+fn ids(rng: &mut Rng, n: usize) -> Vec<u32> {
+    let mut ids: Vec<u32> = match rng.below(4) {
+        0 => (1..=n as u32).collect(),
+        1 => (0..n as u32).map(|i| 999_999 - i).collect(),
+        _ => (0..n).map(|_| rng.figures(2, 6) as u32).collect(),
+    };
+    ids.sort();
+    ids.dedup();
+    while ids.len() < n {
+        let extra = rng.between(1, 999_999) as u32;
+        if let Err(at) = ids.binary_search(&extra) {
+            ids.insert(at, extra);
+        }
+    }
+    ids
+}
+
+impl Draft {
+    /// Everyday values, `odd` in 100 of them far ones.
+    fn new(rng: &mut Rng, chemicals: usize, receptors: usize, odd: usize) -> Draft {
+        fn values(rng: &mut Rng, slots: &[Slot], usuals: &[Usual], odd: usize) -> Vec<Value> {
+            let each = slots.iter().zip(usuals);
+            each.map(|(slot, &u)| if rng.chance(odd) { far(rng, slot) } else { usual(rng, slot, u) }).collect()
+        }
+        Draft {
+            site_id: rng.between(1, 999_999) as u32,
+            site: values(rng, &SITE, &SITE_USUAL, odd),
+            chemicals: ids(rng, chemicals)
+                .into_iter()
+                .map(|id| (id, values(rng, &CHEMICAL, &CHEMICAL_USUAL, odd)))
+                .collect(),
+            receptors: ids(rng, receptors)
+                .into_iter()
+                .map(|id| (id, values(rng, &RECEPTOR, &RECEPTOR_USUAL, odd)))
+                .collect(),
+        }
+    }
+
+    /// Document 01's deck with a few values changed: exact decimals, so that figures can meet a cap exactly.
+    fn round_figures(rng: &mut Rng, chemicals: usize, receptors: usize) -> Draft {
+        #[rustfmt::skip]
+        let site = [(10, 0), (2, 0), (30, 0), (2, -1), (0, 0), (0, 0), (0, 0), (0, 0), (0, 0), (1, -2), (5, -1)];
+        #[rustfmt::skip]
+        let chemical = [
+            (1, 0), (1, 0), (1, 0), (0, 0), (0, 0), (1, 0), (0, 0), (0, 0), (1, -3), (0, 0), (100, 0), (0, 0),
+            (0, 0), (1, -1), (10, 0), (1, 0), (1, 0), (1, -1), (1, -3), (1, -3), (1, 0), (1, 0),
+        ];
+        #[rustfmt::skip]
+        let receptor = [
+            (20, 0), (5, 0), (27_375, 0), (10, 0), (1, 0), (365, 0), (80, 0), (1, 0), (73, 0), (146, 0), (1000, 0),
+            (2, -2), (400, 0), (1, -1), (1, 0), (1, -1), (5, -1), (2, -1), (5, -1), (1, 0), (365, 0),
+        ];
+        fn varied(rng: &mut Rng, values: &[(u32, i32)], slots: &[Slot]) -> Vec<Value> {
+            let each = values.iter().zip(slots);
+            each.map(|(&(digits, power), slot)| {
+                let other = (digits, power - rng.one_of(&[1, 2, -1]));
+                Some(if rng.chance(8) && in_range(slot, other) { other } else { (digits, power) })
+            })
+            .collect()
+        }
+        let mut draft = Draft {
+            site_id: 1,
+            site: varied(rng, &site, &SITE),
+            chemicals: ids(rng, chemicals).into_iter().map(|id| (id, varied(rng, &chemical, &CHEMICAL))).collect(),
+            receptors: ids(rng, receptors).into_iter().map(|id| (id, varied(rng, &receptor, &RECEPTOR))).collect(),
+        };
+        // 27375 has a factor 3, which no decimal divides by exactly.
+        for (_, r) in &mut draft.receptors {
+            r[2] = Some((rng.one_of(&[27_375, 36_500, 29_200, 36_500]), 0));
+        }
+        draft
+    }
+
+    /// The same figure on all six pathways of every chemical, so that totals can come near 96 times a cap.
+    fn level(rng: &mut Rng, chemicals: usize, receptors: usize) -> Draft {
+        let mut d = Draft::round_figures(rng, chemicals, receptors);
+        d.site[9] = Some((1, 0));
+        d.site[FRSNOW] = Some((1, 0));
+        let soil = rng.between(1, 99_999) as u32;
+        for (_, c) in &mut d.chemicals {
+            #[rustfmt::skip]
+            let same = [
+                (4, (1, -3)), (5, (1, -3)), (8, (1, -3)), (9, (0, 0)), (KDS, (7, 1)), (13, (1, 0)), (14, (7, 1)), (17, (1, 0)),
+            ];
+            for (at, v) in same {
+                c[at] = Some(v);
+            }
+        }
+        let days = Some((rng.between(1, 366) as u32, 0));
+        for (_, r) in &mut d.receptors {
+            for at in [5, 8, 9, 20] {
+                r[at] = days;
+            }
+            for at in [4, 7, 14, 16, 18, 19] {
+                r[at] = Some((1, 0));
+            }
+            r[3] = Some((soil, -6));
+            r[6] = Some((soil, 0));
+            r[10] = Some((soil, 0));
+            r[11] = Some((1, 0));
+            r[12] = Some((0, 0));
+            r[15] = Some((soil, -6));
+            r[17] = Some((soil, -6));
+        }
+        d
+    }
+
+    fn site(&self) -> Site {
+        let mut value = [Working::ZERO; 11];
+        value.iter_mut().zip(&self.site).for_each(|(w, &v)| *w = working(v));
+        Site::new(&value)
+    }
+
+    fn chemical(&self, i: usize) -> Chemical {
+        let (id, values) = &self.chemicals[i];
+        let mut c = Chemical { id: *id, value: [Working::ZERO; CHEMICAL_VALUES], reference: [None; 4] };
+        for (at, &v) in values.iter().enumerate() {
+            if at < CHEMICAL_VALUES {
+                c.value[at] = working(v);
+            } else {
+                c.reference[at - CHEMICAL_VALUES] = v.map(|_| working(v));
+            }
+        }
+        c
+    }
+
+    fn receptor(&self, i: usize) -> Receptor {
+        let (id, values) = &self.receptors[i];
+        let mut r = Receptor { id: *id, value: [Working::ZERO; 21] };
+        r.value.iter_mut().zip(values).for_each(|(w, &v)| *w = working(v));
+        r
+    }
+
+    /// The figures of one chemical and receptor, unless x is too high to work them.
+    fn figures(&self, chemical: usize, receptor: usize) -> Option<[Figures; 6]> {
+        let (site, chemical) = (self.site(), self.chemical(chemical));
+        let x = site.x(&chemical);
+        let low = x.high.at_most(crate::page::MOST_X);
+        low.then(|| pathways(&site, &chemical, &Media::new(&site, &chemical, x), &Body::new(&self.receptor(receptor))))
+    }
+
+    /// Sets one chemical's decay so that its x comes to about 64.
+    fn bring_x_to_64(&mut self, rng: &mut Rng, i: usize) {
+        self.chemicals[i].1[KSG] = Some((0, 0));
+        let others = real(self.site().x(&self.chemical(i)).high);
+        let wanted = if others < 64.0 {
+            64.0 - others
+        } else {
+            // No other loss.
+            for at in [4, 7, 8] {
+                self.site[at] = Some((0, 0));
+            }
+            self.chemicals[i].1[12] = Some((0, 0));
+            64.0
+        };
+        let (digits, power) = decimal(wanted / real(working(self.site[TD])), 9);
+        let near = (digits as i64 + rng.between(-3, 3)).clamp(1, 999_999_999) as u32;
+        // Nine figures fit a field only without an exponent.
+        let near = if (-8..=0).contains(&power) { (near, power) } else { (near / 10, power + 1) };
+        if in_range(&CHEMICAL[KSG], near) {
+            self.chemicals[i].1[KSG] = Some(near);
+        }
+    }
+
+    /// Sets one of a chemical's reference values so that one figure comes to about its cap.
+    fn bring_to_cap(&mut self, rng: &mut Rng, i: usize) {
+        let r = rng.below(self.receptors.len());
+        let Some(figures) = self.figures(i, r) else { return };
+        let hazard = rng.chance(50);
+        let real_figure = |f: &Figures| (if hazard { f.quotient } else { f.risk }).map_or(0.0, |p: Pair| real(p.high));
+        // The largest of those that share a reference value, so that no other line stops first; or any line.
+        let line = match rng.below(4) {
+            0 => 0,
+            1 => 1 + rng.below(5),
+            _ => (1..6).max_by(|&a, &b| real_figure(&figures[a]).total_cmp(&real_figure(&figures[b]))).unwrap_or(1),
+        };
+        let figure = real_figure(&figures[line]);
+        let at = RFDO + if hazard { 0 } else { 2 } + usize::from(line == 0);
+        let Some(now) = self.chemicals[i].1[at] else { return };
+        let now = real(working(Some(now)));
+        let wanted = if hazard { now * figure / 10_000.0 } else { now / figure };
+        if !(1e-20..=1e9).contains(&wanted) {
+            return;
+        }
+        let (digits, power) = decimal(wanted, 8);
+        let near = ((digits as i64 + rng.one_of(&[0, 0, 0, 1, -1, 2, -2])).max(1) as u32, power);
+        if in_range(&CHEMICAL[at], near) {
+            self.chemicals[i].1[at] = Some(near);
+        }
+    }
+
+    /// The deck, its numbers spelled at random.
+    fn deck(&self, rng: &mut Rng) -> Vec<u8> {
+        let mut deck = Vec::new();
+        let mut record = |kind: u8, id: u32, values: &[Value]| {
+            for (k, six) in values.chunks(6).enumerate() {
+                deck.extend([kind, b'1' + k as u8]);
+                deck.extend(format!("{id:>6}").bytes());
+                for f in 0..6 {
+                    let text = match six.get(f) {
+                        None => String::new(),
+                        Some(None) => "-".to_string(),
+                        Some(Some((digits, power))) => spelled(rng, *digits, *power),
+                    };
+                    deck.extend(format!("{text:>12}").bytes());
+                }
+                deck.push(b'\n');
+            }
+        };
+        record(b'S', self.site_id, &self.site);
+        self.chemicals.iter().for_each(|(id, c)| record(b'C', *id, c));
+        self.receptors.iter().for_each(|(id, r)| record(b'R', *id, r));
+        deck.extend(END);
+        deck
+    }
+}
+
+const END: &[u8; LINE] = b"EN                                                                              \n";
+
+/// Through the decimal spelling: the same double on every machine.
+fn real(w: Working) -> f64 {
+    format!("{}e{}", w.m, w.e).parse().unwrap_or(0.0)
+}
+
+/// About v, in so many figures.
+fn decimal(v: f64, figures: usize) -> (u32, i32) {
+    let text = format!("{v:.*e}", figures - 1);
+    let (digits, power) = text.split_once('e').unwrap_or(("1", "0"));
+    let digits: u32 = digits.replace('.', "").parse().unwrap_or(1);
+    (digits, power.parse::<i32>().unwrap_or(0) - (figures as i32 - 1))
+}
+
+/// One of the allowed spellings of digits × 10^power; 0 takes any power.
+fn spelled(rng: &mut Rng, mut digits: u32, mut power: i32) -> String {
+    while digits != 0 && digits % 10 == 0 {
+        digits /= 10;
+        power += 1;
+    }
+    loop {
+        let figures = digits.to_string();
+        for _ in 0..12 {
+            if digits == 0 {
+                power = if rng.chance(50) { 0 } else { rng.between(-99, 99) as i32 };
+            }
+            let plain = rng.chance(60);
+            // Decimals, zeros behind, zeros before.
+            let (decimals, behind) = if plain {
+                let decimals = (-power).max(0) as usize + if rng.chance(25) { rng.below(3) } else { 0 };
+                (decimals, (decimals as i32 + power).max(0) as usize)
+            } else {
+                let behind = if rng.chance(20) { rng.below(4) } else { 0 };
+                (rng.below(figures.len() + behind), behind)
+            };
+            let before =
+                (decimals + 1).saturating_sub(figures.len() + behind) + if rng.chance(12) { rng.below(4) } else { 0 };
+            let n = before + figures.len() + behind;
+            if n > 9 {
+                continue;
+            }
+            let mut text = "0".repeat(before) + &figures + &"0".repeat(behind);
+            if decimals > 0 {
+                text.insert(n - decimals, '.');
+            }
+            let left = power - behind as i32 + decimals as i32;
+            if left != 0 || !plain || rng.chance(5) {
+                if left.abs() > 99 {
+                    continue;
+                }
+                let sign = if left > 0 || (left == 0 && rng.chance(50)) { '+' } else { '-' };
+                text += &format!("E{sign}{:02}", left.abs());
+            }
+            if text.len() <= 12 {
+                return text;
+            }
+        }
+        let tight = format!("{digits}E{}{:02}", if power < 0 { '-' } else { '+' }, power.abs());
+        if tight.len() <= 12 {
+            return tight;
+        }
+        // Nine figures that need an exponent do not fit.
+        digits /= 10;
+        power += 1;
+    }
+}
+
+fn size(rng: &mut Rng) -> (usize, usize) {
+    let chemicals = rng.one_of(&[1, 1, 1, 1, 1, 2, 2, 2, 3, 3, 4, 5, 6, 8, 11, 16]);
+    (chemicals, rng.one_of(&[1, 1, 1, 2, 2, 3, 4]))
+}
+
+/// A sound deck; what it works out to may still be too high.
+fn sound(rng: &mut Rng) -> Vec<u8> {
+    let (chemicals, receptors) = size(rng);
+    let mut draft = match rng.below(100) {
+        0..=54 => Draft::new(rng, chemicals, receptors, 0),
+        55..=66 => Draft::new(rng, chemicals, receptors, 5),
+        67..=72 => Draft::new(rng, chemicals, receptors, 100),
+        73..=96 => Draft::round_figures(rng, chemicals, receptors),
+        _ => {
+            let mut draft = Draft::level(rng, chemicals, receptors);
+            for _ in 0..3 {
+                draft.bring_to_cap(rng, 0);
+            }
+            // All chemicals alike: every line of a receptor at the cap.
+            let like = draft.chemicals[0].1.clone();
+            draft.chemicals.iter_mut().for_each(|c| c.1 = like.clone());
+            return draft.deck(rng);
+        }
+    };
+    let i = rng.below(chemicals);
+    match rng.below(100) {
+        0..=9 => draft.bring_x_to_64(rng, i),
+        10..=29 => draft.bring_to_cap(rng, i),
+        _ => {}
+    }
+    draft.deck(rng)
+}
+
+/// One chemical or receptor too many, the rest sound.
+fn crowded(rng: &mut Rng) -> Vec<u8> {
+    let (chemicals, receptors) =
+        if rng.chance(50) { (17, rng.between(1, 4) as usize) } else { (rng.between(1, 15) as usize, 5) };
+    Draft::new(rng, chemicals, receptors, 0).deck(rng)
+}
+
+/// Bytes without a deck's form.
+fn noise(rng: &mut Rng) -> Vec<u8> {
+    let n = match rng.below(5) {
+        0 => 0,
+        1 => LINE * (1 + rng.below(83)),
+        2 => LINE * (84 + rng.below(20)),
+        _ => rng.below(7_000),
+    };
+    let mut deck: Vec<u8> = match rng.below(3) {
+        0 => (0..n).map(|_| rng.byte()).collect(),
+        1 => (0..n).map(|_| rng.between(32, 126) as u8).collect(),
+        _ => (0..n).map(|_| rng.one_of(b" 0123456789.E+-SCRN")).collect(),
+    };
+    if rng.chance(70) {
+        deck.iter_mut().skip(LINE - 1).step_by(LINE).for_each(|b| *b = b'\n');
+    }
+    deck
+}
+
+fn damaged(rng: &mut Rng) -> Vec<u8> {
+    let mut deck = sound(rng);
+    for _ in 0..rng.one_of(&[1, 1, 1, 1, 2, 3]) {
+        damage(rng, &mut deck);
+    }
+    deck
+}
+
+fn place_line(deck: &mut Vec<u8>, at: usize, line: &[u8]) {
+    deck.splice(at * LINE..at * LINE, line.iter().copied());
+}
+
+/// Twelve bytes in place of a field; text longer than that is cut.
+fn place_field(deck: &mut [u8], line: usize, f: usize, text: &str) {
+    let from = line * LINE + 8 + 12 * f;
+    let padded = format!("{text:>12}");
+    deck[from..from + 12].copy_from_slice(&padded.as_bytes()[..12]);
+}
+
+#[rustfmt::skip]
+const IDS: &[&[u8; 6]] = &[
+    b"     0", b"000001", b"    01", b"1     ", b" 1   2", b"      ", b"999999", b"     1", b"    -1", b"    +1", b"     x",
+    b"    1 ", b"   1.0", b"  1E+0", b"     -", b"000000", b"99999 ", b"     2",
+];
+#[rustfmt::skip]
+const KINDS: &[&[u8; 2]] = &[
+    b"S1", b"S2", b"S3", b"C1", b"C2", b"C3", b"C4", b"C5", b"R1", b"R2", b"R3", b"R4", b"R5", b"EN", b"  ", b"c1", b"en", b"S0",
+    b"C0", b"E1", b"1C", b"X1", b"S ",
+];
+#[rustfmt::skip]
+const MISSPELLED: &[&str] = &[
+    "--", "+1", "-1", "1E5", "1E+5", "1E+005", "1e+05", ".5", "5.", "1.2.3", "1 2", "1234567890", "0.123456789", "E+01", "1E++1",
+    "1E+0", "1E", "NaN", "0x1", "1,5", "1 ", "- ", "~", "1E 05", "1.E+01", ".E+01", "0000000001", "1E+1.", "1-", ".", "E", "+", "1E-",
+    "1E+0A", "1E+ 1", "12345678901", "123456789012", "1.2345678E+0", "1.23456789E1", "1E+011", "-  ", "-0", "1F+01", "1E*01",
+];
+#[rustfmt::skip]
+const OUT_OF_RANGE: &[&str] = &[
+    "1E-21", "9.999999E-21", "1.000001E+09", "1000000.01E3", "1E+10", "1E+99", "1E-99", "9.99E-21", "10000001E+02", "99999999E+02",
+    "0.1E-20", "0.0000001E-13", "99999999E-28", "1000000001", "1.00000001", "366.000001", "367", "2", "1.0000001", "0", "0.0",
+    "0E+99", "0E-99", "000000000", "999999999", "1E+09", "100000000", "0.99999999", "366", "365.999999", "1", "1.00000000",
+];
+
+fn damage(rng: &mut Rng, deck: &mut Vec<u8>) {
+    let n = deck.len() / LINE;
+    // A heavier damage before may have left nothing to hurt.
+    if n == 0 || deck.len() % LINE != 0 {
+        return;
+    }
+    let line = rng.below(n);
+    let from = line * LINE;
+    match rng.below(30) {
+        0 => {
+            let at = rng.below(deck.len());
+            deck[at] = rng.byte();
+        }
+        1 => deck[from + LINE - 1] = rng.one_of(&[b' ', b'\r', 0, b'0', 11]),
+        2 => deck[from + rng.below(LINE - 1)] = rng.one_of(&[b'\n', 31, 127, 128, 255, 0, 9]),
+        3 => {
+            deck.drain(from..from + LINE);
+        }
+        4 => {
+            let copy = deck[from..from + LINE].to_vec();
+            let at = if rng.chance(50) { line } else { rng.below(n + 1) };
+            place_line(deck, at, &copy);
+        }
+        5 => {
+            let other = rng.below(n);
+            for i in 0..LINE {
+                deck.swap(from + i, other * LINE + i);
+            }
+        }
+        6 => deck.truncate(rng.below(n * LINE)),
+        7 => {
+            let more = 1 + rng.below(200);
+            deck.extend((0..more).map(|_| b' '));
+        }
+        8 => deck.truncate(from),
+        9 | 10 => deck[from + 2..from + 8].copy_from_slice(&rng.one_of(IDS)[..]),
+        11 => {
+            // Ids spelled well, but a whole record's is not above the one before.
+            let later: Vec<usize> = (4..n.saturating_sub(3))
+                .filter(|l| [b"C1", b"R1"].contains(&&[deck[l * LINE], deck[l * LINE + 1]]))
+                .filter(|l| deck[l * LINE] == deck[(l - 4) * LINE])
+                .collect();
+            let id = |n: i64| format!("{:>6}", n.max(1)).into_bytes();
+            if later.is_empty() || rng.chance(30) {
+                deck[from + 2..from + 8].copy_from_slice(&id(rng.figures(1, 6)));
+            } else {
+                let first = rng.one_of(&later);
+                let before = &deck[(first - 4) * LINE + 2..(first - 4) * LINE + 8];
+                let before: i64 = String::from_utf8_lossy(before).trim().parse().unwrap_or(1);
+                let text = id(before - rng.one_of(&[0, 0, 1]));
+                for l in first..first + 4 {
+                    deck[l * LINE + 2..l * LINE + 8].copy_from_slice(&text);
+                }
+            }
+        }
+        12 | 13 => deck[from..from + 2].copy_from_slice(&rng.one_of(KINDS)[..]),
+        14 | 15 => place_field(deck, line, rng.below(6), rng.one_of(MISSPELLED)),
+        16 => {
+            // One byte of a field.
+            let at = from + 8 + rng.below(72);
+            deck[at] = rng.one_of(b" 0123456789.E+-e,");
+        }
+        17 => place_field(deck, line, rng.below(6), ""),
+        18 => place_field(deck, line, rng.below(6), "-"),
+        19..=22 => place_field(deck, line, rng.below(6), rng.one_of(OUT_OF_RANGE)),
+        23 | 24 => {
+            // A later slot: S2 6, C4 5 and 6, R4 4 to 6.
+            let later: Vec<(usize, usize)> = (0..n)
+                .flat_map(|l| match &deck[l * LINE..l * LINE + 2] {
+                    b"S2" => vec![(l, 5)],
+                    b"C4" => vec![(l, 4), (l, 5)],
+                    b"R4" => vec![(l, 3), (l, 4), (l, 5)],
+                    _ => vec![],
+                })
+                .collect();
+            if !later.is_empty() {
+                let (l, f) = rng.one_of(&later);
+                place_field(deck, l, f, rng.one_of(&["0", "-", "1", "x", "1E+99", "0.5", ".", "-1"]));
+            }
+        }
+        25 => {
+            // EN not blank.
+            let at = (n - 1) * LINE + 2 + rng.below(78);
+            deck[at] = rng.one_of(b"0-1.x~");
+        }
+        26 => deck.truncate((n - 1) * LINE),
+        27 => {
+            // Lines after EN.
+            for _ in 0..1 + rng.below(3) {
+                let copy = deck[from..from + LINE].to_vec();
+                deck.extend(if rng.chance(40) { END.to_vec() } else { copy });
+            }
+        }
+        28 => {
+            // Too long, and by one line if need be.
+            let lines = if rng.chance(50) { 84 } else { rng.between(82, 120) as usize };
+            while deck.len() < lines * LINE {
+                deck.extend(END);
+            }
+        }
+        _ => {
+            // A field moved to the left within its columns.
+            let f = rng.below(6);
+            let at = from + 8 + 12 * f;
+            let by = rng.below(4);
+            deck[at..at + 12].rotate_left(by);
+        }
+    }
+}
+
+#[cfg(test)]
+mod tests {
+    use super::*;
+
+    #[test]
+    fn the_same_from_the_same_seed() {
+        for place in 0..50 {
+            let (a, b) = (trial(3, place), trial(3, place));
+            assert_eq!((a.deck, a.room, a.before), (b.deck, b.room, b.before));
+        }
+    }
+
+    #[test]
+    fn shares_of_outcomes() {
+        let mut count = [0; 54];
+        let decks = 4_000;
+        let mut out = vec![0; 2 * LONGEST_REPORT];
+        for place in 0..decks {
+            let t = trial(1, place);
+            count[crate::report(&t.deck, &mut out[..t.room]).0 as usize] += 1;
+        }
+        // 200 of 200,000 is 1 in 1,000.
+        for number in [11, 12, 21, 22, 31, 32, 33, 51, 41, 42] {
+            assert!(count[number] >= 4, "{number}: {}", count[number]);
+        }
+        assert!(count[0] >= decks * 30 / 100 && count[0] <= decks * 60 / 100, "{}", count[0]);
+    }
+
+    #[test]
+    fn spellings_keep_the_value() {
+        let mut rng = Rng::new(7);
+        for _ in 0..20_000 {
+            let digits = rng.figures(1, 8) as u32 - 1;
+            let power = rng.between(-20, 9) as i32;
+            let text = spelled(&mut rng, digits, power);
+            assert!(text.len() <= 12 && text.bytes().filter(u8::is_ascii_digit).count() <= 11, "{text}");
+            let want: f64 = format!("{digits}e{power}").parse().unwrap();
+            assert_eq!(text.replace('E', "e").parse::<f64>().unwrap(), want, "{text}");
+        }
+    }
+}

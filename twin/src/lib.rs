@@ -1,0 +1,28 @@
+//! A second reading of document 01 (hazard and cancer sheets from a case deck), in plain Rust, written from that document
+//! alone and kept apart from the library, so that an agreement of the two says something about both.
+
+// A remainder stands beside its quotient throughout.
+#![allow(clippy::manual_is_multiple_of)]
+
+pub mod calls;
+pub mod deck;
+pub mod decks;
+#[cfg(feature = "library")]
+pub mod ffi;
+pub mod page;
+pub mod pairs;
+pub mod report;
+pub mod rng;
+pub mod vectors;
+
+pub use deck::read;
+pub use pairs::series;
+pub use report::{report, total};
+
+/// Number, line and field; on success 0, the report's length and 0.
+pub type Outcome = (u32, usize, usize);
+
+/// The longest deck: a site, 16 chemicals, 4 receptors and EN.
+pub const LONGEST_DECK: usize = 6_723;
+/// The longest report: 4 receptors of 16 × 6 lines and a total line.
+pub const LONGEST_REPORT: usize = 4 * (16 * 6 + 1) * 95;

@@ -1,0 +1,159 @@
+//! The page of equations, written as document 01 writes them: the operators of pairs keep its order of operations (brackets,
+//! then × and / from the left, then + from the left), one rounding each.
+//!
+//! Fields lie between 1E-20 and 1E+9 or are 0, so every exponent here stays within a few hundred, those of the series (x at
+//! most 64 or not used) within some tens of thousands; and no divisor is 0, since its factors are never 0.
+
+use crate::deck::{Chemical, Receptor};
+use crate::pairs::{self, Pair, Working};
+
+const TENTH: Pair = Pair::entry(1, -1);
+const MILLIONTH: Pair = Pair::entry(1, -6);
+const HUNDRED: Pair = Pair::entry(100, 0);
+const THOUSAND: Pair = Pair::entry(1000, 0);
+const DAYS_A_YEAR: Pair = Pair::entry(365, 0);
+
+/// x's high end may not be above it.
+pub const MOST_X: Working = Working::entry(64, 0);
+pub const MOST_QUOTIENT: Working = Working::entry(10_000, 0);
+pub const MOST_RISK: Working = Working::ONE;
+
+/// The site's own values, as pairs.
+#[derive(Clone, Copy)]
+pub struct Site {
+    zs: Pair,
+    bd: Pair,
+    td: Pair,
+    theta: Pair,
+    xe: Pair,
+    sd: Pair,
+    er: Pair,
+    ro: Pair,
+    r: Pair,
+    vg: Pair,
+    frsnow: Pair,
+}
+
+impl Site {
+    pub fn new(value: &[Working; 11]) -> Site {
+        let [zs, bd, td, theta, xe, sd, er, ro, r, vg, frsnow] = value.map(Pair::of);
+        Site { zs, bd, td, theta, xe, sd, er, ro, r, vg, frsnow }
+    }
+
+    /// k × tD.
+    pub fn x(&self, chemical: &Chemical) -> Pair {
+        let Site { zs, bd, td, theta, xe, sd, er, ro, r, .. } = *self;
+        let [_, _, _, _, _, _, _, _, _, _, kds, ksg, ksv, ..] = chemical.value.map(Pair::of);
+        let u = kds * bd;
+        let kse = TENTH * xe * sd * er / (bd * zs) * u / (theta + u);
+        let ksr = ro / (theta * zs) / (Pair::ONE + u / theta);
+        let ksl = r / (theta * zs) / (Pair::ONE + u / theta);
+        let k = ksg + kse + ksr + ksl + ksv;
+        k * td
+    }
+}
+
+/// Stands for (1 − exp(−x)) / x.
+pub fn g(x: Pair) -> Pair {
+    let (phi, _) = pairs::series(x);
+    Pair::ONE / (Pair::ONE / phi + x)
+}
+
+/// A chemical's concentrations at the site.
+#[derive(Clone, Copy)]
+pub struct Media {
+    air: Pair,
+    soil: Pair,
+    above_ground: Pair,
+    below_ground: Pair,
+}
+
+impl Media {
+    pub const NONE: Media =
+        Media { air: Pair::ZERO, soil: Pair::ZERO, above_ground: Pair::ZERO, below_ground: Pair::ZERO };
+
+    pub fn new(site: &Site, chemical: &Chemical, x: Pair) -> Media {
+        let Site { zs, bd, td, vg, .. } = *site;
+        let [q, hga, hgd, fv, cyv, cyp, dydv, dywv, dydp, dywp, kds, _, _, br, rcf, ..] = chemical.value.map(Pair::of);
+        let air = q * hga * (fv * cyv + fv.one_minus() * cyp) / THOUSAND;
+        let d = HUNDRED * hgd * q / (zs * bd) * (fv * (dydv + dywv) + (dydp + dywp) * fv.one_minus());
+        let soil = d * td * g(x);
+        Media { air, soil, above_ground: soil * br, below_ground: soil * rcf * vg / kds }
+    }
+}
+
+/// Averaging time for hazard, days.
+pub fn averaging_time(ed: Pair) -> Pair {
+    DAYS_A_YEAR * ed
+}
+
+/// What the pathways take from a receptor alone.
+pub struct Body {
+    value: [Pair; 21],
+    /// SAb × SAFb + SAh × SAFh.
+    adhering: Pair,
+    /// B for hazard.
+    b_hazard: Pair,
+    /// B for cancer.
+    b_cancer: Pair,
+}
+
+impl Body {
+    pub fn new(receptor: &Receptor) -> Body {
+        let value = receptor.value.map(Pair::of);
+        let [bw, ed, atc, _, _, _, _, _, _, _, sab, safb, sah, safh, ..] = value;
+        Body { value, adhering: sab * safb + sah * safh, b_hazard: bw * averaging_time(ed), b_cancer: bw * atc }
+    }
+}
+
+/// Quotient and risk of a report line; `None` without the reference value.
+#[derive(Clone, Copy, Debug)]
+pub struct Figures {
+    pub quotient: Option<Pair>,
+    pub risk: Option<Pair>,
+}
+
+/// Pathways 1 to 6 of one receptor and chemical.
+pub fn pathways(site: &Site, chemical: &Chemical, media: &Media, body: &Body) -> [Figures; 6] {
+    let [_, ed, _, irinh, etinh, efinh, irsoil, etsoil, efs, efw, _, _, _, _, etderm, irag, fag, irbg, fbg, wp, efp] =
+        body.value;
+    let [afinh, aforal, afderm] = [15, 16, 17].map(|i| Pair::of(chemical.value[i]));
+    let [rfdo, rfdi, csfo, csfi] = chemical.reference.map(|w| w.map(Pair::of));
+    // The intake factor's dividend, its medium and its reference values.
+    let figures = |dividend: Pair, medium: Pair, rfd: Option<Pair>, csf: Option<Pair>| Figures {
+        quotient: rfd.map(|rfd| dividend / body.b_hazard * medium / rfd),
+        risk: csf.map(|csf| dividend / body.b_cancer * medium * csf),
+    };
+    [
+        figures(irinh * afinh * etinh * efinh * ed, media.air, rfdi, csfi),
+        figures(irsoil * aforal * etsoil * efs * ed * MILLIONTH, media.soil, rfdo, csfo),
+        figures(irsoil * aforal * site.frsnow * etsoil * efw * ed * MILLIONTH, media.soil, rfdo, csfo),
+        figures(body.adhering * afderm * etderm * efs * ed * MILLIONTH, media.soil, rfdo, csfo),
+        figures(irag * fag * wp * aforal * efp * ed, media.above_ground, rfdo, csfo),
+        figures(irbg * fbg * wp * aforal * efp * ed, media.below_ground, rfdo, csfo),
+    ]
+}
+
+#[cfg(test)]
+mod tests {
+    use super::*;
+
+    #[test]
+    fn no_loss() {
+        assert_eq!(g(Pair::ZERO), Pair::ONE);
+    }
+
+    #[test]
+    fn averaging_time_is_not_rounded_to_days() {
+        assert_eq!(averaging_time(Pair::entry(45, -1)), Pair::entry(16_425, -1));
+    }
+
+    #[test]
+    fn winter_factor_of_002() {
+        let e = Pair::entry;
+        let f =
+            e(25, 0) * e(1, 0) * e(61, -2) * e(1, 0) * e(151, 0) * e(75, 0) * MILLIONTH / (e(633, -1) * e(27_375, 0));
+        assert_eq!(f.low, Working { m: 996_667_315, e: -16 });
+        assert_eq!(f.high, Working { m: 996_667_316, e: -16 });
+    }
+}

@@ -1,0 +1,275 @@
+//! The report of a deck, and totals.
+
+use crate::deck::{read_case, Case, MOST_CHEMICALS, MOST_RECEPTORS};
+use crate::page::{pathways, Body, Media, Site, MOST_QUOTIENT, MOST_RISK, MOST_X};
+use crate::pairs::Pair;
+use crate::Outcome;
+
+/// Bytes of a report line.
+pub const LINE: usize = 95;
+
+const QUOTIENT_UNIT: i32 = -12;
+const RISK_UNIT: i32 = -15;
+
+/// Low and high count; `None` without a reference value.
+type Units = Option<(u64, u64)>;
+
+/// Hazard and risk of a pathway line.
+type Line = [Units; 2];
+
+const MOST_LINES: usize = MOST_RECEPTORS * MOST_CHEMICALS * 6;
+
+/// The report into `out`, or where the deck stops and `out` as it was.
+pub fn report(deck: &[u8], out: &mut [u8]) -> Outcome {
+    let mut case = Case::empty();
+    let mut lines = [[None; 2]; MOST_LINES];
+    match work(deck, out.len(), &mut case, &mut lines) {
+        Ok(()) => {
+            let length = case.report_length();
+            write(&case, &lines, &mut out[..length]);
+            (0, length, 0)
+        }
+        Err(stop) => stop,
+    }
+}
+
+/// Everything but writing, since a refusal leaves the buffer alone.
+fn work(deck: &[u8], room: usize, case: &mut Case, lines: &mut [Line; MOST_LINES]) -> Result<(), Outcome> {
+    read_case(deck, case)?;
+    if room < case.report_length() {
+        return Err((51, 0, 0));
+    }
+    let site = Site::new(&case.site);
+    let mut xs = [Pair::ZERO; MOST_CHEMICALS];
+    for (i, chemical) in case.chemicals().iter().enumerate() {
+        xs[i] = site.x(chemical);
+        if !xs[i].high.at_most(MOST_X) {
+            return Err((41, i + 1, 0));
+        }
+    }
+    let mut media = [Media::NONE; MOST_CHEMICALS];
+    for (i, chemical) in case.chemicals().iter().enumerate() {
+        media[i] = Media::new(&site, chemical, xs[i]);
+    }
+    let mut at = 0;
+    for (r, receptor) in case.receptors().iter().enumerate() {
+        let body = Body::new(receptor);
+        for (i, chemical) in case.chemicals().iter().enumerate() {
+            for figures in pathways(&site, chemical, &media[i], &body) {
+                // Each receptor before this one has a total line too.
+                let stop = (42, at + r + 1, 0);
+                lines[at] = [
+                    units(figures.quotient, MOST_QUOTIENT, QUOTIENT_UNIT).ok_or(stop)?,
+                    units(figures.risk, MOST_RISK, RISK_UNIT).ok_or(stop)?,
+                ];
+                at += 1;
+            }
+        }
+    }
+    Ok(())
+}
+
+/// The count of a figure that may be lacking, or `None` above its cap.
+fn units(figure: Option<Pair>, cap: crate::pairs::Working, unit: i32) -> Option<Units> {
+    match figure {
+        None => Some(None),
+        Some(p) if p.high.at_most(cap) => p.in_units(unit).map(Some),
+        Some(_) => None,
+    }
+}
+
+fn write(case: &Case, lines: &[Line; MOST_LINES], out: &mut [u8]) {
+    let mut parts = out.chunks_exact_mut(LINE);
+    let mut lines = lines.iter();
+    for receptor in case.receptors() {
+        let mut totals: Line = [None; 2];
+        for chemical in case.chemicals() {
+            for (pathway, line) in (1..=6).zip(&mut lines) {
+                for (total, units) in totals.iter_mut().zip(line) {
+                    // At most 96 counts of at most 1E+16: no overflow.
+                    if let Some((low, high)) = units {
+                        let (l, h) = total.unwrap_or((0, 0));
+                        *total = Some((l + low, h + high));
+                    }
+                }
+                if let Some(part) = parts.next() {
+                    write_line(part, receptor.id, chemical.id, pathway, line);
+                }
+            }
+        }
+        if let Some(part) = parts.next() {
+            write_line(part, receptor.id, 0, 0, &totals);
+        }
+    }
+}
+
+fn write_line(part: &mut [u8], receptor: u32, chemical: u32, pathway: u32, line: &Line) {
+    part[..LINE - 1].fill(b' ');
+    part[LINE - 1] = b'\n';
+    put(&mut part[..6], receptor as u64);
+    put(&mut part[6..12], chemical as u64);
+    put(&mut part[12..14], pathway as u64);
+    for (columns, units) in part[14..94].chunks_exact_mut(40).zip(line) {
+        let (low, high) = columns.split_at_mut(20);
+        match *units {
+            Some((l, h)) => {
+                put(low, l);
+                put(high, h);
+            }
+            None => {
+                low[19] = b'-';
+                high[19] = b'-';
+            }
+        }
+    }
+}
+
+static HUNDREDS: [[u8; 2]; 100] = {
+    let mut t = [[0; 2]; 100];
+    let mut i = 0;
+    while i < 100 {
+        t[i] = [b'0' + (i / 10) as u8, b'0' + (i % 10) as u8];
+        i += 1;
+    }
+    t
+};
+
+/// Digits at the right end of columns that hold spaces; two at a time, as most of a report is digits.
+fn put(columns: &mut [u8], mut n: u64) {
+    let mut end = columns.len();
+    while n >= 10 {
+        columns[end - 2..end].copy_from_slice(&HUNDREDS[(n % 100) as usize]);
+        n /= 100;
+        end -= 2;
+        if n == 0 {
+            return;
+        }
+    }
+    columns[end - 1] = b'0' + n as u8;
+}
+
+/// The sum of at most 96 numbers of at most 1E+16 each, or 52.
+pub fn total(list: &[u64]) -> Result<u64, u32> {
+    if list.len() > 96 || list.iter().any(|&n| n > 10_000_000_000_000_000) {
+        return Err(52);
+    }
+    Ok(list.iter().sum())
+}
+
+/// What `tally` prints of an outcome: three numbers, 6 columns each, and a line feed.
+pub fn refusal_line(stop: Outcome) -> [u8; 19] {
+    let mut text = [b' '; 19];
+    put(&mut text[..6], stop.0 as u64);
+    put(&mut text[6..12], stop.1 as u64);
+    put(&mut text[12..18], stop.2 as u64);
+    text[18] = b'\n';
+    text
+}
+
+#[cfg(test)]
+mod tests {
+    use super::*;
+
+    fn record(deck: &mut Vec<u8>, kind: char, id: usize, fields: &str) {
+        let mut fields: Vec<&str> = fields.split(' ').collect();
+        while fields.len() % 6 != 0 {
+            fields.push("");
+        }
+        for (k, six) in fields.chunks(6).enumerate() {
+            deck.extend(format!("{kind}{}{id:>6}", k + 1).bytes());
+            six.iter().for_each(|f| deck.extend(format!("{f:>12}").bytes()));
+            deck.push(b'\n');
+        }
+    }
+
+    const SITE: &str = "10 2 30 0.2 0 0 0 0 0 0.01 0.5";
+    const CHEMICAL: &str = "1 1 1 0 0 1 0 0 0.001 0 100 0 0 0.1 10 1 1 0.1 0.001 0.001 1 -";
+    const RECEPTOR: &str = "20 5 27375 10 1 365 80 1 73 146 1000 0.02 400 0.1 1 0.1 0.5 0.2 0.5 1 365";
+
+    fn deck(chemicals: &[&str], receptors: usize) -> Vec<u8> {
+        let mut deck = Vec::new();
+        record(&mut deck, 'S', 1, SITE);
+        chemicals.iter().enumerate().for_each(|(i, c)| record(&mut deck, 'C', i + 1, c));
+        (1..=receptors).for_each(|r| record(&mut deck, 'R', r, RECEPTOR));
+        deck.extend(format!("EN{:78}\n", "").bytes());
+        deck
+    }
+
+    #[test]
+    fn example_deck() {
+        let want = "\
+1 1 1 500000000000 500000000000 - -
+1 1 2 120000000 120000000 7999999 8000001
+1 1 3 120000000 120000000 7999999 8000001
+1 1 4 9000000 9000000 600000 600000
+1 1 5 37500000000 37500000000 2499999990 2500000010
+1 1 6 750000000 750000000 49999999 50000001
+1 0 0 538499000000 538499000000 2566599987 2566600013
+";
+        let mut padded = Vec::new();
+        for line in want.lines() {
+            for (word, width) in line.split(' ').zip([6, 6, 2, 20, 20, 20, 20]) {
+                padded.extend(format!("{word:>width$}").bytes());
+            }
+            padded.push(b'\n');
+        }
+        let deck = deck(&[CHEMICAL], 1);
+        let mut out = [b'#'; 7 * LINE + 3];
+        assert_eq!(report(&deck, &mut out), (0, 7 * LINE, 0));
+        assert_eq!(out[..7 * LINE], padded);
+        assert_eq!(out[7 * LINE..], *b"###");
+        let mut short = [b'#'; 7 * LINE - 1];
+        assert_eq!(report(&deck, &mut short), (51, 0, 0));
+        assert_eq!(short, [b'#'; 7 * LINE - 1]);
+    }
+
+    #[test]
+    fn lengths() {
+        let full = deck(&[CHEMICAL; 16], 4);
+        assert_eq!(full.len(), 6_723);
+        let mut out = vec![0; crate::LONGEST_REPORT];
+        assert_eq!(report(&full, &mut out), (0, crate::LONGEST_REPORT, 0));
+        let over = deck(&[CHEMICAL; 16], 5);
+        assert_eq!(report(&over[..6_804], &mut out), (11, 0, 0));
+        assert_eq!(report(&[], &mut out), (11, 0, 0));
+        assert_eq!(report(&deck(&[CHEMICAL; 17], 1), &mut out), (21, 67, 0));
+        assert_eq!(report(&deck(&[CHEMICAL], 5), &mut out), (21, 23, 0));
+        let whole = deck(&[CHEMICAL], 1);
+        assert_eq!(report(&whole[..whole.len() - 81], &mut out), (21, 11, 0));
+    }
+
+    /// A chemical with this ksg: x is ksg × 30.
+    fn decaying(ksg: &str) -> String {
+        CHEMICAL.replacen("100 0 0 ", &format!("100 {ksg} 0 "), 1)
+    }
+
+    #[test]
+    fn x_of_64_passes() {
+        let mut out = [0; 13 * LINE];
+        let site = deck(&[&decaying("64")], 1);
+        // tD 1
+        let one_year = String::from_utf8(site).unwrap().replacen("          30", "           1", 1);
+        assert_eq!(report(one_year.as_bytes(), &mut out), (0, 7 * LINE, 0));
+        let above = one_year.replacen("          64", "  64.0000001", 1);
+        assert_eq!(report(above.as_bytes(), &mut out), (41, 1, 0));
+        let second = deck(&[CHEMICAL, &decaying("3")], 1);
+        assert_eq!(report(&second, &mut out), (41, 2, 0));
+    }
+
+    #[test]
+    fn caps() {
+        let mut out = [0; 14 * LINE];
+        // The first quotient is 5E-4 / RfDi.
+        let at = |rfdi: &str| deck(&[&CHEMICAL.replacen("0.001 0.001 1", &format!("0.001 {rfdi} 1"), 1)], 2);
+        assert_eq!(report(&at("5E-08"), &mut out), (0, 14 * LINE, 0));
+        assert_eq!(report(&at("4.999999E-08"), &mut out), (42, 1, 0));
+    }
+
+    #[test]
+    fn totals() {
+        assert_eq!(total(&[]), Ok(0));
+        assert_eq!(total(&[10_000_000_000_000_000; 96]), Ok(960_000_000_000_000_000));
+        assert_eq!(total(&[0; 97]), Err(52));
+        assert_eq!(total(&[1, 10_000_000_000_000_001]), Err(52));
+    }
+}

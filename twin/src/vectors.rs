@@ -1,0 +1,233 @@
+//! Operands for the pair calls and the totals call, from a seed.
+
+use crate::calls::Raw;
+use crate::pairs::{LEAST, MOST, REACH};
+use crate::rng::Rng;
+
+/// One call and what it is given.
+#[derive(Clone, Debug)]
+pub enum Call {
+    Entry(u64, i32),
+    Sum(Raw, Raw),
+    Product(Raw, Raw),
+    Quotient(Raw, Raw),
+    OneMinus(Raw),
+    Series(Raw),
+    Compare([i64; 2], [i64; 2]),
+    InUnits(Raw, i32),
+    Total(Vec<u64>),
+}
+
+pub const NAMES: [&str; 9] =
+    ["entry", "sum", "product", "quotient", "one_minus", "series", "compare", "in_units", "total"];
+
+impl Call {
+    pub fn place(&self) -> usize {
+        match self {
+            Call::Entry(..) => 0,
+            Call::Sum(..) => 1,
+            Call::Product(..) => 2,
+            Call::Quotient(..) => 3,
+            Call::OneMinus(..) => 4,
+            Call::Series(..) => 5,
+            Call::Compare(..) => 6,
+            Call::InUnits(..) => 7,
+            Call::Total(..) => 8,
+        }
+    }
+}
+
+/// Call number `place` of a run.
+pub fn call(seed: u64, place: u64) -> Call {
+    let rng = &mut Rng::new(Rng::new(!seed).word() ^ Rng::new(place).word());
+    match rng.below(100) {
+        0..=9 => {
+            let (some, any) = (rng.figures(1, 10), rng.word() as i64);
+            let digits = rng.one_of(&[0, 1, MOST as i64, MOST as i64 + 1, LEAST as i64, some, some, any]);
+            Call::Entry(digits as u64, power(rng))
+        }
+        10..=28 => two(rng, Call::Sum),
+        29..=44 => two(rng, Call::Product),
+        45..=60 => two(rng, Call::Quotient),
+        61..=74 => Call::OneMinus(if rng.chance(75) { share(rng) } else { operand(rng) }),
+        75..=78 => Call::Series(if rng.chance(75) { loss(rng) } else { operand(rng) }),
+        79..=86 => {
+            let a = end(rng);
+            let b = if rng.chance(50) { beside(rng, a) } else { end(rng) };
+            Call::Compare(a, b)
+        }
+        87..=96 => {
+            let p = operand(rng);
+            let unit =
+                if rng.chance(75) { (p[1] as i32).wrapping_sub(rng.between(-12, 13) as i32) } else { power(rng) };
+            Call::InUnits(p, unit)
+        }
+        _ => Call::Total(list(rng)),
+    }
+}
+
+fn two(rng: &mut Rng, call: fn(Raw, Raw) -> Call) -> Call {
+    let a = operand(rng);
+    let mut b = operand(rng);
+    if rng.chance(30) {
+        // Near a, so that sums carry and quotients lie near 1.
+        let shift = rng.between(-10, 10);
+        b = a;
+        for e in [1, 3] {
+            if b[e - 1] != 0 {
+                b[e] = (b[e] + shift).clamp(-(REACH as i64), REACH as i64);
+            }
+        }
+    }
+    call(a, b)
+}
+
+fn power(rng: &mut Rng) -> i32 {
+    let reach = REACH as i64;
+    let near = rng.between(-30, 30);
+    let far = rng.between(-reach, reach);
+    rng.one_of(&[
+        0,
+        near,
+        near,
+        far,
+        reach,
+        -reach,
+        reach + 1,
+        -reach - 1,
+        -reach + 8,
+        i32::MAX as i64,
+        i32::MIN as i64,
+    ]) as i32
+}
+
+/// A working number as document 01 has it.
+fn number(rng: &mut Rng) -> [i64; 2] {
+    if rng.chance(6) {
+        return [0, 0];
+    }
+    let (least, most, reach) = (LEAST as i64, MOST as i64, REACH as i64);
+    let any = rng.between(least, most);
+    let round = rng.between(1, 9) * least;
+    let m = rng.one_of(&[least, most, least + 1, most - 1, 333_333_333, 666_666_667, round, any, any, any]);
+    let near = rng.between(-30, 30);
+    let half = rng.between(-reach / 2 - 9, reach / 2 + 9);
+    let far = rng.between(-reach, reach);
+    let edge = reach - rng.between(0, 20);
+    let e = rng.one_of(&[-8, -9, 0, near, near, near, near, half, far, edge, -edge]);
+    [m, e]
+}
+
+/// The same number or one next to it.
+fn beside(rng: &mut Rng, [m, e]: [i64; 2]) -> [i64; 2] {
+    match rng.below(4) {
+        0 => [m, e],
+        1 if m != 0 => [m, e.saturating_add(1)],
+        2 if m == MOST as i64 => [LEAST as i64, e.saturating_add(1)],
+        _ if m != 0 => [m.saturating_add(1), e],
+        _ => [m, e],
+    }
+}
+
+fn at_most(a: [i64; 2], b: [i64; 2]) -> bool {
+    a[0] == 0 || (b[0] != 0 && (a[1], a[0]) <= (b[1], b[0]))
+}
+
+fn pair(rng: &mut Rng) -> Raw {
+    let a = number(rng);
+    let b = match rng.below(10) {
+        0..=3 => a,
+        4..=7 => beside(rng, a),
+        _ => number(rng),
+    };
+    let (low, high) = if at_most(a, b) { (a, b) } else { (b, a) };
+    [low[0], low[1], high[0], high[1]]
+}
+
+/// Mostly a pair, else something near one.
+fn operand(rng: &mut Rng) -> Raw {
+    let mut p = pair(rng);
+    if rng.chance(94) {
+        return p;
+    }
+    let end = 2 * rng.below(2);
+    match rng.below(4) {
+        0 => p.rotate_left(2),
+        1 => p[end] = odd_significand(rng),
+        2 => p[end + 1] = odd_exponent(rng),
+        _ => (p[end], p[end + 1]) = (0, rng.one_of(&[1, -1, -8, 99_999])),
+    }
+    p
+}
+
+fn odd_significand(rng: &mut Rng) -> i64 {
+    let (least, most) = (LEAST as i64, MOST as i64);
+    let any = rng.word() as i64;
+    // Above 32 bits, with nine figures below.
+    let high_bits = (1 << 32) + least;
+    rng.one_of(&[1, -1, least - 1, most + 1, -least, -most, i64::MAX, i64::MIN, any, high_bits])
+}
+
+fn odd_exponent(rng: &mut Rng) -> i64 {
+    let reach = REACH as i64;
+    let any = rng.word() as i64;
+    rng.one_of(&[reach + 1, -reach - 1, i64::MAX, i64::MIN, 1 << 32, -(1 << 32), any, i32::MAX as i64, i32::MIN as i64])
+}
+
+fn end(rng: &mut Rng) -> [i64; 2] {
+    let mut w = number(rng);
+    if rng.chance(8) {
+        match rng.below(3) {
+            0 => w[0] = odd_significand(rng),
+            1 => w[1] = odd_exponent(rng),
+            _ => w = [0, 3],
+        }
+    }
+    w
+}
+
+/// A pair about at most 1.
+fn share(rng: &mut Rng) -> Raw {
+    let (least, most) = (LEAST as i64, MOST as i64);
+    let any = rng.between(least, most);
+    let a = [
+        rng.one_of(&[least, most, any, any, any]),
+        rng.one_of(&[-8, -9, -9, -9, -10, -11, -16, -17, -18, -19, -25, -99_999]),
+    ];
+    let b = beside(rng, a);
+    let (low, high) = if at_most(a, b) { (a, b) } else { (b, a) };
+    if rng.chance(5) {
+        return [0, 0, high[0], high[1]];
+    }
+    [low[0], low[1], high[0], high[1]]
+}
+
+/// A pair as x has it, some of it where the series leaves the exponent's reach.
+fn loss(rng: &mut Rng) -> Raw {
+    let a = [
+        rng.between(LEAST as i64, MOST as i64),
+        rng.one_of(&[-7, -8, -9, -10, -12, -20, -40, -370, -380, -390, -400, 370, 380, 390, 400]),
+    ];
+    let b = beside(rng, a);
+    let (low, high) = if at_most(a, b) { (a, b) } else { (b, a) };
+    match rng.below(20) {
+        0 => [0, 0, high[0], high[1]],
+        1 => [640_000_000, -7, 640_000_000, -7],
+        _ => [low[0], low[1], high[0], high[1]],
+    }
+}
+
+const MOST_LISTED: i64 = 10_000_000_000_000_000;
+
+fn list(rng: &mut Rng) -> Vec<u64> {
+    let any = rng.below(110);
+    let n = rng.one_of(&[0, 1, 6, 95, 96, 96, 96, 97, any]);
+    let top = rng.chance(20);
+    let mut list: Vec<u64> =
+        (0..n).map(|_| if top { MOST_LISTED } else { rng.between(0, MOST_LISTED) } as u64).collect();
+    if n > 0 && rng.chance(15) {
+        let over = MOST_LISTED as u64 + 1;
+        list[rng.below(n)] = rng.one_of(&[over, over, u64::MAX, 1 << 63]);
+    }
+    list
+}
