@@ -305,10 +305,10 @@ const SIZES: [(usize, usize); 3] = [(1, 1), (4, 2), (16, 4)];
 
 fn main() {
     let args: Vec<String> = std::env::args().skip(1).collect();
-    let (table, figure) = match &args[..] {
-        [table, figure] | [table, figure, _] => (table, figure),
+    let (page_path, figure) = match &args[..] {
+        [page, figure] | [page, figure, _] => (page, figure),
         _ => {
-            eprintln!("bench TABLE.md FIGURE.svg [ROUNDS]");
+            eprintln!("bench PAGE.md FIGURE.svg [ROUNDS]");
             std::process::exit(2)
         }
     };
@@ -341,8 +341,19 @@ fn main() {
     let timed = run(items, rounds);
     let text = markdown(&timed, rounds);
     print!("{text}");
-    std::fs::write(table, &text).unwrap_or_else(|e| panic!("{table}: {e}"));
+    let page = std::fs::read_to_string(page_path).unwrap_or_default();
+    std::fs::write(page_path, with_table(&page, &text)).unwrap_or_else(|e| panic!("{page_path}: {e}"));
     std::fs::write(figure, svg(&timed, rounds)).unwrap_or_else(|e| panic!("{figure}: {e}"));
+}
+
+/// The page with its tables made anew: what stands between the two marks, or the tables alone where there are none.
+fn with_table(page: &str, tables: &str) -> String {
+    const BEGIN: &str = "<!-- tables, written by the benchmark -->\n";
+    const END: &str = "<!-- end of the tables -->\n";
+    match (page.split_once(BEGIN), page.split_once(END)) {
+        (Some((before, _)), Some((_, after))) => format!("{before}{BEGIN}{tables}{END}{after}"),
+        _ => tables.to_string(),
+    }
 }
 
 /// Three figures, thousands apart.
