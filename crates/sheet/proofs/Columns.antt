@@ -3,12 +3,14 @@
 use mathlib.Core.Path.{_≡_, refl, sym, ap, _∙_, subst}
 use mathlib.Core.Bool.{Bool, true, false, cond}
 use mathlib.Core.List.{List, [], _∷_, _++_, append-assoc, append-nil}
-use Prim.Native.Nat.{ℕ, zero, suc, _+_, _-_, _/_, _%_, _≤_, _<_, zero-le}
+use Prim.Native.Nat.{ℕ, zero, suc, _+_, _-_, _/_, _≤_, _<_, zero-le}
 use native.Mathlib.Nat.{le-of-suc-le-suc, not-suc-le-zero, sub-zero}
 use native.Mathlib.Numerals.{add-one}
 use native.Mathlib.Omega.{arith}
-use lib.Dec.{eqb, eqb·suc-zero}
-use lib.ListN.{length, drop, set, replicate, length-append, length-replicate, replicate-append-replicate, drop-of-length-le}
+use borrow.Author.Tests.{ne-eqb}
+use lib.Dec.{eqb}
+use lib.Seq.{drop-cons, set-at}
+use lib.ListN.{length, getD, drop, set, replicate, length-append, length-replicate, replicate-append-replicate, drop-of-length-le}
 use Rattle.sheet.specs.Text.{digits, digit, decimal, justified, number}
 
 length-cond : (b : Bool) (k d : ℕ) (ds : List ℕ) → length ds ≤ k → length (cond b [] (ds ++ (d ∷ []))) ≤ suc k
@@ -35,41 +37,45 @@ unfolding digits
 no-digits zero = refl
 no-digits (suc k) = refl
 
--- the column before the last digit: a space where no digit is left
-abbrev pub column : ℕ → ℕ
-column n = cond (eqb n 0) 32 (48 + n % 10)
-
-spaces : (k : ℕ) → justified (suc k) [] ≡ justified k [] ++ (32 ∷ [])
-unfolding justified
-spaces k = simp (sub-zero, append-nil) (ap (λ (m : ℕ). replicate m 32) (sym (add-one k)) ∙ sym (replicate-append-replicate k 1 32))
-
-pub digits-column : (k n : ℕ) → justified (suc k) (digits (suc k) n) ≡ justified k (digits k (n / 10)) ++ (column n ∷ [])
+digits-more : (k n : ℕ) → 0 < n → justified (suc k) (digits (suc k) n) ≡ justified k (digits k (n / 10)) ++ (digit n ∷ [])
 unfolding digits
-digits-column k zero = rw (no-digits k) (spaces k)
-digits-column k (suc n) =
-    simp (eqb·suc-zero n) (justified-snoc k (digit (suc n)) (digits k (suc n / 10)) (length-digits k (suc n / 10)))
+digits-more k n h = simp (ne-eqb n 0 (λ z. omega arith)) (justified-snoc k (digit n) (digits k (n / 10)) (length-digits k (n / 10)))
 
 drop-set : (l : List ℕ) (k a : ℕ) → k < length l → drop k (set l k a) ≡ a ∷ drop (suc k) l
 drop-set [] k a h = absurd (not-suc-le-zero h)
 drop-set (x ∷ l) zero a h = refl
 drop-set (x ∷ l) (suc k) a h = drop-set l k a (le-of-suc-le-suc h)
 
-filled-below : (k n b : ℕ) (part whole : List ℕ) → k < length part → b ≡ column n
+filled-below : (k n b : ℕ) (part whole : List ℕ) → k < length part → 0 < n → b ≡ digit n
     → justified (suc k) (digits (suc k) n) ++ drop (suc k) part ≡ whole → justified k (digits k (n / 10)) ++ drop k (set part k b) ≡ whole
-filled-below k n b part whole h v e =
+filled-below k n b part whole h some v e =
     ap (λ (l : List ℕ). justified k (digits k (n / 10)) ++ l)
     (drop-set part k b h ∙ ap (λ (x : ℕ). x ∷ drop (suc k) part) v)
-    ∙ sym (append-assoc (justified k (digits k (n / 10))) (column n ∷ []) (drop (suc k) part))
-    ∙ ap (λ (l : List ℕ). l ++ drop (suc k) part) (sym (digits-column k n))
+    ∙ sym (append-assoc (justified k (digits k (n / 10))) (digit n ∷ []) (drop (suc k) part))
+    ∙ ap (λ (l : List ℕ). l ++ drop (suc k) part) (sym (digits-more k n some))
     ∙ e
 
--- a column more is filled
-pub filled-more : (at n b : ℕ) (part whole : List ℕ) → 0 < at → at ≤ length part → b ≡ column n
+-- a digit more
+pub filled-more : (at n b : ℕ) (part whole : List ℕ) → 0 < at → at ≤ length part → 0 < n → b ≡ digit n
     → justified at (digits at n) ++ drop at part ≡ whole
     → justified (at - 1) (digits (at - 1) (n / 10)) ++ drop (at - 1) (set part (at - 1) b) ≡ whole
-filled-more at n b part whole pos h v e =
+filled-more at n b part whole pos h some v e =
     let up : at ≡ suc (at - 1) = omega arith in
-    filled-below (at - 1) n b part whole (omega arith) v (subst (λ (m : ℕ). justified m (digits m n) ++ drop m part ≡ whole) up e)
+    filled-below (at - 1) n b part whole (omega arith) some v (subst (λ (m : ℕ). justified m (digits m n) ++ drop m part ≡ whole) up e)
+
+-- no digit is left: spaces
+pub filled-spaced : (at : ℕ) (part whole : List ℕ) → justified at (digits at 0) ++ drop at part ≡ whole → replicate at 32 ++ drop at part ≡ whole
+unfolding justified
+filled-spaced at part whole e = simp (no-digits, sub-zero, append-nil) at e
+
+-- a space more
+pub spaced-more : (k : ℕ) (part : List ℕ) → k < length part → set (replicate k 32 ++ drop k part) k 32 ≡ replicate (k + 1) 32 ++ drop (k + 1) part
+spaced-more k part h =
+    ap (λ (l : List ℕ). set (replicate k 32 ++ l) k 32) (drop-cons part k 0 h)
+    ∙ set-at (replicate k 32) (getD part k 0) (drop (suc k) part) 32 k (length-replicate k 32)
+    ∙ sym (append-assoc (replicate k 32) (32 ∷ []) (drop (suc k) part))
+    ∙ ap (λ (l : List ℕ). l ++ drop (suc k) part) (replicate-append-replicate k 1 32)
+    ∙ ap (λ (m : ℕ). replicate (k + 1) 32 ++ drop m part) (sym (add-one k))
 
 -- the last column is filled
 pub filled-last : (n last : ℕ) (part : List ℕ) → 0 < length part

@@ -1,10 +1,8 @@
 // The text of report lines, written into a lent buffer.
 ghost use mathlib.Core.Path.{_≡_};
 ghost use mathlib.Core.List.{[], _∷_, _++_};
-ghost use mathlib.Core.Bool.{cond};
 ghost use Prim.Native.Nat.{_+_, _*_, _-_, _/_, _%_, _<_, _≤_};
-ghost use lib.Dec.{eqb};
-ghost use lib.ListN.{length, take, drop};
+ghost use lib.ListN.{length, take, drop, replicate};
 ghost use Rattle.sheet.specs.Text.{digits, justified, number, dash, placed, unitsText, rowText, linesText, unitsWidth, lineWidth, maxRows};
 use crate::Row;
 use crate::Rows;
@@ -45,15 +43,16 @@ fn digit(n: u64, tens: u64) -> u8
     ZERO + (n - 10 * tens) as u8
 }
 
-// The same before a number's last digit: a space where no digit is left.
-fn digit_or_space(n: u64, tens: u64) -> u8
-    requires { ⌜ tens ≡ n / 10 ⌝ }
-    ensures { λ r. ⌜ r ≡ cond (eqb n 0) 32 (48 + n % 10) ⌝ }
+// Spaces in the first count bytes.
+fn put_spaces(part: &mut [u8], count: usize)
+    requires { ⌜ count ≤ length (now part) ⌝ }
+    ensures { λ _. ⌜ now (part .exit) ≡ replicate count 32 ++ drop count (now (part .entry)) ⌝ }
 {
-    if n == 0 {
-        return SPACE;
+    let mut k: usize = 0;
+    while k < count {
+        part[k] = SPACE;
+        k += 1;
     }
-    digit(n, tens)
 }
 
 // Fills the part from the right: last, before it the digits of n, none of 0, and spaces.
@@ -64,12 +63,16 @@ fn fill(part: &mut [u8], n: u64, last: u8)
     let mut at = part.len() - 1;
     part[at] = last;
     let mut left = n;
-    while 0 < at {
+    while 0 < left {
+        if at == 0 {
+            return;
+        }
         at -= 1;
         let tens = left / 10;
-        part[at] = digit_or_space(left, tens);
+        part[at] = digit(left, tens);
         left = tens;
     }
+    put_spaces(part, at);
 }
 
 // The number n in so many columns from at.
