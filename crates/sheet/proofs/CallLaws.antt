@@ -1,5 +1,5 @@
 -- The report call: what it answers and leaves in the buffer, stage by stage, is what the definitions say. Assumes nothing.
-use mathlib.Core.Path.{_≡_, refl, sym, ap, _∙_}
+use mathlib.Core.Path.{_≡_, refl, sym, ap, subst, _∙_}
 use mathlib.Core.List.{List, _++_}
 use Prim.Native.Nat.{ℕ, _+_, _*_, _≤_, _<_}
 use native.Mathlib.Nat.{mul-le-mul-right}
@@ -17,15 +17,17 @@ use Rattle.deck.specs.Cases.{caseOf, caseFor, readOf, toldOf}
 use Rattle.deck.proofs.Scan.{first-read}
 use Rattle.deck.proofs.First.{orElse, first-append}
 use Rattle.sheet.specs.declared.Row.{Row}
-use Rattle.sheet.specs.declared.Rows.{Rows}
+use Rattle.sheet.specs.declared.Source.{Source}
 use Rattle.sheet.specs.declared.Sources.{Sources}
 use Rattle.sheet.specs.Text.{linesText}
+use Rattle.sheet.specs.Values.{chemicalAt}
 use Rattle.sheet.specs.Sheet.{rowsOf, linesPerReceptor, linesOfReport, sheetConditions}
-use Rattle.sheet.specs.Worked.{sourcesOf, fastSource, perReceptor, allRows, allLarge, rowsIn, workedRows, workedConditions}
+use Rattle.sheet.specs.Worked.{sourcesOf, fastSource, sourceOf, sourceWith, allLarge, reportIn, HoldsAll, workedRows, workedConditions}
 use Rattle.sheet.specs.Report.{allConditions}
 use Rattle.sheet.specs.Report.{statusOf, lengthOf, outcomeFor, outcomeOf, bufferFor, bufferOf}
 use Rattle.sheet.proofs.Ranges.{deck-ranged}
-use Rattle.sheet.proofs.SourceLaws.{some-receptor, counts-small}
+use Rattle.sheet.proofs.SourceLaws.{source-at, some-receptor, counts-small}
+use Rattle.sheet.proofs.CellLaws.{report-held}
 use Rattle.sheet.proofs.TotalRows.{totals-agree}
 use Rattle.sheet.proofs.ReportLaws.{conditions-agree, rows-agree}
 
@@ -79,11 +81,17 @@ module _ (case : Case) (room : ℕ) where
     unfolding sourcesOf
     sources-few h = rw e h
 
-    pub rows-worked : (rows : Rows) → (rows .count ≡ case .receptors .count * perReceptor sources) × (rowsIn rows ≡ allRows sources (case .receptors .records) (case .receptors .count))
-        → (rows .count ≡ linesOfReport case) × (rowsIn rows ≡ workedRows case)
-    unfolding linesOfReport linesPerReceptor perReceptor workedRows sourcesOf
-    rows-worked rows h =
-        (h .0 ∙ ap (λ (s : Sources). case .receptors .count * perReceptor s) e, h .1 ∙ ap (λ (s : Sources). allRows s (case .receptors .records) (case .receptors .count)) e)
+    pub held-worked : (cells : List ℕ) → HoldsAll sources (case .receptors .records) (case .receptors .count) cells
+        → HoldsAll (sourcesOf (case .site) (case .chemicals)) (case .receptors .records) (case .receptors .count) cells
+    held-worked cells h = subst (λ (s : Sources). HoldsAll s (case .receptors .records) (case .receptors .count) cells) e h
+
+-- the rows that the cells hold
+rows-held : (case : Case) (cells : List ℕ) → (case .chemicals .count ≤ 16) × (case .receptors .count ≤ 4) → length cells ≡ 2304
+    → HoldsAll (sourcesOf (case .site) (case .chemicals)) (case .receptors .records) (case .receptors .count) cells
+    → reportIn cells (case .chemicals) (case .receptors .records) (case .receptors .count) ≡ workedRows case
+unfolding workedRows sourcesOf sourceOf sourceWith chemicalAt
+rows-held case cells small long held =
+    report-held (sourcesOf (case .site) (case .chemicals)) (case .chemicals) cells (small .0) refl (λ i h. ap (λ (s : Source). s .id) (source-at case i h)) (case .receptors .records) (case .receptors .count) long (small .1) held
 
 -- ---- a deck and a buffer
 module _ (deck buffer : List ℕ) where
@@ -142,16 +150,18 @@ module _ (deck buffer : List ℕ) where
           ∙ rows-agree (caseOf deck) (deck-ranged deck read) (length buffer) sheet-read
           (totals-agree (caseOf deck) (length buffer) (deck-ranged deck read) sheet-read (counts-small deck read .0))
 
-      pub written : (rows : Rows) (out : List ℕ) → rows .count ≡ linesOfReport (reading .case) → rowsIn rows ≡ workedRows (reading .case)
-          → out ≡ linesText (rowsIn rows) ++ drop (95 * rows .count) buffer
-          → (_≡_ {A = Told} (record { number = 0; line = 95 * rows .count; field = 0 }) (outcomeOf deck (length buffer))) × (out ≡ bufferOf deck buffer)
+      pub written : (cells out : List ℕ) (n : ℕ) → length cells ≡ 2304
+          → HoldsAll (sourcesOf (reading .case .site) (reading .case .chemicals)) (reading .case .receptors .records) (reading .case .receptors .count) cells
+          → n ≡ linesOfReport (reading .case)
+          → out ≡ linesText (reportIn cells (reading .case .chemicals) (reading .case .receptors .records) (reading .case .receptors .count)) ++ drop (95 * linesOfReport (reading .case)) buffer
+          → (_≡_ {A = Told} (record { number = 0; line = 95 * n; field = 0 }) (outcomeOf deck (length buffer))) × (out ≡ bufferOf deck buffer)
       unfolding outcomeOf outcomeFor bufferOf bufferFor lengthOf
-      written rows out n r o =
+      written cells out n long held e o =
           let s : statusOf deck (length buffer) ≡ Read = sym (status-is Read none) in
-          let m : rows .count ≡ linesOfReport (caseOf deck) = n ∙ ap linesOfReport case-is in (
-            rw (s, m) refl,
+          let m : linesOfReport (reading .case) ≡ linesOfReport (caseOf deck) = ap linesOfReport case-is in (
+            rw (s, e, m) refl,
             rw s
                 (o
-                ∙ ap (λ (k : ℕ). linesText (rowsIn rows) ++ drop (95 * k) buffer) m
-                ∙ ap (λ (l : List Row). linesText l ++ drop (95 * linesOfReport (caseOf deck)) buffer) (r ∙ rows-are)),
+                ∙ ap (λ (k : ℕ). linesText (reportIn cells (reading .case .chemicals) (reading .case .receptors .records) (reading .case .receptors .count)) ++ drop (95 * k) buffer) m
+                ∙ ap (λ (l : List Row). linesText l ++ drop (95 * linesOfReport (caseOf deck)) buffer) (rows-held (reading .case) cells few long held ∙ rows-are)),
           )

@@ -3,11 +3,10 @@
 use mathlib.Core.Path.{_≡_, refl, sym, ap, _∙_}
 use mathlib.Core.List.{List, [], _∷_, _++_, append-assoc, append-nil}
 use Prim.Native.Nat.{ℕ, zero, suc, _+_, _-_, _*_, _/_, _%_, _<_}
-use native.Mathlib.Nat.{add-zero, add-suc, le-refl, le-of-suc-le-suc, not-suc-le-zero}
+use native.Mathlib.Nat.{add-zero, add-suc, le-of-suc-le-suc, not-suc-le-zero}
 use native.Mathlib.Numerals.{add-one}
 use native.Mathlib.Omega.{arith}
-use lib.ListN.{length, getD, take, set, length-set, length-append}
-use lib.Seq.{take-suc, take-set-le, getD-set-same}
+use lib.ListN.{length, getD, length-append}
 use Rattle.deck.specs.declared.Status.{Status}
 use Rattle.deck.specs.declared.Status.the-variants.{Read, Stopped}
 use Rattle.deck.specs.Conditions.{Condition, first, upTo}
@@ -66,18 +65,6 @@ module _ {A : Type 0} where
       ∙ ap (λ (l : List A). chained (λ q. f (q / 6) (q % 6)) (n * 6) ++ l) same
       ∙ sym (chained-add (λ q. f (q / 6) (q % 6)) (n * 6) 6)
       ∙ ap (chained (λ q. f (q / 6) (q % 6))) (sym more)
-
-  -- a list and the parts so far, with one part more after them
-  pub part-after : (start list : List A) (f : ℕ → List A) (k : ℕ) → list ≡ (start ++ chained f k) ++ f k → list ≡ start ++ chained f (k + 1)
-  part-after start list f k e = e ∙ append-assoc start (chained f k) (f k) ∙ ap (λ (l : List A). start ++ l) (sym (chained-more f k))
-
-  -- a store past the first k elements
-  pub stored : (l : List A) (k : ℕ) (v : A) → k < length l → take (k + 1) (set l k v) ≡ take k l ++ (v ∷ [])
-  stored l k v h =
-      let long : k < length (set l k v) = rw length-set h in
-      rw add-one (take-suc (set l k v) k v long)
-      ∙ ap (λ (x : List A). x ++ (getD (set l k v) k v ∷ [])) (take-set-le k l k v (le-refl k))
-      ∙ ap (λ (x : A). take k l ++ (x ∷ [])) (getD-set-same l k v v h)
 
   -- an element that is there, whatever would stand for a missing one
   pub any-default : (l : List A) (i : ℕ) (d e : A) → i < length l → getD l i d ≡ getD l i e

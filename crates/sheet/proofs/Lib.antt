@@ -12,6 +12,8 @@ mod LineTotals
 mod Chains
 mod ChemicalLaws
 mod ReceptorLaws
+mod CellLaws
+mod Written
 mod SourceLaws
 mod ReportLaws
 mod TotalRows

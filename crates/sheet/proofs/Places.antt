@@ -2,18 +2,20 @@
 -- Assumes nothing.
 use mathlib.Core.Path.{_≡_, refl, sym, ap, _∙_}
 use mathlib.Core.List.{List, [], _∷_, _++_, append-assoc, append-nil}
-use Prim.Native.Nat.{ℕ, suc, _+_, _-_, _*_, _≤_, _<_, zero-le}
-use native.Mathlib.Nat.{zero-add, le-of-lt, le-add-right}
+use Prim.Native.Nat.{ℕ, zero, suc, _+_, _-_, _*_, _≤_, _<_, zero-le}
+use native.Mathlib.Nat.{zero-add, le-add-right, mul-suc}
 use lib.Dec.{lit<, lit≤}
 use native.Mathlib.Numerals.{add-one}
 use native.Mathlib.Omega.{arith}
 use borrow.Rule.Slice.PartMut.{post-is}
 use lib.ListN.{length, getD, take, drop, set, length-append, drop-of-length-le}
-use lib.Seq.{take-at, drop-append-add, drop-drop, take-suc, drop-cons, set-at, length-take-le}
+use lib.Seq.{take-at, drop-append-add, drop-drop, drop-cons, set-at, length-take-le}
 use Rattle.sheet.specs.Text.{placed, number, justified, dash, unitsText, rowText, linesText}
 use Rattle.sheet.specs.declared.Units.{Units}
 use Rattle.sheet.specs.declared.Units.the-variants.{Absent, Counted}
 use Rattle.sheet.specs.declared.Row.{Row}
+use Rattle.sheet.specs.Sheet.{chained}
+use Rattle.sheet.proofs.Chains.{chained-more}
 use Rattle.sheet.proofs.Columns.{length-number, length-justified}
 
 -- Where a list is a text and the rest of entry, a text of n elements written after it leaves both texts and the rest of entry.
@@ -147,22 +149,41 @@ lines-append [] more = refl
 lines-append (first ∷ rows) more =
     ap (λ (x : List ℕ). rowText first ++ x) (lines-append rows more) ∙ sym (append-assoc (rowText first) (linesText rows) (linesText more))
 
-lines-snoc : (rows : List Row) (row : Row) → linesText (rows ++ (row ∷ [])) ≡ linesText rows ++ rowText row
-unfolding linesText
-lines-snoc rows row = lines-append rows (row ∷ []) ∙ ap (λ (x : List ℕ). linesText rows ++ x) (append-nil (rowText row))
+-- parts of a report, each of so many bytes, one after the other
+module _ (f : ℕ → List Row) (width : ℕ) (each : (k : ℕ) → length (linesText (f k)) ≡ width) where
+  length-parts : (k : ℕ) → length (linesText (chained f k)) ≡ width * k
+  unfolding chained linesText
+  length-parts zero = omega arith
+  length-parts (suc k) =
+      ap length (lines-append (chained f k) (f k)) ∙ length-append (linesText (chained f k)) (linesText (f k)) ∙ rw (length-parts k, each k, mul-suc) refl
 
--- a line more of the report
-pub lines-more : (rows : List Row) (blank : Row) (entry out : List ℕ) (k : ℕ) → k < length rows
-    → out ≡ linesText (take k rows) ++ drop (95 * k) entry
-    → take (95 * k) out ++ rowText (getD rows k blank) ++ drop (95 * k + 95) out ≡ linesText (take (k + 1) rows) ++ drop (95 * (k + 1)) entry
-lines-more rows blank entry out k h e =
-    let long : length (linesText (take k rows)) ≡ 95 * k =
-    length-lines (take k rows) ∙ ap (λ (m : ℕ). 95 * m) (length-take-le k rows (le-of-lt h))
-    in
-    let more : linesText (take (k + 1) rows) ≡ linesText (take k rows) ++ rowText (getD rows k blank) =
-    rw add-one (ap linesText (take-suc rows k blank h)) ∙ lines-snoc (take k rows) (getD rows k blank)
-    in
-    let past : 95 * k + 95 ≡ 95 * (k + 1) = omega arith in
-    grown entry (linesText (take k rows)) out (rowText (getD rows k blank)) (95 * k) 95 e long (length-row (getD rows k blank))
-    ∙ ap (λ (x : List ℕ). x ++ drop (95 * k + 95) entry) (sym more)
-    ∙ ap (λ (m : ℕ). linesText (take (k + 1) rows) ++ drop m entry) past
+  -- a part more
+  pub part-more : (entry out : List ℕ) (k : ℕ) → out ≡ linesText (chained f k) ++ drop (width * k) entry
+      → take (width * k) out ++ linesText (f k) ++ drop (width * k + width) out ≡ linesText (chained f (k + 1)) ++ drop (width * (k + 1)) entry
+  part-more entry out k e =
+      let more : linesText (chained f k) ++ linesText (f k) ≡ linesText (chained f (k + 1)) =
+      sym (ap linesText (chained-more f k) ∙ lines-append (chained f k) (f k))
+      in
+      let past : width * k + width ≡ width * (k + 1) = sym (rw add-one (mul-suc width k)) in
+      grown entry (linesText (chained f k)) out (linesText (f k)) (width * k) width e (length-parts k) (each k)
+      ∙ ap (λ (x : List ℕ). x ++ drop (width * k + width) entry) more
+      ∙ ap (λ (m : ℕ). linesText (chained f (k + 1)) ++ drop m entry) past
+
+-- a part of one line
+pub one-line : (row : Row) → linesText (row ∷ []) ≡ rowText row
+unfolding linesText
+one-line row = append-nil (rowText row)
+
+pub length-one : (row : Row) → length (linesText (row ∷ [])) ≡ 95
+length-one row = ap length (one-line row) ∙ length-row row
+
+-- a last line that ends the part
+pub last-line : (rows : List Row) (row : Row) (entry out : List ℕ) (at : ℕ) → length (linesText rows) ≡ at → length entry ≡ at + 95 → out ≡ linesText rows ++ drop at entry
+    → take at out ++ rowText row ++ drop (at + 95) out ≡ linesText (rows ++ (row ∷ []))
+last-line rows row entry out at long end e =
+    let past : length entry ≤ at + 95 = omega arith in
+    grown entry (linesText rows) out (rowText row) at 95 e long (length-row row)
+    ∙ ap (λ (x : List ℕ). (linesText rows ++ rowText row) ++ x) (drop-of-length-le entry past)
+    ∙ append-nil (linesText rows ++ rowText row)
+    ∙ ap (λ (x : List ℕ). linesText rows ++ x) (sym (one-line row))
+    ∙ sym (lines-append rows (row ∷ []))

@@ -3,7 +3,8 @@
 use mathlib.Core.Path.{_≡_, refl, sym, _∙_, ap}
 use mathlib.Core.Bool.{Bool, false, cond}
 use mathlib.Core.List.{List, [], _∷_, _++_}
-use Prim.Native.Nat.{ℕ, suc, _+_, _*_, _-_, _<_}
+use Prim.Native.Nat.{ℕ, suc, _+_, _*_, _-_, _/_, _%_, _<_}
+use native.Mathlib.Nat.{add-assoc}
 use native.Mathlib.Omega.{arith}
 use lib.Dec.{ltb}
 use Rattle.equations.specs.declared.Effect.{Effect}
@@ -20,9 +21,9 @@ use Rattle.sheet.specs.declared.Sources.{Sources}
 use Rattle.sheet.specs.Text.{lineWidth}
 use Rattle.sheet.specs.Values.{chemicalAt, receptorAt, receptorFrom}
 use Rattle.sheet.specs.Sheet.{pathwaysPerChemical, totalAt, rowAt, totalRow, chained, rowsAt, rowsOf, linesPerReceptor, linesOfReport, highAbove, exponentAt, tooFast, lineTooLarge, sheetConditions}
-use Rattle.sheet.specs.Worked.{sourcesOf, sourceAt, fastSource, rowFrom, largeFrom, totalUnits, totalFrom, chemicalRows, receptorRows, largeLine, largeLines, rowsOfRecord, largeOfRecord, perReceptor, allRows, allLarge, workedRows, workedConditions}
+use Rattle.sheet.specs.Worked.{sourcesOf, sourceAt, fastSource, rowFrom, largeFrom, totalUnits, totalFrom, lineOf, linesOf, largeLine, rowsOfRecord, largeLines, perReceptor, allRows, allLarge, workedRows, workedConditions}
 use Rattle.sheet.proofs.Inputs.{Ranged}
-use Rattle.sheet.proofs.Chains.{chained-same, upTo-chained}
+use Rattle.sheet.proofs.Chains.{chained-same, flat, upTo-chained}
 use Rattle.sheet.proofs.Clear.{none-fast, not-fast}
 use Rattle.sheet.proofs.SourceLaws.{fast-agrees, row-agrees, large-agrees, source-at}
 
@@ -56,39 +57,47 @@ module _ (case : Case) (ranged : Ranged case) where
       (λ k l. ap (λ (b : Bool). at 41 (suc k) 0 b ∷ []) (fast-agrees case ranged (suc k - 1) (omega arith) some))
 
   module _ (slow : (i : ℕ) → i < case .chemicals .count → highAbove sixtyFour (exponentAt case i) ≡ false) where
-    -- 42, by line
-    large-line : (j i : ℕ) → j < case .receptors .count → i < case .chemicals .count → (p : ℕ) →
-        largeLine (receptorFrom (receptorAt case j)) (sourceAt sources i) (j * perReceptor sources + i * pathwaysPerChemical) p ≡ lineTooLarge case j i p
-    unfolding largeLine lineTooLarge sources sourcesOf perReceptor linesPerReceptor
-    large-line j i a b p =
-        ap (λ (t : Bool). at 42 (j * linesPerReceptor case + i * pathwaysPerChemical + p) 0 t ∷ [])
-        (ap (λ (s : Source). largeFrom (receptorFrom (receptorAt case j)) s p) (source-at case i b) ∙ large-agrees case ranged i j b a (slow i b) p)
+    module _ (j : ℕ) (j-small : j < case .receptors .count) where
+      -- 42, by line
+      large-line : (i p : ℕ) → i < case .chemicals .count →
+          at 42 (j * perReceptor sources + (i * pathwaysPerChemical + suc p)) 0 (largeFrom (receptorFrom (receptorAt case j)) (sourceAt sources i) (suc p)) ∷ [] ≡ lineTooLarge case j i (suc p)
+      unfolding lineTooLarge sources sourcesOf perReceptor linesPerReceptor
+      large-line i p b =
+          ap (λ (l : ℕ). at 42 l 0 (largeFrom (receptorFrom (receptorAt case j)) (sourceAt sources i) (suc p)) ∷ []) (sym (add-assoc (j * linesPerReceptor case) (i * pathwaysPerChemical) (suc p)))
+          ∙ ap (λ (t : Bool). at 42 (j * linesPerReceptor case + i * pathwaysPerChemical + suc p) 0 t ∷ [])
+          (ap (λ (s : Source). largeFrom (receptorFrom (receptorAt case j)) s (suc p)) (source-at case i b) ∙ large-agrees case ranged i j b j-small (slow i b) (suc p))
+
+      large-receptor : largeLines sources (receptorFrom (receptorAt case j)) (j * perReceptor sources) ≡ chained (λ i. upTo (lineTooLarge case j i) pathwaysPerChemical) (case .chemicals .count)
+      unfolding largeLines largeLine sources sourcesOf
+      large-receptor =
+          let large : ℕ → ℕ → List Condition = λ i p. at 42 (j * perReceptor sources + (i * pathwaysPerChemical + suc p)) 0 (largeFrom (receptorFrom (receptorAt case j)) (sourceAt sources i) (suc p)) ∷ [] in
+          chained-same (largeLine sources (receptorFrom (receptorAt case j)) (j * perReceptor sources)) (λ q. large (q / 6) (q % 6)) (case .chemicals .count * 6)
+          (λ q h.
+          let e : suc q ≡ q / 6 * 6 + suc (q % 6) = omega arith in
+          ap (λ (l : ℕ). at 42 (j * perReceptor sources + l) 0 (largeFrom (receptorFrom (receptorAt case j)) (sourceAt sources (q / 6)) (suc (q % 6))) ∷ []) e)
+          ∙ sym (flat large (case .chemicals .count))
+          ∙ chained-same (λ i. chained (large i) 6) (λ i. upTo (lineTooLarge case j i) 6) (case .chemicals .count)
+          (λ i b. chained-same (large i) (λ p. lineTooLarge case j i (suc p)) 6 (λ p l. large-line i p b) ∙ sym (upTo-chained (lineTooLarge case j i) 6))
+
+      -- a receptor's lines
+      lines-agree : linesOf sources (receptorAt case j) ≡ chained (λ i. chained (λ p. rowAt case j i (suc p) ∷ []) pathwaysPerChemical) (case .chemicals .count)
+      unfolding linesOf lineOf sources sourcesOf
+      lines-agree =
+          let line : ℕ → ℕ → List Row = λ i p. rowFrom (receptorAt case j .id) (receptorFrom (receptorAt case j)) (sourceAt sources i) (suc p) ∷ [] in
+          sym (flat line (case .chemicals .count))
+          ∙ chained-same (λ i. chained (line i) 6) (λ i. chained (λ p. rowAt case j i (suc p) ∷ []) 6) (case .chemicals .count)
+          (λ i b.
+          chained-same (line i) (λ p. rowAt case j i (suc p) ∷ []) 6
+          (λ p l.
+          ap (λ (row : Row). row ∷ [])
+          (ap (λ (s : Source). rowFrom (receptorAt case j .id) (receptorFrom (receptorAt case j)) s (suc p)) (source-at case i b) ∙ row-agrees case ranged i j b j-small (slow i b) (suc p))))
 
     large-list : allLarge sources (case .receptors .records) (case .receptors .count)
         ≡ chained (λ j. chained (λ i. upTo (lineTooLarge case j i) pathwaysPerChemical) (case .chemicals .count)) (case .receptors .count)
-    unfolding allLarge largeOfRecord largeLines sources sourcesOf receptorAt
+    unfolding allLarge receptorAt
     large-list =
-        chained-same (λ j. largeOfRecord sources (receptorAt case j) (j * perReceptor sources)) (λ j. chained (λ i. upTo (lineTooLarge case j i) pathwaysPerChemical) (case .chemicals .count)) (case .receptors .count)
-        (λ j a.
-        chained-same (λ i. upTo (largeLine (receptorFrom (receptorAt case j)) (sourceAt sources i) (j * perReceptor sources + i * pathwaysPerChemical)) pathwaysPerChemical)
-        (λ i. upTo (lineTooLarge case j i) pathwaysPerChemical) (case .chemicals .count)
-        (λ i b.
-        upTo-agree (largeLine (receptorFrom (receptorAt case j)) (sourceAt sources i) (j * perReceptor sources + i * pathwaysPerChemical)) (lineTooLarge case j i) pathwaysPerChemical
-        (λ k l. large-line j i a b (suc k))))
-
-    -- a receptor's lines
-    lines-agree : (j : ℕ) → j < case .receptors .count →
-        chemicalRows (receptorAt case j .id) (receptorFrom (receptorAt case j)) sources
-        ≡ chained (λ i. chained (λ p. rowAt case j i (suc p) ∷ []) pathwaysPerChemical) (case .chemicals .count)
-    unfolding chemicalRows sources sourcesOf
-    lines-agree j a =
-        chained-same (λ i. chained (λ p. rowFrom (receptorAt case j .id) (receptorFrom (receptorAt case j)) (sourceAt sources i) (suc p) ∷ []) pathwaysPerChemical)
-        (λ i. chained (λ p. rowAt case j i (suc p) ∷ []) pathwaysPerChemical) (case .chemicals .count)
-        (λ i b.
-        chained-same (λ p. rowFrom (receptorAt case j .id) (receptorFrom (receptorAt case j)) (sourceAt sources i) (suc p) ∷ []) (λ p. rowAt case j i (suc p) ∷ []) pathwaysPerChemical
-        (λ p l.
-        ap (λ (row : Row). row ∷ [])
-        (ap (λ (s : Source). rowFrom (receptorAt case j .id) (receptorFrom (receptorAt case j)) s (suc p)) (source-at case i b) ∙ row-agrees case ranged i j b a (slow i b) (suc p))))
+        chained-same (λ j. largeLines sources (receptorFrom (receptorAt case j)) (j * perReceptor sources)) (λ j. chained (λ i. upTo (lineTooLarge case j i) pathwaysPerChemical) (case .chemicals .count)) (case .receptors .count)
+        large-receptor
 
   -- the first condition that holds, for a report buffer of so many bytes
   pub conditions-agree : 0 < case .receptors .count → (room : ℕ) → first (workedConditions case room) ≡ first (sheetConditions case room)
@@ -107,7 +116,7 @@ module _ (case : Case) (ranged : Ranged case) where
       (total : (j : ℕ) → j < case .receptors .count → (e : Effect) →
       totalUnits e (chained (λ i. chained (λ p. rowAt case j i (suc p) ∷ []) pathwaysPerChemical) (case .chemicals .count)) ≡ totalAt e case j) where
     receptor-agrees : (j : ℕ) → j < case .receptors .count → rowsOfRecord sources (receptorAt case j) ≡ rowsAt case j
-    unfolding rowsOfRecord receptorRows rowsAt totalFrom totalRow
+    unfolding rowsOfRecord rowsAt totalFrom totalRow
     receptor-agrees j a =
         let id = receptorAt case j .id in
         let rows = chained (λ i. chained (λ p. rowAt case j i (suc p) ∷ []) pathwaysPerChemical) (case .chemicals .count) in

@@ -24,7 +24,7 @@ use Rattle.media.specs.Slots.{mediaSlots}
 use Rattle.pathway.specs.declared.Receptor.{Receptor}
 use Rattle.pathway.specs.declared.Reference.{Reference}
 use Rattle.pathway.specs.declared.Reference.the-variants as References
-use Rattle.pathway.specs.Lines.{Told, present, hazardOf, cancerOf, intakeOf, lineOf}
+use Rattle.pathway.specs.Lines.{present, hazardOf, cancerOf, intakeOf, lineOf}
 use Rattle.deck.specs.declared.Case.{Case}
 use Rattle.deck.specs.declared.Status.the-variants.{Read}
 use Rattle.deck.specs.declared.Value.{Value}
@@ -38,7 +38,7 @@ use Rattle.sheet.specs.declared.Units.the-variants as Columns
 use Rattle.sheet.specs.declared.Source.{Source}
 use Rattle.sheet.specs.Values.{chemicalIndex, chemicalAt, receptorAt, printed, pairOf, pairsAt, exactAt, siteFrom, chemicalFrom, receptorFrom, uptakeFrom, referenceOf}
 use Rattle.sheet.specs.Sheet.{pathwayAt, referenceSlot, isPrinted, hasReference, figureAt, unitOf, capOf, countedIn, columnsAt, rowAt, isAbove, highAbove, exponentAt, overCap}
-use Rattle.sheet.specs.Worked.{columnsOf, aboveCap, mediaFrom, notFound, mediaFor, sourceWith, sourceOf, noSource, sourcesOf, sourceAt, mediumFrom, inhaledOr, figuresFrom, rowWith, rowFrom, isLarge, largeFrom}
+use Rattle.sheet.specs.Worked.{columnsOf, aboveCap, mediaFrom, notFound, mediaFor, sourceWith, sourceOf, noSource, sourcesOf, sourceAt, mediumFrom, inhaledOr, figuresFrom, figureFor, rowFrom, isLarge, largeFrom}
 use Rattle.sheet.proofs.Inputs.{Ranged, inputs}
 use Rattle.sheet.proofs.LineTotals.{high-number, sixty-four-number, x-most}
 use Rattle.sheet.proofs.Agreement.{reference-agrees, x-agrees, factor-agrees, medium-agrees}
@@ -129,11 +129,6 @@ pub fast-agrees : (case : Case) → Ranged case → (i : ℕ) → i < case .chem
 fast-agrees case ranged i h l = found-if case ranged i 0 h l (highAbove sixtyFour (exponentAt case i)) refl
 
 -- ---- a line
--- the figure of an effect
-unfoldable pub toldFor : Effect → Told → Outcome Reference
-toldFor Hazard told = told .hazard
-toldFor Cancer told = told .cancer
-
 -- from the intake and the reference value
 onReference : Effect → Outcome Pair → Outcome Pair → Outcome Pair
 onReference Hazard intake value = after quotient intake value
@@ -195,8 +190,8 @@ has-reference case i j e p =
     ∙ ap isGiven (sym (reference-from case i j e p) ∙ reference-from case i 0 e p)
     ∙ given-if-printed (printed case i 0 (referenceSlot e p))
 
-figures-by : (e : Effect) (r : Receptor) (s : Source) (p : Pathway) → toldFor e (figuresFrom r s p) ≡ figureOf e (intakeOf e p r (s .uptake) (mediumFrom p (s .media))) (referenceFrom e s p)
-unfolding toldFor figuresFrom lineOf figureOf referenceFrom
+figures-by : (e : Effect) (r : Receptor) (s : Source) (p : Pathway) → figureFor e (figuresFrom r s p) ≡ figureOf e (intakeOf e p r (s .uptake) (mediumFrom p (s .media))) (referenceFrom e s p)
+unfolding figureFor figuresFrom lineOf figureOf referenceFrom
 figures-by Hazard r s p = refl
 figures-by Cancer r s p = refl
 
@@ -226,7 +221,7 @@ module _ (case : Case) (ranged : Ranged case) (i j : ℕ) (i-small : i < case .c
 
   -- each figure, for both effects and every pathway
   pub figures-agree : (e : Effect) (p : Pathway) →
-      toldFor e (figuresFrom (receptorFrom (receptorAt case j)) (sourceOf (case .site) (chemicalAt case i)) p)
+      figureFor e (figuresFrom (receptorFrom (receptorAt case j)) (sourceOf (case .site) (chemicalAt case i)) p)
       ≡ cond (hasReference e case i p) (present (figureAt e case j i p)) (is References.Absent)
   unfolding figureAt sourceOf sourceWith
   figures-agree e p =
@@ -240,24 +235,24 @@ module _ (case : Case) (ranged : Ranged case) (i j : ℕ) (i-small : i < case .c
       ∙ ap (λ (o : Outcome Pair). cond (hasReference e case i p) (present o) (is References.Absent))
       (sym (line-by e p env ∙ ap (onReference e (worked env (page.intake e p))) (reference-read case i j e p)))
 
-  columns-agree : (e : Effect) (p : Pathway) → columnsOf e (toldFor e (figuresFrom (receptorFrom (receptorAt case j)) (sourceOf (case .site) (chemicalAt case i)) p)) ≡ columnsAt e case j i p
+  columns-agree : (e : Effect) (p : Pathway) → columnsOf e (figureFor e (figuresFrom (receptorFrom (receptorAt case j)) (sourceOf (case .site) (chemicalAt case i)) p)) ≡ columnsAt e case j i p
   unfolding columnsAt
   columns-agree e p = ap (columnsOf e) (figures-agree e p) ∙ columns-by e (hasReference e case i p) (figureAt e case j i p)
 
-  cap-agrees : (e : Effect) (p : Pathway) → aboveCap e (toldFor e (figuresFrom (receptorFrom (receptorAt case j)) (sourceOf (case .site) (chemicalAt case i)) p)) ≡ overCap e case j i p
+  cap-agrees : (e : Effect) (p : Pathway) → aboveCap e (figureFor e (figuresFrom (receptorFrom (receptorAt case j)) (sourceOf (case .site) (chemicalAt case i)) p)) ≡ overCap e case j i p
   unfolding overCap
   cap-agrees e p = ap (aboveCap e) (figures-agree e p) ∙ cap-by e (hasReference e case i p) (figureAt e case j i p)
 
   -- line p, counted from 1
   pub row-agrees : (p : ℕ) → rowFrom (receptorAt case j .id) (receptorFrom (receptorAt case j)) (sourceOf (case .site) (chemicalAt case i)) p ≡ rowAt case j i p
-  unfolding rowFrom rowWith rowAt toldFor sourceOf sourceWith
+  unfolding rowFrom rowAt figureFor sourceOf sourceWith
   row-agrees p =
       let h = columns-agree Hazard (pathwayAt p) in
       let c = columns-agree Cancer (pathwayAt p) in
       λ k. record { receptor = receptorAt case j .id; chemical = chemicalAt case i .id; pathway = p; hazard = h k; cancer = c k }
 
   pub large-agrees : (p : ℕ) → largeFrom (receptorFrom (receptorAt case j)) (sourceOf (case .site) (chemicalAt case i)) p ≡ (overCap Hazard case j i (pathwayAt p) || overCap Cancer case j i (pathwayAt p))
-  unfolding largeFrom isLarge toldFor
+  unfolding largeFrom isLarge figureFor
   large-agrees p = ap₂ _||_ (cap-agrees Hazard (pathwayAt p)) (cap-agrees Cancer (pathwayAt p))
 
 -- ---- the chemicals

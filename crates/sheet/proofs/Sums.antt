@@ -3,14 +3,15 @@
 use mathlib.Core.Path.{_≡_, sym, ap, _∙_}
 use mathlib.Core.Bool.{Bool, true, false, _&&_}
 use mathlib.Core.List.{List, []}
-use Prim.Native.Nat.{ℕ, _+_, _^_, _≤_, _<_}
+use Prim.Native.Nat.{ℕ, _+_, _-_, _^_, _≤_, _<_}
 use native.Mathlib.Numerals.{add-one}
 use native.Mathlib.Omega.{arith}
 use borrow.Author.Tests.{le-leb, lt-leb}
 use lib.Dec.{leb}
-use lib.ListN.{length, getD, drop, drop-of-length-le}
+use lib.ListN.{length, getD, take, drop, drop-of-length-le}
 use lib.Seq.{drop-cons}
 use Rattle.sheet.specs.Totals.{totalled, totalOf, sum, allAtMost}
+use Rattle.sheet.specs.declared.Total.{Total}
 use Rattle.sheet.specs.declared.Total.the-variants.{Is, Refused}
 
 pub sum-from : (list : List ℕ) (i : ℕ) → i < length list → sum (drop i list) ≡ getD list i 0 + sum (drop (i + 1) list)
@@ -52,3 +53,9 @@ summed list i s few past e a =
     let all : allAtMost (10 ^ 16) list ≡ true = sym a ∙ ap (allAtMost (10 ^ 16)) gone in
     let same : sum list ≡ s = sym e ∙ (simp gone (omega arith)) in
     simp (le-leb _ _ few, all, same)
+
+-- what the totals call told of a part of cells
+pub total-told : (cells : List ℕ) (at n : ℕ) (r s : Total) → totalled r ≡ totalOf (take (at + n - at) (drop at cells)) → r ≡ s → totalOf (take n (drop at cells)) ≡ totalled s
+total-told cells at n r s a k =
+    let e : n ≡ at + n - at = omega arith in
+    ap (λ (m : ℕ). totalOf (take m (drop at cells))) e ∙ sym a ∙ ap totalled k

@@ -1,11 +1,12 @@
 -- For the contracts of this crate's inner functions only: the report as they work it, each chemical once, from the structs of the crates
 -- below, then each receptor's lines, and its total through the totals call. proofs/ReportLaws.antt shows that it is the report of
 -- Sheet.antt, of which alone the report call speaks.
-use Prim.Native.Nat.{ℕ, suc, _+_, _*_, _-_}
+use mathlib.Core.Path.{_≡_}
+use Prim.Native.Nat.{ℕ, suc, _+_, _*_, _-_, _/_, _%_, _<_}
 use mathlib.Core.Bool.{Bool, true, false, cond, _||_}
 use mathlib.Core.List.{List, [], _∷_, _++_}
 use lib.Dec.{eqb, ltb}
-use lib.ListN.{length, getD, take, replicate}
+use lib.ListN.{getD, take, drop, set, replicate}
 use Rattle.pair.specs.declared.Pair.{Pair}
 use Rattle.pair.specs.Calls.{Outcome, is, refused, zeroPair}
 use Rattle.equations.specs.declared.Pathway.{Pathway}
@@ -18,7 +19,8 @@ use Rattle.media.specs.Slots.{mediaSlots}
 use Rattle.pathway.specs.declared.Receptor.{Receptor}
 use Rattle.pathway.specs.declared.Reference.{Reference}
 use Rattle.pathway.specs.declared.Reference.the-variants as References
-use Rattle.pathway.specs.Lines.{Told, lineOf}
+use Rattle.pathway.specs.Lines as lines
+use Rattle.pathway.specs.Lines.{Told}
 use Rattle.deck.specs.declared.Case.{Case}
 use Rattle.deck.specs.declared.Chemicals.{Chemicals}
 use Rattle.deck.specs.declared.Record.{Record}
@@ -28,7 +30,6 @@ use Rattle.deck.specs.Cases.{noRecord, tabulate}
 use Rattle.sheet.specs.declared.Units.{Units}
 use Rattle.sheet.specs.declared.Units.the-variants as Columns
 use Rattle.sheet.specs.declared.Row.{Row}
-use Rattle.sheet.specs.declared.Rows.{Rows}
 use Rattle.sheet.specs.declared.Source.{Source}
 use Rattle.sheet.specs.declared.Sources.{Sources}
 use Rattle.sheet.specs.Text.{lineWidth}
@@ -122,14 +123,20 @@ inhaledOr AboveGround inhaled oral = oral
 inhaledOr BelowGround inhaled oral = oral
 
 unfoldable pub figuresFrom : Receptor → Source → Pathway → Told
-figuresFrom r s p = lineOf p r (s .uptake) (mediumFrom p (s .media)) (inhaledOr p (s .«rfd_i») (s .«rfd_o»)) (inhaledOr p (s .«csf_i») (s .«csf_o»))
+figuresFrom r s p = lines.lineOf p r (s .uptake) (mediumFrom p (s .media)) (inhaledOr p (s .«rfd_i») (s .«rfd_o»)) (inhaledOr p (s .«csf_i») (s .«csf_o»))
 
-unfoldable pub rowWith : ℕ → Source → ℕ → Told → Row
-rowWith id′ s p told =
-    record { receptor = id′; chemical = s .id; pathway = p; hazard = columnsOf Hazard (told .hazard); cancer = columnsOf Cancer (told .cancer) }
+unfoldable pub figureFor : Effect → Told → Outcome Reference
+figureFor Hazard told = told .hazard
+figureFor Cancer told = told .cancer
 
 unfoldable pub rowFrom : ℕ → Receptor → Source → ℕ → Row
-rowFrom id′ r s p = rowWith id′ s p (figuresFrom r s (pathwayAt p))
+rowFrom id′ r s p =
+    let told = figuresFrom r s (pathwayAt p) in
+    record { receptor = id′; chemical = s .id; pathway = p; hazard = columnsOf Hazard (told .hazard); cancer = columnsOf Cancer (told .cancer) }
+
+unfoldable pub unitsFor : Effect → Row → Units
+unitsFor Hazard row = row .hazard
+unitsFor Cancer row = row .cancer
 
 unfoldable pub isLarge : Told → Bool
 isLarge told = aboveCap Hazard (told .hazard) || aboveCap Cancer (told .cancer)
@@ -137,58 +144,99 @@ isLarge told = aboveCap Hazard (told .hazard) || aboveCap Cancer (told .cancer)
 unfoldable pub largeFrom : Receptor → Source → ℕ → Bool
 largeFrom r s p = isLarge (figuresFrom r s (pathwayAt p))
 
+-- ---- a receptor's line q, counted from 0 without total lines: its columns, and 42 at it after so many lines
+unfoldable pub columnsFrom : Sources → Receptor → ℕ → Effect → Units
+columnsFrom sources r q e = columnsOf e (figureFor e (figuresFrom r (sourceAt sources (q / pathwaysPerChemical)) (pathwayAt (suc (q % pathwaysPerChemical)))))
+
+unfoldable pub largeLine : Sources → Receptor → ℕ → ℕ → List Condition
+largeLine sources r before q =
+    at 42 (before + suc q) 0 (largeFrom r (sourceAt sources (q / pathwaysPerChemical)) (suc (q % pathwaysPerChemical))) ∷ []
+
+-- ---- cells: an effect has three columns of them, 1 for each line that has counts, the low and the high counts; all are 0 for -
+abbrev pub mostLines : ℕ
+mostLines = 96
+
+abbrev pub effectCells : ℕ
+effectCells = 3 * mostLines
+
+abbrev pub receptorCells : ℕ
+receptorCells = 2 * effectCells
+
+abbrev pub allCells : ℕ
+allCells = 4 * receptorCells
+
+pub data Part : Type 0 where
+  Mark Low High : Part
+
+unfoldable pub cellOf : Part → Units → ℕ
+cellOf w Columns.Absent = 0
+cellOf Mark (Columns.Counted low high) = 1
+cellOf Low (Columns.Counted low high) = low
+cellOf High (Columns.Counted low high) = high
+
+unfoldable pub unitsFrom : ℕ → ℕ → ℕ → Units
+unitsFrom lines low high = cond (eqb lines 0) Columns.Absent (Columns.Counted low high)
+
+unfoldable pub withCounts : List ℕ → ℕ → Units → List ℕ
+withCounts cells at units = set (set (set cells at (cellOf Mark units)) (at + mostLines) (cellOf Low units)) (at + 2 * mostLines) (cellOf High units)
+
+unfoldable pub unitsIn : List ℕ → ℕ → Units
+unitsIn cells at = unitsFrom (getD cells at 0) (getD cells (at + mostLines) 0) (getD cells (at + 2 * mostLines) 0)
+
 -- ---- totals, through the totals call
-unfoldable pub unitsFor : Effect → Row → Units
-unitsFor Hazard row = row .hazard
-unitsFor Cancer row = row .cancer
+unfoldable pub totalled : Outcome ℕ → Outcome ℕ → Outcome ℕ → Units
+totalled (is lines) (is low) (is high) = unitsFrom lines low high
+totalled (is lines) (is low) (refused n) = Columns.Absent
+totalled (is lines) (refused n) z = Columns.Absent
+totalled (refused n) y z = Columns.Absent
 
-unfoldable pub lowIn : Units → List ℕ
-lowIn Columns.Absent = []
-lowIn (Columns.Counted low high) = low ∷ []
-
-unfoldable pub highIn : Units → List ℕ
-highIn Columns.Absent = []
-highIn (Columns.Counted low high) = high ∷ []
-
-unfoldable pub lows : Effect → List Row → List ℕ
-lows e [] = []
-lows e (row ∷ rows) = lowIn (unitsFor e row) ++ lows e rows
-
-unfoldable pub highs : Effect → List Row → List ℕ
-highs e [] = []
-highs e (row ∷ rows) = highIn (unitsFor e row) ++ highs e rows
-
-unfoldable pub totalled : Outcome ℕ → Outcome ℕ → Units
-totalled (is low) (is high) = Columns.Counted low high
-totalled (is low) (refused n) = Columns.Absent
-totalled (refused n) y = Columns.Absent
+-- of a column of rows
+unfoldable pub column : Part → Effect → List Row → List ℕ
+column w e [] = []
+column w e (row ∷ rows) = cellOf w (unitsFor e row) ∷ column w e rows
 
 unfoldable pub totalUnits : Effect → List Row → Units
-totalUnits e rows = cond (eqb (length (lows e rows)) 0) Columns.Absent (totalled (totalOf (lows e rows)) (totalOf (highs e rows)))
+totalUnits e rows = totalled (totalOf (column Mark e rows)) (totalOf (column Low e rows)) (totalOf (column High e rows))
 
 unfoldable pub totalFrom : ℕ → List Row → Row
 totalFrom id′ rows = record { receptor = id′; chemical = 0; pathway = 0; hazard = totalUnits Hazard rows; cancer = totalUnits Cancer rows }
 
--- ---- a receptor's lines, and 42 by line after so many
-unfoldable pub chemicalRows : ℕ → Receptor → Sources → List Row
-chemicalRows id′ r sources = chained (λ i. chained (λ p. rowFrom id′ r (sourceAt sources i) (suc p) ∷ []) pathwaysPerChemical) (sources .count)
+-- of the first n cells of three columns
+unfoldable pub totalIn : List ℕ → ℕ → ℕ → Units
+totalIn cells at n =
+    totalled (totalOf (take n (drop at cells))) (totalOf (take n (drop (at + mostLines) cells))) (totalOf (take n (drop (at + mostLines + mostLines) cells)))
 
-unfoldable pub receptorRows : ℕ → Receptor → Sources → List Row
-receptorRows id′ r sources = chemicalRows id′ r sources ++ (totalFrom id′ (chemicalRows id′ r sources) ∷ [])
+-- ---- the rows that cells hold: a receptor's, whose cells start at base, and the report's
+unfoldable pub lineIn : List ℕ → ℕ → ℕ → ℕ → ℕ → Row
+lineIn cells base id′ chemical′ q =
+    record { receptor = id′; chemical = chemical′; pathway = q % pathwaysPerChemical + 1; hazard = unitsIn cells (base + q); cancer = unitsIn cells (base + q + effectCells) }
 
-unfoldable pub largeLine : Receptor → Source → ℕ → ℕ → List Condition
-largeLine r s before p = at 42 (before + p) 0 (largeFrom r s p) ∷ []
+unfoldable pub totalLineIn : List ℕ → ℕ → ℕ → ℕ → Row
+totalLineIn cells base id′ n = record { receptor = id′; chemical = 0; pathway = 0; hazard = totalIn cells base n; cancer = totalIn cells (base + effectCells) n }
 
-unfoldable pub largeLines : Receptor → Sources → ℕ → List Condition
-largeLines r sources before =
-    chained (λ i. upTo (largeLine r (sourceAt sources i) (before + i * pathwaysPerChemical)) pathwaysPerChemical) (sources .count)
+unfoldable pub linesIn : List ℕ → ℕ → ℕ → Chemicals → ℕ → List Row
+linesIn cells base id′ chemicals′ = chained (λ q. lineIn cells base id′ (getD (chemicals′ .records) (q / pathwaysPerChemical) noRecord .id) q ∷ [])
 
--- ---- the receptors
+unfoldable pub rowsIn : List ℕ → ℕ → ℕ → Chemicals → List Row
+rowsIn cells base id′ chemicals′ =
+    let n = chemicals′ .count * pathwaysPerChemical in
+    linesIn cells base id′ chemicals′ n ++ (totalLineIn cells base id′ n ∷ [])
+
+unfoldable pub reportIn : List ℕ → Chemicals → List Record → ℕ → List Row
+reportIn cells chemicals′ records = chained (λ j. rowsIn cells (receptorCells * j) (getD records j noRecord .id) chemicals′)
+
+-- ---- the rows and conditions as they are worked
+unfoldable pub lineOf : Sources → Record → ℕ → Row
+lineOf sources r q = rowFrom (r .id) (receptorFrom r) (sourceAt sources (q / pathwaysPerChemical)) (suc (q % pathwaysPerChemical))
+
+unfoldable pub linesOf : Sources → Record → List Row
+linesOf sources r = chained (λ q. lineOf sources r q ∷ []) (sources .count * pathwaysPerChemical)
+
 unfoldable pub rowsOfRecord : Sources → Record → List Row
-rowsOfRecord sources receptor′ = receptorRows (receptor′ .id) (receptorFrom receptor′) sources
+rowsOfRecord sources r = linesOf sources r ++ (totalFrom (r .id) (linesOf sources r) ∷ [])
 
-unfoldable pub largeOfRecord : Sources → Record → ℕ → List Condition
-largeOfRecord sources receptor′ before = largeLines (receptorFrom receptor′) sources before
+unfoldable pub largeLines : Sources → Receptor → ℕ → List Condition
+largeLines sources r before = chained (largeLine sources r before) (sources .count * pathwaysPerChemical)
 
 unfoldable pub perReceptor : Sources → ℕ
 perReceptor sources = sources .count * pathwaysPerChemical + 1
@@ -197,11 +245,28 @@ unfoldable pub allRows : Sources → List Record → ℕ → List Row
 allRows sources records n = chained (λ j. rowsOfRecord sources (getD records j noRecord)) n
 
 unfoldable pub allLarge : Sources → List Record → ℕ → List Condition
-allLarge sources records n = chained (λ j. largeOfRecord sources (getD records j noRecord) (j * perReceptor sources)) n
+allLarge sources records n = chained (λ j. largeLines sources (receptorFrom (getD records j noRecord)) (j * perReceptor sources)) n
 
--- the first rows of a list of rows
-unfoldable pub rowsIn : Rows → List Row
-rowsIn rows = take (rows .count) (rows .rows)
+-- the cells from base on hold the columns of the first n lines
+unfoldable pub sideOf : Effect → ℕ
+sideOf Hazard = 0
+sideOf Cancer = 1
+
+unfoldable pub partOf : Part → ℕ
+partOf Mark = 0
+partOf Low = 1
+partOf High = 2
+
+abbrev pub Holds : (ℕ → Effect → Units) → ℕ → List ℕ → ℕ → Type 0
+Holds units n cells base =
+    (e : Effect) (w : Part) (q : ℕ) → q < n → getD cells (base + effectCells * sideOf e + mostLines * partOf w + q) 0 ≡ cellOf w (units q e)
+
+abbrev pub HoldsAll : Sources → List Record → ℕ → List ℕ → Type 0
+HoldsAll sources records n cells =
+    (j : ℕ) → j < n → Holds (columnsFrom sources (receptorFrom (getD records j noRecord))) (sources .count * pathwaysPerChemical) cells (receptorCells * j)
+
+abbrev pub SameBelow : ℕ → List ℕ → List ℕ → Type 0
+SameBelow base before after = (k : ℕ) → k < base → getD after k 0 ≡ getD before k 0
 
 -- ---- the whole case
 unfoldable pub workedRows : Case → List Row

@@ -3,14 +3,14 @@ mod chemicals;
 mod counting;
 mod lines;
 mod receptors;
+mod rows;
 pub mod totals;
 mod values;
 
 use crate::chemicals::sources_of;
 use crate::lines::LINE_WIDTH;
-use crate::lines::write_rows;
-use crate::receptors::no_rows;
-use crate::receptors::sheet_of;
+use crate::receptors::put_receptors;
+use crate::rows::write_rows;
 use deck::Case;
 use deck::Status;
 use deck::Told;
@@ -18,12 +18,11 @@ use media::Media;
 use pathway::Reference;
 use pathway::Uptake;
 ghost use mathlib.Core.Path.{_≡_};
-ghost use Prim.Native.Nat.{_*_, _≤_};
+ghost use Prim.Native.Nat.{_+_, _*_, _≤_};
 ghost use lib.ListN.{length};
 ghost use Rattle.deck.specs.declared.Status.the-variants as Statuses;
 ghost use Rattle.deck.specs.Conditions.{first};
-ghost use Rattle.sheet.specs.Sheet.{linesOfReport};
-ghost use Rattle.sheet.specs.Worked.{rowsIn, workedConditions, workedRows};
+ghost use Rattle.sheet.specs.Worked.{allCells, sourcesOf, HoldsAll, workedConditions};
 ghost use Rattle.sheet.specs.Report.{outcomeOf, bufferOf};
 
 // Two columns of a report line: - in both, or two counts.
@@ -44,14 +43,16 @@ pub struct Row {
 // Pathways of a chemical.
 pub const PATHWAYS: usize = 6;
 
-// Each receptor's lines and its total line: 388.
-pub const MAX_ROWS: usize = deck::MAX_RECEPTORS * (deck::MAX_CHEMICALS * PATHWAYS + 1);
+// A receptor's lines but its total line, at most: 96.
+pub const MOST_LINES: usize = deck::MAX_CHEMICALS * PATHWAYS;
 
-// A report: the first count rows.
-pub struct Rows {
-    pub count: usize,
-    pub rows: [Row; MAX_ROWS],
-}
+// The counts of a report's lines stand in cells. An effect has three columns of 96 cells: 1 for each line that has counts, the low and the
+// high counts; all three are 0 where the line has -. A receptor has a cell in each of hazard's and cancer's columns for each of its lines.
+pub const EFFECT_CELLS: usize = 3 * MOST_LINES;
+
+pub const RECEPTOR_CELLS: usize = 2 * EFFECT_CELLS;
+
+pub const CELLS: usize = deck::MAX_RECEPTORS * RECEPTOR_CELLS;
 
 // What the totals call answers. Refused is document 01's 52.
 pub enum Total {
@@ -82,49 +83,36 @@ pub struct Prepared {
     pub sources: Sources,
 }
 
-// The rows, or where a line stopped.
-pub struct Sheet {
-    pub status: Status,
-    pub rows: Rows,
-}
-
 const TOO_SHORT: u32 = 51;
 
-// How many lines the report of a case has.
-fn lines_of(case: Case) -> usize
-    requires { ⌜ (case .chemicals .count ≤ 16) × (case .receptors .count ≤ 4) ⌝ }
-    ensures { λ r. ⌜ r ≡ linesOfReport case ⌝ }
+// How many lines a report has for so many chemicals and receptors.
+fn lines_of(chemicals: usize, receptors: usize) -> usize
+    requires { ⌜ (chemicals ≤ 16) × (receptors ≤ 4) ⌝ }
+    ensures { λ r. ⌜ r ≡ receptors * (chemicals * 6 + 1) ⌝ }
 {
-    let lines = case.chemicals.count * PATHWAYS + 1;
-    case.receptors.count * lines
+    receptors * (chemicals * PATHWAYS + 1)
 }
 
-// The rows of a case's report, for a buffer of so many bytes, or where it stops.
-fn worked(case: Case, room: usize) -> Sheet
-    requires { ⌜ (case .chemicals .count ≤ 16) × (case .receptors .count ≤ 4) ⌝ }
-    ensures { λ r. ⌜ r .status ≡ first (workedConditions case room) ⌝ }
-    ensures { λ r. ⌜ (r .status ≡ Statuses.Read → (r .rows .count ≡ linesOfReport case) × (rowsIn (r .rows) ≡ workedRows case)) ⌝ }
+// The counts of a case's report into the cells, for a buffer of so many bytes, or where it stops.
+fn worked(cells: &mut [u64], case: Case, room: usize) -> Status
+    requires { ⌜ (length (now cells) ≡ allCells) × (case .chemicals .count ≤ 16) × (case .receptors .count ≤ 4) ⌝ }
+    ensures { λ r. ⌜ r ≡ first (workedConditions case room) ⌝ }
+    ensures { λ r. ⌜ (r ≡ Statuses.Read → HoldsAll (sourcesOf (case .site) (case .chemicals)) (case .receptors .records) (case .receptors .count) (now (cells .exit))) ⌝ }
 {
-    if room < LINE_WIDTH * lines_of(case) {
-        return Sheet {
-            status: Status::Stopped(TOO_SHORT, 0, 0),
-            rows: no_rows(),
-        };
+    let chemicals = case.chemicals;
+    let receptors = case.receptors;
+    if room < LINE_WIDTH * lines_of(chemicals.count, receptors.count) {
+        return Status::Stopped(TOO_SHORT, 0, 0);
     }
     let site = case.site;
-    let chemicals = case.chemicals;
     let prepared = sources_of(site, chemicals);
     let status = prepared.status;
     match status {
         Status::Read => {
-            let receptors = case.receptors;
             let sources = prepared.sources;
-            sheet_of(receptors, sources)
+            put_receptors(cells, receptors, sources)
         }
-        Status::Stopped(_, _, _) => Sheet {
-            status,
-            rows: no_rows(),
-        },
+        Status::Stopped(_, _, _) => status,
     }
 }
 
@@ -140,17 +128,17 @@ pub fn report(deck: &[u8], out: &mut [u8]) -> Told
         return deck::tell(status);
     };
     let case = reading.case;
-    let sheet = worked(case, out.len());
-    let told = sheet.status;
+    let mut cells = [0u64; CELLS];
+    let told = worked(&mut cells, case, out.len());
     let Status::Read = told else {
         return deck::tell(told);
     };
-    let rows = sheet.rows;
-    let count = rows.count;
-    write_rows(out, rows);
+    let chemicals = case.chemicals;
+    let receptors = case.receptors;
+    write_rows(out, &cells, chemicals, receptors);
     Told {
         number: 0,
-        line: LINE_WIDTH * count,
+        line: LINE_WIDTH * lines_of(chemicals.count, receptors.count),
         field: 0,
     }
 }

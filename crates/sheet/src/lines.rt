@@ -2,10 +2,9 @@
 ghost use mathlib.Core.Path.{_≡_};
 ghost use mathlib.Core.List.{[], _∷_, _++_};
 ghost use Prim.Native.Nat.{_+_, _*_, _-_, _/_, _%_, _<_, _≤_};
-ghost use lib.ListN.{length, take, drop, replicate};
-ghost use Rattle.sheet.specs.Text.{digits, justified, number, dash, placed, unitsText, rowText, linesText, unitsWidth, lineWidth, maxRows};
+ghost use lib.ListN.{length, drop, replicate};
+ghost use Rattle.sheet.specs.Text.{digits, justified, number, dash, placed, unitsText, rowText, unitsWidth, lineWidth};
 use crate::Row;
-use crate::Rows;
 use crate::Units;
 
 // Columns of a report line, and the bytes of one: its columns and a line feed.
@@ -122,20 +121,4 @@ pub(crate) fn put_row(line: &mut [u8], row: Row)
     let cancer = row.cancer;
     put_units(line, CANCER_START, cancer);
     line[LINE_FEED_AT] = LINE_FEED;
-}
-
-// Writes the first count rows, one after the other, from the start of the buffer.
-pub(crate) fn write_rows(out: &mut [u8], rows: Rows)
-    requires { ⌜ (rows .count ≤ maxRows) × (lineWidth * rows .count ≤ length (now out)) ⌝ }
-    ensures { λ _. ⌜ now (out .exit) ≡ linesText (take (rows .count) (rows .rows)) ++ drop (lineWidth * rows .count) (now (out .entry)) ⌝ }
-{
-    let count = rows.count;
-    let mut k: usize = 0;
-    while k < count {
-        let next = k + 1;
-        let row = rows.rows[k];
-        let at = LINE_WIDTH * k;
-        put_row(&mut out[at..at + LINE_WIDTH], row);
-        k = next;
-    }
 }

@@ -1,6 +1,5 @@
-// A receptor's lines and its total line.
+// The counts of a receptor's lines, into cells.
 use deck::Receptors;
-use deck::Record;
 use deck::Status;
 use equations::Effect;
 use equations::Pathway;
@@ -11,27 +10,23 @@ use pathway::Receptor;
 use pathway::Reference;
 use pathway::figures;
 ghost use mathlib.Core.Path.{_≡_};
-ghost use mathlib.Core.List.{[], _∷_, _++_};
 ghost use Prim.Native.Nat.{_+_, _*_, _<_, _≤_};
-ghost use lib.ListN.{drop};
+ghost use lib.ListN.{length};
 ghost use Rattle.deck.specs.declared.Status.the-variants as Statuses;
 ghost use Rattle.deck.specs.Conditions.{first};
 ghost use Rattle.pathway.specs.Lines as specs;
+ghost use Rattle.sheet.specs.Text.{maxRows};
 ghost use Rattle.sheet.specs.Sheet.{pathwayAt};
-ghost use Rattle.sheet.specs.Worked.{mediumFrom, inhaledOr, figuresFrom, rowWith, isLarge, unitsFor, totalUnits, totalFrom, chemicalRows, largeLines, rowsOfRecord, largeOfRecord, perReceptor, allRows, allLarge, rowsIn};
-use crate::MAX_ROWS;
+ghost use Rattle.sheet.specs.Worked.{mediumFrom, inhaledOr, figuresFrom, isLarge, mostLines, receptorCells, allCells, withCounts, columnsFrom, largeLines, allLarge, Holds, HoldsAll, SameBelow};
+use crate::EFFECT_CELLS;
+use crate::MOST_LINES;
 use crate::PATHWAYS;
-use crate::Row;
-use crate::Rows;
-use crate::Sheet;
+use crate::RECEPTOR_CELLS;
 use crate::Source;
 use crate::Sources;
-use crate::Total;
 use crate::Units;
 use crate::counting::above_cap;
 use crate::counting::columns_of;
-use crate::totals::MOST_NUMBERS;
-use crate::totals::total;
 use crate::values::receptor_of;
 
 const TOO_LARGE: u32 = 42;
@@ -101,183 +96,82 @@ fn is_large(line: Line) -> bool
     above_cap(cancer, Effect::Cancer)
 }
 
-fn row_with(id: u32, source: Source, p: u32, line: Line) -> Row
-    ensures { λ r. ⌜ r ≡ rowWith id source p (specs.told line) ⌝ }
+// The cells of two columns of a line.
+fn put_counts(cells: &mut [u64], at: usize, units: Units)
+    requires { ⌜ at + 2 * mostLines < length (now cells) ⌝ }
+    ensures { λ _. ⌜ now (cells .exit) ≡ withCounts (now (cells .entry)) at units ⌝ }
 {
-    let hazard = line.hazard;
-    let cancer = line.cancer;
-    Row {
-        receptor: id,
-        chemical: source.id,
-        pathway: p,
-        hazard: columns_of(hazard, Effect::Hazard),
-        cancer: columns_of(cancer, Effect::Cancer),
-    }
-}
-
-fn units_for(effect: Effect, row: Row) -> Units
-    ensures { λ r. ⌜ r ≡ unitsFor effect row ⌝ }
-{
-    match effect {
-        Effect::Hazard => row.hazard,
-        Effect::Cancer => row.cancer,
-    }
-}
-
-// The total of the rows from one on, for one effect.
-fn total_of(rows: Rows, from: usize, effect: Effect) -> Units
-    requires { ⌜ (from ≤ rows .count) × (rows .count ≤ from + 96) × (rows .count ≤ 388) ⌝ }
-    ensures { λ r. ⌜ r ≡ totalUnits effect (drop from (rowsIn rows)) ⌝ }
-{
-    let count = rows.count;
-    let mut lows = [0u64; MOST_NUMBERS];
-    let mut highs = [0u64; MOST_NUMBERS];
-    let mut n: usize = 0;
-    let mut k = from;
-    while k < count {
-        let row = rows.rows[k];
-        k += 1;
-        if let Units::Counted { low, high } = units_for(effect, row) {
-            lows[n] = low;
-            highs[n] = high;
-            n += 1;
+    match units {
+        Units::Absent => {
+            cells[at] = 0;
+            cells[at + MOST_LINES] = 0;
+            cells[at + 2 * MOST_LINES] = 0;
+        }
+        Units::Counted { low, high } => {
+            cells[at] = 1;
+            cells[at + MOST_LINES] = low;
+            cells[at + 2 * MOST_LINES] = high;
         }
     }
-    if n == 0 {
-        return Units::Absent;
-    }
-    let Total::Is(low) = total(&lows[..n]) else {
-        return Units::Absent;
-    };
-    let Total::Is(high) = total(&highs[..n]) else {
-        return Units::Absent;
-    };
-    Units::Counted { low, high }
 }
 
-fn total_row(id: u32, rows: Rows, from: usize) -> Row
-    requires { ⌜ (from ≤ rows .count) × (rows .count ≤ from + 96) × (rows .count ≤ 388) ⌝ }
-    ensures { λ r. ⌜ r ≡ totalFrom id (drop from (rowsIn rows)) ⌝ }
+// The counts of a receptor's lines into its cells, from base on, or the first line above a cap.
+fn put_lines(
+    cells: &mut [u64],
+    base: usize,
+    receptor: Receptor,
+    sources: Sources,
+    before: usize,
+) -> Status
+    requires { ⌜ (base + receptorCells ≤ length (now cells)) × (sources .count ≤ 16) × (before ≤ maxRows) ⌝ }
+    ensures { λ s. ⌜ s ≡ first (largeLines sources receptor before) ⌝ }
+    ensures { λ s. ⌜ (s ≡ Statuses.Read → Holds (columnsFrom sources receptor) (sources .count * 6) (now (cells .exit)) base) ⌝ }
+    ensures { λ _. ⌜ SameBelow base (now (cells .entry)) (now (cells .exit)) ⌝ }
 {
-    Row {
-        receptor: id,
-        chemical: 0,
-        pathway: 0,
-        hazard: total_of(rows, from, Effect::Hazard),
-        cancer: total_of(rows, from, Effect::Cancer),
-    }
-}
-
-fn with_row(rows: Rows, row: Row) -> Rows
-    requires { ⌜ rows .count < 388 ⌝ }
-    ensures { λ r. ⌜ (r .count ≡ rows .count + 1) × (rowsIn r ≡ rowsIn rows ++ (row ∷ [])) ⌝ }
-{
-    let count = rows.count;
-    let mut list = rows.rows;
-    list[count] = row;
-    Rows {
-        count: count + 1,
-        rows: list,
-    }
-}
-
-pub(crate) fn no_rows() -> Rows
-    ensures { λ r. ⌜ r .count ≡ 0 ⌝ }
-{
-    let rows = [Row {
-        receptor: 0,
-        chemical: 0,
-        pathway: 0,
-        hazard: Units::Absent,
-        cancer: Units::Absent,
-    }; MAX_ROWS];
-    Rows { count: 0, rows }
-}
-
-// Report line l stops the report.
-fn stopped_at(l: usize) -> Sheet
-    ensures { λ r. ⌜ r .status ≡ Statuses.Stopped 42 l 0 ⌝ }
-{
-    Sheet {
-        status: Status::Stopped(TOO_LARGE, l, 0),
-        rows: no_rows(),
-    }
-}
-
-// The rows and a receptor's lines after them, or the first line above a cap.
-fn with_lines(rows: Rows, id: u32, receptor: Receptor, sources: Sources) -> Sheet
-    requires { ⌜ (rows .count + sources .count * 6 ≤ 388) × (sources .count ≤ 16) ⌝ }
-    ensures { λ r. ⌜ r .status ≡ first (largeLines receptor sources (rows .count)) ⌝ }
-    ensures { λ r. ⌜ (r .status ≡ Statuses.Read → (r .rows .count ≡ rows .count + sources .count * 6) × (rowsIn (r .rows) ≡ rowsIn rows ++ chemicalRows id receptor sources)) ⌝ }
-{
-    let from = rows.count;
     let count = sources.count * PATHWAYS;
-    let mut list = rows.rows;
     let mut q: usize = 0;
     while q < count {
+        let next = q + 1;
         let i = q / PATHWAYS;
         let p = q % PATHWAYS + 1;
-        let k = from + q;
         let source = sources.list[i];
         let line = figures_of(receptor, source, pathway_at(p));
         if is_large(line) {
-            return stopped_at(k + 1);
+            return Status::Stopped(TOO_LARGE, before + next, 0);
         }
-        list[k] = row_with(id, source, p as u32, line);
-        q += 1;
+        let hazard = line.hazard;
+        let cancer = line.cancer;
+        let at = base + q;
+        put_counts(cells, at, columns_of(hazard, Effect::Hazard));
+        put_counts(cells, at + EFFECT_CELLS, columns_of(cancer, Effect::Cancer));
+        q = next;
     }
-    Sheet {
-        status: Status::Read,
-        rows: Rows {
-            count: from + count,
-            rows: list,
-        },
-    }
+    Status::Read
 }
 
-// The same with the receptor's total line.
-fn with_receptor(rows: Rows, receptor: Record, sources: Sources) -> Sheet
-    requires { ⌜ (rows .count + sources .count * 6 < 388) × (sources .count ≤ 16) ⌝ }
-    ensures { λ r. ⌜ r .status ≡ first (largeOfRecord sources receptor (rows .count)) ⌝ }
-    ensures { λ r. ⌜ (r .status ≡ Statuses.Read → (r .rows .count ≡ rows .count + perReceptor sources) × (rowsIn (r .rows) ≡ rowsIn rows ++ rowsOfRecord sources receptor)) ⌝ }
-{
-    let id = receptor.id;
-    let from = rows.count;
-    let sheet = with_lines(rows, id, receptor_of(receptor), sources);
-    let status = sheet.status;
-    match status {
-        Status::Read => {
-            let lines = sheet.rows;
-            Sheet {
-                status: Status::Read,
-                rows: with_row(lines, total_row(id, lines, from)),
-            }
-        }
-        Status::Stopped(_, _, _) => sheet,
-    }
-}
-
-// Every receptor's lines, or the first line above a cap.
-pub(crate) fn sheet_of(receptors: Receptors, sources: Sources) -> Sheet
-    requires { ⌜ (receptors .count ≤ 4) × (sources .count ≤ 16) ⌝ }
-    ensures { λ r. ⌜ r .status ≡ first (allLarge sources (receptors .records) (receptors .count)) ⌝ }
-    ensures { λ r. ⌜ (r .status ≡ Statuses.Read → (r .rows .count ≡ receptors .count * perReceptor sources) × (rowsIn (r .rows) ≡ allRows sources (receptors .records) (receptors .count))) ⌝ }
+// Every receptor's counts, or the first line above a cap.
+pub(crate) fn put_receptors(cells: &mut [u64], receptors: Receptors, sources: Sources) -> Status
+    requires { ⌜ (length (now cells) ≡ allCells) × (receptors .count ≤ 4) × (sources .count ≤ 16) ⌝ }
+    ensures { λ s. ⌜ s ≡ first (allLarge sources (receptors .records) (receptors .count)) ⌝ }
+    ensures { λ s. ⌜ (s ≡ Statuses.Read → HoldsAll sources (receptors .records) (receptors .count) (now (cells .exit))) ⌝ }
 {
     let count = receptors.count;
-    let mut rows = no_rows();
+    let per = sources.count * PATHWAYS + 1;
     let mut j: usize = 0;
     while j < count {
+        let next = j + 1;
         let receptor = receptors.records[j];
-        let sheet = with_receptor(rows, receptor, sources);
-        let status = sheet.status;
+        let status = put_lines(
+            cells,
+            RECEPTOR_CELLS * j,
+            receptor_of(receptor),
+            sources,
+            j * per,
+        );
         if let Status::Stopped(_, _, _) = status {
-            return sheet;
+            return status;
         }
-        rows = sheet.rows;
-        j += 1;
+        j = next;
     }
-    Sheet {
-        status: Status::Read,
-        rows,
-    }
+    Status::Read
 }

@@ -5,7 +5,7 @@ use borrow.Author.Needs.{needs}
 use denote.Ref.{now}
 use Rattle.deck.specs.declared.Reading.{Reading}
 use Rattle.deck.specs.Cases.{readOf}
-use Rattle.sheet.specs.Worked.{rowsIn}
+use Rattle.sheet.specs.Sheet.{linesPerReceptor, linesOfReport}
 use Rattle.sheet.proofs.CallLaws.{lines-most, deck-stops, few, sheet-stops, fits, written}
 use Rattle.sheet.proofs.report.Statement.{statement}
 use Rattle.sheet.proofs.report.Tie as tie
@@ -28,9 +28,15 @@ returns c =
     let s = c .before .before .before .before .before .before in
     deck-stops (now (s .args .deck)) (now (s .args .out)) _ _ _ _ _ (ap (λ (r : Reading). r .status) (c .before .before .before .read .ensures)) (c .before .enum-told2 .given .1) (c .tell .ensures)
 
+slice-aggregate-worked : tie.Need-slice-aggregate-worked
+slice-aggregate-worked c = search needs
+
 worked-requires : tie.Need-worked-requires
 worked-requires c κs =
-    let s = c .before .before .before .before .before .before in few (now (s .args .deck)) (now (s .args .out)) _ (c .before .before .before .read .ensures) (c .before .enum-told .given .1)
+    let s = c .before .before .before .before .before .before .before in
+    let ready = c .before .before .enum-told .given .1 in
+    let small = few (now (s .args .deck)) (now (s .args .out)) _ (c .before .before .before .before .read .ensures) ready in
+    (search needs, small .0, small .1)
 
 enum-told-3 : tie.Need-enum-told-3
 enum-told-3 c = search needs
@@ -43,46 +49,47 @@ tell-requires-2 c κs = search needs
 
 returns-2 : tie.Need-returns-2
 returns-2 c =
-    let s = c .before .before .before .before .before .before .before .before .before .before in
-    sheet-stops (now (s .args .deck)) (now (s .args .out)) _ (c .before .before .before .before .before .before .before .read .ensures) (c .before .before .before .before .before .enum-told .given .1) _ _ _ _ _ (c .before .before .before .worked .ensures .0) (c .before .enum-told4 .given .1) (c .tell2 .ensures)
+    let s = c .before .before .before .before .before .before .before .before .before .before .before .before in
+    sheet-stops (now (s .args .deck)) (now (s .args .out)) _ (c .before .before .before .before .before .before .before .before .before .read .ensures) (c .before .before .before .before .before .before .before .enum-told .given .1) _ _ _ _ _ (c .before .before .before .before .worked .ensures .0) (c .before .enum-told4 .given .1) (c .tell2 .ensures)
+
+slice-aggregate-write-rows : tie.Need-slice-aggregate-write-rows
+slice-aggregate-write-rows c = search needs
 
 write-rows-requires : tie.Need-write-rows-requires
+unfolding linesPerReceptor linesOfReport
 write-rows-requires c κs =
-    let s = c .before .before .before .before .before .before .before .before .before .before .before in
-    let reading = c .before .before .before .before .before .before .before .before .read in
-    let ready = c .before .before .before .before .before .before .enum-told .given .1 in
-    let sheet = c .before .before .before .before .worked in
-    let read = c .before .before .enum-told3 .given .1 in
-    let none = sym read ∙ sheet .ensures .0 in
-    let count = sheet .ensures .1 read .0 in
-    let small = few (now (s .args .deck)) (now (s .args .out)) _ (reading .ensures) ready in
-    let most = lines-most (reading .result .case) 0 (small .0) (small .1) in
-    (omega (arith, count, most), omega (arith, count, fits (now (s .args .deck)) (now (s .args .out)) _ (reading .ensures) ready none))
+    let s = c .before .before .before .before .before .before .before .before .before .before .before .before .before .before .before in
+    let ready = c .before .before .before .before .before .before .before .before .before .before .enum-told .given .1 in
+    let small = few (now (s .args .deck)) (now (s .args .out)) _ (c .before .before .before .before .before .before .before .before .before .before .before .before .read .ensures) ready in
+    let none = sym (c .before .before .before .before .enum-told3 .given .1) ∙ c .before .before .before .before .before .before .before .worked .ensures .0 in
+    ((small .0, small .1, search needs), fits (now (s .args .deck)) (now (s .args .out)) _ (c .before .before .before .before .before .before .before .before .before .before .before .before .read .ensures) ready none)
 
-mul-t10 : tie.Need-mul-t10
-mul-t10 c =
-    let s = c .before .before .before .before .before .before .before .before .before .before .before .before .before .before in
-    let reading = c .before .before .before .before .before .before .before .before .before .before .before .read in
-    let ready = c .before .before .before .before .before .before .before .before .before .enum-told .given .1 in
-    let sheet = c .before .before .before .before .before .before .before .worked in
-    let read = c .before .before .before .before .before .enum-told3 .given .1 in
-    let none = sym read ∙ sheet .ensures .0 in
-    let count = sheet .ensures .1 read .0 in
-    let small = few (now (s .args .deck)) (now (s .args .out)) _ (reading .ensures) ready in
-    let most = lines-most (reading .result .case) 0 (small .0) (small .1) in
-    record { fits = omega (arith, count, most) }
+lines-of-requires : tie.Need-lines-of-requires
+lines-of-requires c κs =
+    let s = c .before .before .before .before .before .before .before .before .before .before .before .before .before .before .before .before .before .before in
+    let ready = c .before .before .before .before .before .before .before .before .before .before .before .before .before .enum-told .given .1 in
+    let small = few (now (s .args .deck)) (now (s .args .out)) _ (c .before .before .before .before .before .before .before .before .before .before .before .before .before .before .before .read .ensures) ready in
+    small
+
+mul-t18 : tie.Need-mul-t18
+unfolding linesPerReceptor linesOfReport
+mul-t18 c =
+    let s = c .before .before .before .before .before .before .before .before .before .before .before .before .before .before .before .before .before .before .before in
+    let ready = c .before .before .before .before .before .before .before .before .before .before .before .before .before .before .enum-told .given .1 in
+    let small = few (now (s .args .deck)) (now (s .args .out)) _ (c .before .before .before .before .before .before .before .before .before .before .before .before .before .before .before .before .read .ensures) ready in
+    let most = lines-most (c .before .before .before .before .before .before .before .before .before .before .before .before .before .before .before .before .read .result .case) 0 (small .0) (small .1) in
+    record { fits = rw (c .lines-of .ensures) (omega (arith, most)) }
 
 same-length : tie.Need-same-length
 same-length c = search needs
 
 returns-3 : tie.Need-returns-3
-unfolding rowsIn
+unfolding linesPerReceptor linesOfReport
 returns-3 c =
-    let s = c .before .before .before .before .before .before .before .before .before .before .before .before .before .before in
-    let sheet = c .before .before .before .before .before .before .before .worked in
-    let read = c .before .before .before .before .before .enum-told3 .given .1 in
-    let lines = sheet .ensures .1 read in
-    written (now (s .args .deck)) (now (s .args .out)) _ (c .before .before .before .before .before .before .before .before .before .before .before .read .ensures) (c .before .before .before .before .before .before .before .before .before .enum-told .given .1) (sym read ∙ sheet .ensures .0) (sheet .result .rows) _ (lines .0) (lines .1) (c .before .before .write-rows .ensures)
+    let s = c .before .before .before .before .before .before .before .before .before .before .before .before .before .before .before .before .before .before .before in
+    let read = c .before .before .before .before .before .before .before .before .enum-told3 .given .1 in
+    let cells = c .before .before .before .before .before .before .before .before .before .before .before .worked in
+    written (now (s .args .deck)) (now (s .args .out)) _ (c .before .before .before .before .before .before .before .before .before .before .before .before .before .before .before .before .read .ensures) (c .before .before .before .before .before .before .before .before .before .before .before .before .before .before .enum-told .given .1) (sym read ∙ cells .ensures .0) _ _ _ (search needs) (cells .ensures .1 read) (c .lines-of .ensures) (c .before .before .before .write-rows .ensures)
 
 pub report-spec : {M : Type 1} → statement M
 report-spec =
@@ -93,12 +100,15 @@ report-spec =
     enum-told-2
     tell-requires
     returns
+    slice-aggregate-worked
     worked-requires
     enum-told-3
     enum-told-4
     tell-requires-2
     returns-2
+    slice-aggregate-write-rows
     write-rows-requires
-    mul-t10
+    lines-of-requires
+    mul-t18
     same-length
     returns-3)
