@@ -120,7 +120,7 @@ receptor-held sources records j r before after is-receptor few held same new i h
     (eq-or-lt-of-le most)
 
 -- ---- columns read back
-again : (u : Units) → unitsFrom (cellOf Mark u) (cellOf Low u) (cellOf High u) ≡ u
+pub again : (u : Units) → unitsFrom (cellOf Mark u) (cellOf Low u) (cellOf High u) ≡ u
 unfolding unitsFrom cellOf
 again Columns.Absent = refl
 again (Columns.Counted low high) = refl

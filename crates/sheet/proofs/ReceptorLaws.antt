@@ -62,15 +62,15 @@ module _ (sources : Sources) (records : List Record) (blank : Record) (j : ℕ) 
   pub receptor-is : r ≡ receptorFrom (getD records j noRecord)
   receptor-is = is-receptor ∙ ap receptorFrom (any-default records j blank noRecord here)
 
-  module _ (s : Status) (is-first : s ≡ first (largeLines sources r (j * perReceptor sources))) (none : first (allLarge sources records j) ≡ Read) where
-    large-is-here : s ≡ first (largeLines sources (receptorFrom (getD records j noRecord)) (j * perReceptor sources))
-    large-is-here = is-first ∙ ap (λ (x : Receptor). first (largeLines sources x (j * perReceptor sources))) receptor-is
+  module _ (s : Status) (is-first : s ≡ first (largeLines sources r (j * perReceptor (sources .count)))) (none : first (allLarge sources records j) ≡ Read) where
+    large-is-here : s ≡ first (largeLines sources (receptorFrom (getD records j noRecord)) (j * perReceptor (sources .count)))
+    large-is-here = is-first ∙ ap (λ (x : Receptor). first (largeLines sources x (j * perReceptor (sources .count)))) receptor-is
 
     pub large-on : s ≡ Read → first (allLarge sources records (j + 1)) ≡ Read
     unfolding allLarge
-    large-on read = goes-on (λ k. largeLines sources (receptorFrom (getD records k noRecord)) (k * perReceptor sources)) j none s large-is-here read
+    large-on read = goes-on (λ k. largeLines sources (receptorFrom (getD records k noRecord)) (k * perReceptor (sources .count))) j none s large-is-here read
 
     pub large-stops : (count : ℕ) → j < count → (number line field : ℕ) → s ≡ Stopped number line field → s ≡ first (allLarge sources records count)
     unfolding allLarge
     large-stops count l number line field q =
-        stops (λ k. largeLines sources (receptorFrom (getD records k noRecord)) (k * perReceptor sources)) j count l none s large-is-here number line field q
+        stops (λ k. largeLines sources (receptorFrom (getD records k noRecord)) (k * perReceptor (sources .count))) j count l none s large-is-here number line field q

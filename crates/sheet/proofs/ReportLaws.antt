@@ -60,21 +60,21 @@ module _ (case : Case) (ranged : Ranged case) where
     module _ (j : ℕ) (j-small : j < case .receptors .count) where
       -- 42, by line
       large-line : (i p : ℕ) → i < case .chemicals .count →
-          at 42 (j * perReceptor sources + (i * pathwaysPerChemical + suc p)) 0 (largeFrom (receptorFrom (receptorAt case j)) (sourceAt sources i) (suc p)) ∷ [] ≡ lineTooLarge case j i (suc p)
-      unfolding lineTooLarge sources sourcesOf perReceptor linesPerReceptor
+          at 42 (j * perReceptor (sources .count) + (i * pathwaysPerChemical + suc p)) 0 (largeFrom (receptorFrom (receptorAt case j)) (sourceAt sources i) (suc p)) ∷ [] ≡ lineTooLarge case j i (suc p)
+      unfolding lineTooLarge sources sourcesOf linesPerReceptor
       large-line i p b =
           ap (λ (l : ℕ). at 42 l 0 (largeFrom (receptorFrom (receptorAt case j)) (sourceAt sources i) (suc p)) ∷ []) (sym (add-assoc (j * linesPerReceptor case) (i * pathwaysPerChemical) (suc p)))
           ∙ ap (λ (t : Bool). at 42 (j * linesPerReceptor case + i * pathwaysPerChemical + suc p) 0 t ∷ [])
           (ap (λ (s : Source). largeFrom (receptorFrom (receptorAt case j)) s (suc p)) (source-at case i b) ∙ large-agrees case ranged i j b j-small (slow i b) (suc p))
 
-      large-receptor : largeLines sources (receptorFrom (receptorAt case j)) (j * perReceptor sources) ≡ chained (λ i. upTo (lineTooLarge case j i) pathwaysPerChemical) (case .chemicals .count)
+      large-receptor : largeLines sources (receptorFrom (receptorAt case j)) (j * perReceptor (sources .count)) ≡ chained (λ i. upTo (lineTooLarge case j i) pathwaysPerChemical) (case .chemicals .count)
       unfolding largeLines largeLine sources sourcesOf
       large-receptor =
-          let large : ℕ → ℕ → List Condition = λ i p. at 42 (j * perReceptor sources + (i * pathwaysPerChemical + suc p)) 0 (largeFrom (receptorFrom (receptorAt case j)) (sourceAt sources i) (suc p)) ∷ [] in
-          chained-same (largeLine sources (receptorFrom (receptorAt case j)) (j * perReceptor sources)) (λ q. large (q / 6) (q % 6)) (case .chemicals .count * 6)
+          let large : ℕ → ℕ → List Condition = λ i p. at 42 (j * perReceptor (sources .count) + (i * pathwaysPerChemical + suc p)) 0 (largeFrom (receptorFrom (receptorAt case j)) (sourceAt sources i) (suc p)) ∷ [] in
+          chained-same (largeLine sources (receptorFrom (receptorAt case j)) (j * perReceptor (sources .count))) (λ q. large (q / 6) (q % 6)) (case .chemicals .count * 6)
           (λ q h.
           let e : suc q ≡ q / 6 * 6 + suc (q % 6) = omega arith in
-          ap (λ (l : ℕ). at 42 (j * perReceptor sources + l) 0 (largeFrom (receptorFrom (receptorAt case j)) (sourceAt sources (q / 6)) (suc (q % 6))) ∷ []) e)
+          ap (λ (l : ℕ). at 42 (j * perReceptor (sources .count) + l) 0 (largeFrom (receptorFrom (receptorAt case j)) (sourceAt sources (q / 6)) (suc (q % 6))) ∷ []) e)
           ∙ sym (flat large (case .chemicals .count))
           ∙ chained-same (λ i. chained (large i) 6) (λ i. upTo (lineTooLarge case j i) 6) (case .chemicals .count)
           (λ i b. chained-same (large i) (λ p. lineTooLarge case j i (suc p)) 6 (λ p l. large-line i p b) ∙ sym (upTo-chained (lineTooLarge case j i) 6))
@@ -96,7 +96,7 @@ module _ (case : Case) (ranged : Ranged case) where
         ≡ chained (λ j. chained (λ i. upTo (lineTooLarge case j i) pathwaysPerChemical) (case .chemicals .count)) (case .receptors .count)
     unfolding allLarge receptorAt
     large-list =
-        chained-same (λ j. largeLines sources (receptorFrom (receptorAt case j)) (j * perReceptor sources)) (λ j. chained (λ i. upTo (lineTooLarge case j i) pathwaysPerChemical) (case .chemicals .count)) (case .receptors .count)
+        chained-same (λ j. largeLines sources (receptorFrom (receptorAt case j)) (j * perReceptor (sources .count))) (λ j. chained (λ i. upTo (lineTooLarge case j i) pathwaysPerChemical) (case .chemicals .count)) (case .receptors .count)
         large-receptor
 
   -- the first condition that holds, for a report buffer of so many bytes

@@ -35,7 +35,7 @@ use Rattle.sheet.specs.Values.{exactAt}
 use Rattle.sheet.specs.Worked.{Part, Mark, Low, High, cellOf, unitsFrom, totalled, unitsFor, column, totalUnits}
 use Rattle.sheet.proofs.Inputs.{Ranged, ten-above}
 use Rattle.sheet.proofs.Chains.{chained-length}
-use Rattle.sheet.proofs.CellLaws.{column-append}
+use Rattle.sheet.proofs.CellLaws.{again, column-append}
 use Rattle.sheet.proofs.Clear.{not-fast, not-large}
 use Rattle.sheet.proofs.LineTotals.{cap-units, Figure, figure-counted}
 
@@ -78,20 +78,16 @@ cells-summed w more e [] = refl
 cells-summed w more e (row ∷ rows) = rw (cells-summed w more e rows, more (unitsFor e row) (summed e rows)) refl
 
 -- it is Absent where no row counts
-isAbsent : Units → Bool
-isAbsent Columns.Absent = true
-isAbsent (Columns.Counted low high) = false
+marked : (u v : Units) (lines : ℕ) → eqb lines 0 ≡ eqb (cellOf Mark v) 0 → eqb (cellOf Mark u + lines) 0 ≡ eqb (cellOf Mark (u added v)) 0
+unfolding _added_ cellOf
+marked Columns.Absent v lines h = rw (zero-add lines) h
+marked (Columns.Counted low high) Columns.Absent lines h = ne-eqb (1 + lines) 0 (λ z. omega arith)
+marked (Columns.Counted low high) (Columns.Counted l g) lines h = ne-eqb (1 + lines) 0 (λ z. omega arith)
 
-absent-added : (u v : Units) (lines : ℕ) → eqb lines 0 ≡ isAbsent v → eqb (cellOf Mark u + lines) 0 ≡ isAbsent (u added v)
-unfolding isAbsent _added_ cellOf
-absent-added Columns.Absent v lines h = rw (zero-add lines) h
-absent-added (Columns.Counted low high) Columns.Absent lines h = ne-eqb (1 + lines) 0 (λ z. omega arith)
-absent-added (Columns.Counted low high) (Columns.Counted l g) lines h = ne-eqb (1 + lines) 0 (λ z. omega arith)
-
-absent-none : (e : Effect) (rows : List Row) → eqb (sum (column Mark e rows)) 0 ≡ isAbsent (summed e rows)
-unfolding summed isAbsent sum column
-absent-none e [] = refl
-absent-none e (row ∷ rows) = absent-added (unitsFor e row) (summed e rows) (sum (column Mark e rows)) (absent-none e rows)
+marks-summed : (e : Effect) (rows : List Row) → eqb (sum (column Mark e rows)) 0 ≡ eqb (cellOf Mark (summed e rows)) 0
+unfolding summed sum column cellOf
+marks-summed e [] = refl
+marks-summed e (row ∷ rows) = marked (unitsFor e row) (summed e rows) (sum (column Mark e rows)) (marks-summed e rows)
 
 -- ---- a total that the call does not refuse
 -- columns that the totals call takes
@@ -118,11 +114,6 @@ all-append most (n ∷ a) b h k =
     let p = both (leb n most) (allAtMost most a) h in
     rw (p .0, all-append most a b (p .1) k) refl
 
-again : (u : Units) → cond (isAbsent u) Columns.Absent (Columns.Counted (cellOf Low u) (cellOf High u)) ≡ u
-unfolding isAbsent cellOf
-again Columns.Absent = refl
-again (Columns.Counted low high) = refl
-
 module _ (e : Effect) (rows : List Row) (short : length rows ≤ 96) (small : (w : Part) → allAtMost (10 ^ 16) (column w e rows) ≡ true) where
   taken : (w : Part) → totalOf (column w e rows) ≡ is (sum (column w e rows))
   unfolding totalOf
@@ -132,7 +123,7 @@ module _ (e : Effect) (rows : List Row) (short : length rows ≤ 96) (small : (w
   unfolding totalUnits totalled unitsFrom
   total-summed =
       rw (taken Mark, taken Low, taken High)
-      (rw (absent-none e rows, cells-summed Low (λ u v. counts-added u v .0) e rows, cells-summed High (λ u v. counts-added u v .1) e rows) (again (summed e rows)))
+      (rw (marks-summed e rows, cells-summed Low (λ u v. counts-added u v .0) e rows, cells-summed High (λ u v. counts-added u v .1) e rows) (again (summed e rows)))
 
 -- ---- chained rows
 chained-small : (w : Part) (e : Effect) (f : ℕ → List Row) (n : ℕ) → ((i : ℕ) → i < n → allAtMost (10 ^ 16) (column w e (f i)) ≡ true)

@@ -10,7 +10,6 @@ use Rattle.deck.specs.declared.Record.{Record}
 use Rattle.deck.specs.Cases.{noRecord}
 use Rattle.sheet.specs.declared.Row.{Row}
 use Rattle.sheet.specs.Text.{rowText, linesText}
-use Rattle.sheet.specs.Sheet.{chained}
 use Rattle.sheet.specs.Worked.{lineIn, totalLineIn, linesIn, rowsIn, reportIn}
 use Rattle.sheet.proofs.Chains.{any-default, chained-length}
 use Rattle.sheet.proofs.Places.{lent, length-lines, length-one, one-line, part-more, last-line}

@@ -144,6 +144,10 @@ isLarge told = aboveCap Hazard (told .hazard) || aboveCap Cancer (told .cancer)
 unfoldable pub largeFrom : Receptor → Source → ℕ → Bool
 largeFrom r s p = isLarge (figuresFrom r s (pathwayAt p))
 
+-- ---- lines of one receptor, for so many chemicals
+abbrev pub perReceptor : ℕ → ℕ
+perReceptor n = n * pathwaysPerChemical + 1
+
 -- ---- a receptor's line q, counted from 0 without total lines: its columns, and 42 at it after so many lines
 unfoldable pub columnsFrom : Sources → Receptor → ℕ → Effect → Units
 columnsFrom sources r q e = columnsOf e (figureFor e (figuresFrom r (sourceAt sources (q / pathwaysPerChemical)) (pathwayAt (suc (q % pathwaysPerChemical)))))
@@ -238,14 +242,11 @@ rowsOfRecord sources r = linesOf sources r ++ (totalFrom (r .id) (linesOf source
 unfoldable pub largeLines : Sources → Receptor → ℕ → List Condition
 largeLines sources r before = chained (largeLine sources r before) (sources .count * pathwaysPerChemical)
 
-unfoldable pub perReceptor : Sources → ℕ
-perReceptor sources = sources .count * pathwaysPerChemical + 1
-
 unfoldable pub allRows : Sources → List Record → ℕ → List Row
 allRows sources records n = chained (λ j. rowsOfRecord sources (getD records j noRecord)) n
 
 unfoldable pub allLarge : Sources → List Record → ℕ → List Condition
-allLarge sources records n = chained (λ j. largeLines sources (receptorFrom (getD records j noRecord)) (j * perReceptor sources)) n
+allLarge sources records n = chained (λ j. largeLines sources (receptorFrom (getD records j noRecord)) (j * perReceptor (sources .count))) n
 
 -- the cells from base on hold the columns of the first n lines
 unfoldable pub sideOf : Effect → ℕ

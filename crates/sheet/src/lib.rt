@@ -18,11 +18,11 @@ use media::Media;
 use pathway::Reference;
 use pathway::Uptake;
 ghost use mathlib.Core.Path.{_≡_};
-ghost use Prim.Native.Nat.{_+_, _*_, _≤_};
+ghost use Prim.Native.Nat.{_*_, _≤_};
 ghost use lib.ListN.{length};
 ghost use Rattle.deck.specs.declared.Status.the-variants as Statuses;
 ghost use Rattle.deck.specs.Conditions.{first};
-ghost use Rattle.sheet.specs.Worked.{allCells, sourcesOf, HoldsAll, workedConditions};
+ghost use Rattle.sheet.specs.Worked.{allCells, sourcesOf, perReceptor, HoldsAll, workedConditions};
 ghost use Rattle.sheet.specs.Report.{outcomeOf, bufferOf};
 
 // Two columns of a report line: - in both, or two counts.
@@ -88,7 +88,7 @@ const TOO_SHORT: u32 = 51;
 // How many lines a report has for so many chemicals and receptors.
 fn lines_of(chemicals: usize, receptors: usize) -> usize
     requires { ⌜ (chemicals ≤ 16) × (receptors ≤ 4) ⌝ }
-    ensures { λ r. ⌜ r ≡ receptors * (chemicals * 6 + 1) ⌝ }
+    ensures { λ r. ⌜ r ≡ receptors * perReceptor chemicals ⌝ }
 {
     receptors * (chemicals * PATHWAYS + 1)
 }

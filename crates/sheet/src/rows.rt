@@ -6,7 +6,7 @@ ghost use mathlib.Core.List.{_++_};
 ghost use Prim.Native.Nat.{_+_, _*_, _<_, _≤_};
 ghost use lib.ListN.{length, drop};
 ghost use Rattle.sheet.specs.Text.{lineWidth, linesText};
-ghost use Rattle.sheet.specs.Worked.{mostLines, effectCells, receptorCells, allCells, unitsFrom, unitsIn, totalIn, lineIn, totalLineIn, rowsIn, reportIn};
+ghost use Rattle.sheet.specs.Worked.{mostLines, effectCells, receptorCells, allCells, perReceptor, unitsFrom, unitsIn, totalIn, lineIn, totalLineIn, rowsIn, reportIn};
 use crate::EFFECT_CELLS;
 use crate::MOST_LINES;
 use crate::PATHWAYS;
@@ -89,7 +89,7 @@ fn total_line(cells: &[u64], base: usize, id: u32, count: usize) -> Row
 // Writes a receptor's lines and its total line into their part of the report.
 fn write_receptor(part: &mut [u8], cells: &[u64], base: usize, id: u32, chemicals: Chemicals)
     requires { ⌜ (chemicals .count ≤ 16) × (base + receptorCells ≤ length (now cells)) ⌝ }
-    requires { ⌜ length (now part) ≡ lineWidth * (chemicals .count * 6 + 1) ⌝ }
+    requires { ⌜ length (now part) ≡ lineWidth * perReceptor (chemicals .count) ⌝ }
     ensures { λ _. ⌜ now (part .exit) ≡ linesText (rowsIn (now (cells .entry)) base id chemicals) ⌝ }
 {
     let count = chemicals.count * PATHWAYS;
@@ -110,8 +110,8 @@ fn write_receptor(part: &mut [u8], cells: &[u64], base: usize, id: u32, chemical
 // Writes the report from the start of the buffer.
 pub(crate) fn write_rows(out: &mut [u8], cells: &[u64], chemicals: Chemicals, receptors: Receptors)
     requires { ⌜ (chemicals .count ≤ 16) × (receptors .count ≤ 4) × (length (now cells) ≡ allCells) ⌝ }
-    requires { ⌜ lineWidth * (receptors .count * (chemicals .count * 6 + 1)) ≤ length (now out) ⌝ }
-    ensures { λ _. ⌜ now (out .exit) ≡ linesText (reportIn (now (cells .entry)) chemicals (receptors .records) (receptors .count)) ++ drop (lineWidth * (receptors .count * (chemicals .count * 6 + 1))) (now (out .entry)) ⌝ }
+    requires { ⌜ lineWidth * (receptors .count * perReceptor (chemicals .count)) ≤ length (now out) ⌝ }
+    ensures { λ _. ⌜ now (out .exit) ≡ linesText (reportIn (now (cells .entry)) chemicals (receptors .records) (receptors .count)) ++ drop (lineWidth * (receptors .count * perReceptor (chemicals .count))) (now (out .entry)) ⌝ }
 {
     let count = receptors.count;
     let width = LINE_WIDTH * (chemicals.count * PATHWAYS + 1);

@@ -1,5 +1,4 @@
 -- The product of the counts. Assumes nothing.
-use mathlib.Core.Path.{refl}
 use borrow.Author.Needs.{needs}
 use lib.Dec.{lit<}
 use native.Mathlib.Nat.{lt-of-le-of-lt, mul-le-mul}

@@ -1,11 +1,8 @@
 -- `sheet::receptors::put_counts` meets its contract: three stores. Assumes nothing.
-use mathlib.Core.Path.{_≡_, refl, sym, ap, _∙_}
-use mathlib.Core.List.{List}
-use Prim.Native.Nat.{ℕ, _+_}
+use mathlib.Core.Path.{refl}
 use native.Mathlib.Omega.{arith}
 use borrow.Author.Needs.{needs}
 use lib.ListN.{length-set}
-use Rattle.sheet.specs.declared.Units.{Units}
 use Rattle.sheet.specs.Worked.{cellOf, withCounts}
 use Rattle.sheet.proofs.receptors.put_counts.Statement.{statement}
 use Rattle.sheet.proofs.receptors.put_counts.Tie as tie

@@ -10,7 +10,7 @@ use Rattle.deck.specs.declared.Status.the-variants.{Read}
 use Rattle.deck.specs.Conditions.{first}
 use Rattle.deck.proofs.Scan.{never}
 use Rattle.sheet.specs.Sheet.{chained}
-use Rattle.sheet.specs.Worked.{perReceptor, allLarge, HoldsAll}
+use Rattle.sheet.specs.Worked.{allLarge, HoldsAll}
 use Rattle.sheet.proofs.ReceptorLaws.{receptor-is, large-on, large-stops}
 use Rattle.sheet.proofs.CellLaws.{receptor-held}
 use Rattle.sheet.proofs.receptors.put_receptors.Statement.{statement}
@@ -71,7 +71,6 @@ same-length : tie.Need-same-length Inv-loop μ-loop
 same-length c = c .before .before .before .before .put-lines .kept .0 ∙ c .before .before .before .before .before .before .before .before .before .loop .inv .1
 
 returns : tie.Need-returns Inv-loop μ-loop
-unfolding perReceptor
 returns c =
     let s = c .before .before .before .before .before .before .before .before .before .before .before .before in
     let l = c .before .before .before .before .before .before .before .before .before .loop in
@@ -90,7 +89,6 @@ loop-less : tie.Need-loop-less Inv-loop μ-loop
 loop-less c = search needs
 
 loop-again : tie.Need-loop-again Inv-loop μ-loop
-unfolding perReceptor
 loop-again c =
     let s = c .before .before .before .before .before .before .before .before .before .before .before .before in
     let l = c .before .before .before .before .before .before .before .before .before .loop in

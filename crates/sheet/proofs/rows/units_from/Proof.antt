@@ -1,5 +1,4 @@
 -- Whether a line has counts. Assumes nothing.
-use borrow.Author.Needs.{needs}
 use borrow.Author.Tests.{eq-eqb, ne-eqb}
 use Rattle.sheet.specs.Worked.{unitsFrom}
 use Rattle.sheet.proofs.rows.units_from.Statement.{statement}
