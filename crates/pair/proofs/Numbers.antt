@@ -6,7 +6,7 @@ use native.Mathlib.Nat.{ne-of-gt}
 use native.Mathlib.Omega.{arith}
 use lib.Dec.{leb, eqb}
 use lib.IntN.{ℤ, pos, negsuc, _+ℤ_, _-ℤ_}
-use lib.Signed.{mag}
+use lib.Signed.{mag, leZ}
 use mir.Syntax.{w32}
 use mir.Val.{SFits, toZ, ofZ}
 use mir.Facts.{toZ-ofZ}
@@ -32,10 +32,16 @@ unfolding inReach
 reach-mag (pos n) h = omega (arith, leb-true n 99999 h)
 reach-mag (negsuc n) h = omega (arith, leb-true n 99998 (both (leb n 99998) true h .0))
 
+-- an exponent neither below nor above another is that one
+pub same-exponent : (e f : ℤ) → (leZ f e && leZ e f) ≡ true → e ≡ f
+same-exponent (pos a) (pos b) h = ap pos (omega (arith, leb-true b a (both (leb b a) (leb a b) h .0), leb-true a b (both (leb b a) (leb a b) h .1)))
+same-exponent (pos a) (negsuc b) h = absurd (true≢false (sym h))
+same-exponent (negsuc a) (pos b) h = absurd (true≢false (sym h))
+same-exponent (negsuc a) (negsuc b) h = ap negsuc (omega (arith, leb-true a b (both (leb a b) (leb b a) h .0), leb-true b a (both (leb a b) (leb b a) h .1)))
+
 zero-mag : (e : ℤ) → zeroExponent e ≡ true → e ≡ pos 0
 unfolding zeroExponent
-zero-mag (pos n) h = ap pos (omega (arith, leb-true n 0 (both (leb 0 n) (leb n 0) h .1)))
-zero-mag (negsuc n) h = absurd (true≢false (sym h))
+zero-mag e h = same-exponent e (pos 0) h
 
 either : {A : Type 0} (a b : Bool) → (a || b) ≡ true → (a ≡ true → A) → (b ≡ true → A) → A
 either true b h f g = f refl
@@ -79,13 +85,6 @@ pair-high p h = both (isNumber (p .high)) (atMost (p .low) (p .high)) (both (isN
 pub pair-order : (p : Pair) → isPair p ≡ true → atMost (p .low) (p .high) ≡ true
 unfolding isPair
 pair-order p h = both (isNumber (p .high)) (atMost (p .low) (p .high)) (both (isNumber (p .low)) (isNumber (p .high) && atMost (p .low) (p .high)) h .1) .1
-
--- two pairs, by their low ends and by their high ends
-pub pairs-low : (p q : Pair) → (isPair p && isPair q) ≡ true → (isNumber (p .low) ≡ true) × (isNumber (q .low) ≡ true)
-pairs-low p q h = let t = both (isPair p) (isPair q) h in (pair-low p (t .0), pair-low q (t .1))
-
-pub pairs-high : (p q : Pair) → (isPair p && isPair q) ≡ true → (isNumber (p .high) ≡ true) × (isNumber (q .high) ≡ true)
-pairs-high p q h = let t = both (isPair p) (isPair q) h in (pair-high p (t .0), pair-high q (t .1))
 
 -- the tests one after the other, as the code makes them
 pub is-zero-number : (w : Number) → w .significand ≡ 0 → zeroExponent (w .exponent) ≡ isNumber w

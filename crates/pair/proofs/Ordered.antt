@@ -10,10 +10,11 @@ use lib.IntN.{ℤ, pos, negsuc}
 use lib.Signed.{mag}
 use borrow.Author.Tests.{leb-true, leb-false, le-leb}
 use Rattle.pair.specs.declared.Number.{Number}
+use Rattle.pair.specs.declared.Pair.{Pair}
 use Rattle.pair.specs.Fraction.{Proper, _≤ᶠ_}
 use Rattle.pair.specs.Number as N
-use Rattle.pair.specs.Number.{nineFigures, inReach, zeroExponent, isZero, isNumber, lesser, rise, unitsAt, lower, atMost, depth, place, value}
-use Rattle.pair.proofs.Alignment.{Small, rise-of, lesser-below, units-scaled}
+use Rattle.pair.specs.Number.{nineFigures, inReach, zeroExponent, isZero, isNumber, lesser, rise, unitsAt, lower, atMost, isPair, depth, place, value}
+use Rattle.pair.proofs.Alignment.{Small, rise-of, lesser-below, units-scaled, order-same}
 use Rattle.pair.proofs.Fractions.{_<ᶠ_}
 use Rattle.pair.proofs.Numbers.{Nine, number-nine, number-zero, number-mag}
 use Rattle.pair.proofs.Powers.{ten-above, ten-add}
@@ -63,6 +64,17 @@ unfolding isNumber nineFigures
 number-from w l h r =
     ap (λ (t : Bool). isZero w || t) (both-from (both-from (le-leb 100000000 (w .significand) l) (le-leb (w .significand) 999999999 h)) r)
     ∙ or-true (isZero w)
+
+-- ends of one exponent, in reach, with nine figures each and in order, make a pair
+pub even-pair : (p : Pair) → p .low .exponent ≡ p .high .exponent → inReach (p .low .exponent) ≡ true →
+    100000000 ≤ p .low .significand → p .low .significand ≤ p .high .significand → p .high .significand ≤ 999999999 → isPair p ≡ true
+unfolding isPair
+even-pair p same reach least order most =
+    let a : isNumber (p .low) ≡ true = number-from (p .low) least (omega arith) reach in
+    let b : isNumber (p .high) ≡ true = number-from (p .high) (omega arith) most (sym (ap inReach same) ∙ reach) in
+    let m : Nine (p .low) = number-nine (p .low) a (omega arith) in
+    let n : Nine (p .high) = number-nine (p .high) b (omega arith) in
+    both-from a (both-from b (order-same (p .low) (p .high) m n (ap place same) ∙ le-leb (p .low .significand) (p .high .significand) order))
 
 -- 10^e counted in units of 10^s
 pub power-rise : (s e : ℤ) → Small s → Small e → place s ≤ place e → 10 ^ rise s e * 10 ^ place s ≡ 10 ^ place e

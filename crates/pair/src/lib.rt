@@ -14,9 +14,10 @@ use crate::ends::rest;
 use crate::ends::sum;
 use crate::ends::units;
 use crate::exponent::in_reach;
+use crate::exponent::within;
 use crate::rounding::normal;
 ghost use mathlib.Core.Path.{_≡_};
-ghost use mathlib.Core.Bool.{_&&_};
+ghost use mathlib.Core.Bool.{true};
 ghost use Rattle.pair.specs.Number.{isPair};
 ghost use Rattle.pair.specs.Calls as calls;
 
@@ -57,9 +58,33 @@ pub enum Count {
     Refused,
 }
 
+// Whether p is a pair whose ends have one exponent, as most have: then four tests on the significands and the exponents tell.
+fn is_even(p: Pair) -> bool
+    ensures { λ r. ⌜ (r ≡ true → isPair p ≡ true) ⌝ }
+{
+    let low = p.low;
+    let high = p.high;
+    if !within(high.exponent, low.exponent, high.exponent) {
+        return false;
+    }
+    if low.significand < 100_000_000 {
+        return false;
+    }
+    if high.significand < low.significand {
+        return false;
+    }
+    if 999_999_999 < high.significand {
+        return false;
+    }
+    in_reach(low.exponent)
+}
+
 fn is_pair(p: Pair) -> bool
     ensures { λ r. ⌜ r ≡ isPair p ⌝ }
 {
+    if is_even(p) {
+        return true;
+    }
     if !is_number(p.low) {
         return false;
     }
@@ -67,15 +92,6 @@ fn is_pair(p: Pair) -> bool
         return false;
     }
     at_most(p.low, p.high)
-}
-
-fn are_pairs(p: Pair, q: Pair) -> bool
-    ensures { λ r. ⌜ r ≡ (isPair p && isPair q) ⌝ }
-{
-    if !is_pair(p) {
-        return false;
-    }
-    is_pair(q)
 }
 
 // The pair of two worked ends, if their exponents stayed in reach.
@@ -156,7 +172,10 @@ impl Pair {
     pub fn sum(self, other: Pair) -> Answer
         ensures { λ r. ⌜ calls.answer r ≡ calls.sum self other ⌝ }
     {
-        if !are_pairs(self, other) {
+        if !is_pair(self) {
+            return Answer::Refused;
+        }
+        if !is_pair(other) {
             return Answer::Refused;
         }
         answered(
@@ -168,7 +187,10 @@ impl Pair {
     pub fn product(self, other: Pair) -> Answer
         ensures { λ r. ⌜ calls.answer r ≡ calls.product self other ⌝ }
     {
-        if !are_pairs(self, other) {
+        if !is_pair(self) {
+            return Answer::Refused;
+        }
+        if !is_pair(other) {
             return Answer::Refused;
         }
         answered(
