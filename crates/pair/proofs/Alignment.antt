@@ -6,12 +6,12 @@ use Prim.Native.Nat.{ℕ, _+_, _*_, _^_, _≤_, _<_}
 use native.Mathlib.Nat.{mul-le-mul-right, mul-lt-mul-of-pos-right, le-antisymm, mul-one, zero-mul, mul-pos, mul-le-mul, le-trans, mul-assoc}
 use native.Mathlib.Omega.{arith}
 use lib.Dec.{leb}
-use lib.IntN.{ℤ, pos, negsuc, _+ℤ_, _-ℤ_, subℕ}
+use lib.IntN.{ℤ, pos, negsuc, _+ℤ_, subℕ}
 use lib.Signed.{mag, leZ, ltZ}
 use borrow.Author.Tests.{leb-true, leb-false, le-leb, lt-leb}
 use Rattle.pair.specs.declared.Number.{Number}
 use Rattle.pair.specs.Number.{depth, place, lesser, rise, unitsAt, lower, atMost}
-use Rattle.pair.proofs.Exponents.{by-cases, same-test, place-same, place-plus, place-minus, place-raise, leZ-place, ltZ-leZ, leZ-of, rise-place, mag-plus, mag-minus, mag-sub}
+use Rattle.pair.proofs.Exponents.{by-cases, same-test, place-same, place-plus, place-raise, leZ-place, ltZ-leZ, leZ-of, rise-place, mag-plus, mag-sub}
 use Rattle.pair.proofs.Powers.{ten-above, ten-rises, ten-add}
 use Rattle.pair.proofs.Numbers.{Nine}
 
@@ -66,16 +66,6 @@ units-own w p = rw (rise-none p) (mul-one (w .significand))
 pub nine-small : {w : Number} → Nine w → Small (w .exponent)
 nine-small n = record { small = omega (arith, n .reach) }
 
--- (e − g) + (k − i), read off the places
-pub restored : {e f : ℤ} (g k i : ℕ) → Small e → Small f → g + k + i < 600000 → place f + g + i ≡ place e + k → f ≡ (e -ℤ pos g) +ℤ subℕ k i
-unfolding depth place
-restored {e} {f} g k i p q s h =
-    place-same f ((e -ℤ pos g) +ℤ subℕ k i)
-    (omega (arith, q .small))
-    (omega (arith, mag-plus (e -ℤ pos g) (subℕ k i), mag-minus e (pos g), mag-sub k i, p .small))
-    (omega
-    (arith, place-raise (e -ℤ pos g) k i (omega (arith, mag-minus e (pos g), p .small)), place-minus e (pos g) (omega (arith, p .small))))
-
 -- e + (k − i), read off the places
 pub raised : {e f : ℤ} (k i : ℕ) → Small e → Small f → k + i < 600000 → place f + i ≡ place e + k → f ≡ e +ℤ subℕ k i
 unfolding depth
@@ -100,15 +90,6 @@ place-gap {e} {f} p q = gap e f (p .small) (q .small)
 pub place-next : {e : ℤ} → Small e → place (e +ℤ pos 1) ≡ place e + 1
 unfolding depth place
 place-next {e} p = omega (arith, place-plus e (pos 1) (omega (arith, p .small)))
-
--- e − g
-pub fallen : {e f : ℤ} (g : ℕ) → Small e → Small f → place f + g ≡ place e → e -ℤ pos g ≡ f
-unfolding depth place
-fallen {e} {f} g p q h =
-    place-same (e -ℤ pos g) f
-    (omega (arith, mag-minus e (pos g), p .small, place-gap p q))
-    (omega (arith, q .small))
-    (omega (arith, place-minus e (pos g) (omega (arith, p .small, place-gap p q))))
 
 -- the lesser exponent lies no higher than either
 pub lesser-below : {e f : ℤ} → Small e → Small f → (Small (lesser e f)) × (place (lesser e f) ≤ place e) × (place (lesser e f) ≤ place f)

@@ -2,7 +2,7 @@
 use mathlib.Core.Path.{_≡_, sym, _∙_, ap, subst}
 use mathlib.Core.Bool.{Bool, not}
 use Prim.Native.Nat.{ℕ, _+_, _*_, _^_, _≤_, _<_}
-use native.Mathlib.Nat.{zero-div, zero-mod, lt-of-lt-of-le, mul-le-mul, lt-of-le-of-lt}
+use native.Mathlib.Nat.{zero-div, zero-mod, mul-le-mul, lt-of-le-of-lt}
 use native.Mathlib.Omega.{arith}
 use lib.Dec.{lit<, leb, ltb}
 use lib.IntN.{ℤ, pos, _-ℤ_}
@@ -16,7 +16,6 @@ use Rattle.pair.proofs.Dividing.{divided-even, divided-one, divided-mos
 use Rattle.pair.proofs.Exponents.{by-cases, mag-minus, place-minus, leZ-place, leZ-of}
 use Rattle.pair.proofs.Numbers.{Nine}
 use Rattle.pair.proofs.Powers.{ten-above, ten-rises}
-use Rattle.pair.proofs.Sums.{divided-below}
 
 -- 0 counts no unit
 pub count-zero : (up : Bool) (w : Number) (u : ℤ) → w .significand ≡ 0 → 0 ≡ unitsEnd up w u
@@ -34,17 +33,6 @@ module _ (up : Bool) (w : Number) (u : ℤ) (n : Nine w) (small : Small u) where
   unfolding unitsEnd
   count-above h =
       sym (rw (lesser-first (nine-small n) small h) (ap (λ (x : ℕ). divided up x (10 ^ rise (w .exponent) u)) (units-own w (nine-small n))))
-
-  -- more than nine places above, the number is a part of one unit
-  pub count-far : place (w .exponent) ≤ place u → 9 < rise (w .exponent) u → divided up 1 10 ≡ unitsEnd up w u
-  count-far h far =
-      divided-below up 0 1 10 (lit< tt) (lit< tt)
-      ∙ sym (divided-below up 0 (w .significand) (10 ^ rise (w .exponent) u) (omega (arith, n .least)) (lt-of-lt-of-le (omega (arith, n .most)) (ten-rises {i = 9} (omega arith))))
-      ∙ ap (λ (x : ℕ). divided up x (10 ^ rise (w .exponent) u)) (zeros (w .significand) (10 ^ rise (w .exponent) u))
-      ∙ count-above h
-    where
-      zeros : (m d : ℕ) → 0 * d + m ≡ m
-      zeros m d = omega arith
 
   -- a unit at or below it multiplies
   pub count-below : place u ≤ place (w .exponent) → w .significand * 10 ^ rise u (w .exponent) ≡ unitsEnd up w u

@@ -1,5 +1,5 @@
 -- Powers of ten. Assumes nothing.
-use mathlib.Core.Path.{_≡_, sym, subst}
+use mathlib.Core.Path.{_≡_, sym, ap, subst}
 use Prim.Native.Nat.{ℕ, zero, suc, _+_, _*_, _^_, _≤_, _<_}
 use native.Mathlib.Nat.{one-le-pow, pow-le-pow-right, pow-suc, lt-irrefl, lt-of-lt-of-le}
 use native.Mathlib.Omega.{arith}
@@ -16,6 +16,9 @@ ten-add = pow-add 10
 
 pub ten-rises : {i j : ℕ} → i ≤ j → 10 ^ i ≤ 10 ^ j
 ten-rises h = pow-le-pow-right (lit< tt) h
+
+pub ten-at : {k : ℕ} (j : ℕ) → k ≡ j → 10 ^ j ≡ 10 ^ k
+ten-at j h = ap (λ (i : ℕ). 10 ^ i) (sym h)
 
 -- a number is below the power of ten that it names
 pub below-ten : (n : ℕ) → n < 10 ^ n

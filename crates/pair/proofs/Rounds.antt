@@ -2,7 +2,7 @@
 -- figures before the point, rounding is one division of m by c. Assumes nothing.
 use mathlib.Core.Path.{_≡_, refl, sym, _∙_, ap}
 use mathlib.Core.Bool.{Bool, true}
-use Prim.Native.Nat.{ℕ, zero, suc, _*_, _^_, _≤_, _<_}
+use Prim.Native.Nat.{ℕ, zero, suc, _+_, _*_, _^_, _≤_, _<_}
 use native.Mathlib.Nat.{mul-le-mul-right, le-of-mul-le-mul-right, lt-of-mul-lt-mul-right, mul-pos, mul-lt-mul-of-pos-right, lt-of-lt-of-le}
 use lib.Dec.{lit<, ltb}
 use borrow.Author.Tests.{lt-ltb}
@@ -35,6 +35,14 @@ module _ (n d m c k : ℕ) (d-above : 0 < d) (c-above : 0 < c) (ratio : m * (d *
       rounded-above up n d e above
       ∙ ap (λ (j : ℕ). carried (divided up (n * 1000000000) (d * 10 ^ j)) (e +ℤ subℕ j 9)) (excess-is (n * 1000000000) d k d-above figures)
       ∙ ap (λ (q : ℕ). carried q (e +ℤ subℕ k 9)) (divided-same up (n * 1000000000) (d * 10 ^ k) m c (mul-pos d-above (ten-above k)) c-above (sym ratio))
+
+-- nine figures and j more, which are rounded off
+pub rounded-off : (up : Bool) (t j : ℕ) (e f : ℤ) → 100000000 * 10 ^ j ≤ t → t < 1000000000 * 10 ^ j → f ≡ e +ℤ subℕ (j + 9) 9 →
+    carried (divided up t (10 ^ j)) f ≡ rounded up t 1 e
+rounded-off up t j e f least most h =
+    sym
+    (rounded-as t 1 t (10 ^ j) (j + 9) (lit< tt) (ten-above j) (rw (ten-add j 9) (omega arith)) least most up e
+    ∙ ap (carried (divided up t (10 ^ j))) (sym h))
 
 -- where nothing is left to round, both directions give the number itself
 pub rounded-exact : (up : Bool) (n m k : ℕ) (e f : ℤ) → m * 10 ^ k ≡ n * 1000000000 → 100000000 ≤ m → m ≤ 999999999 → f ≡ e +ℤ subℕ k 9 →

@@ -1,66 +1,75 @@
 -- Sums of two working numbers, aligned at the lesser exponent. Assumes nothing.
-use mathlib.Core.Path.{_≡_, refl, sym, _∙_, ap, ap₂, subst}
+use mathlib.Core.Path.{_≡_, refl, sym, _∙_, ap, subst}
 use mathlib.Core.Bool.{Bool, true, false}
-use Prim.Native.Nat.{ℕ, zero, suc, _+_, _*_, _^_, _≤_, _<_}
+use Prim.Native.Nat.{ℕ, zero, _+_, _*_, _^_, _≤_, _<_}
 use mathlib.Core.Logic.{⊎-elim}
 use native.Mathlib.Nat.{eq-zero-or-pos, add-comm, zero-add, mul-le-mul-right, add-zero}
 use native.Mathlib.Omega.{arith}
-use lib.Arith.{digits-div, digits-mod}
-use lib.Dec.{lit<}
-use lib.IntN.{ℤ, pos, _+ℤ_, _-ℤ_, subℕ}
+use lib.Dec.{lit<, lit≤, ltb}
+use lib.IntN.{ℤ, pos, _+ℤ_}
+use lib.Signed.{mag}
+use borrow.Author.Tests.{ltb-true, ltb-false}
 use Rattle.pair.specs.declared.Number.{Number}
 use Rattle.pair.specs.Number as specs
 use Rattle.pair.specs.Number.{place, lesser, rise, unitsAt, lower, isNumber}
 use Rattle.pair.specs.Rounding.{extra, divided, carried, rounded, sumEnd}
-use Rattle.pair.proofs.Alignment.{Small, rise-of, lesser-second, lesser-first, units-own, nine-small, restored, raised, fallen, place-gap, place-next, lesser-below, units-none}
+use Rattle.pair.proofs.Alignment.{Small, rise-of, lesser-second, lesser-first, units-own, nine-small, raised, place-gap, place-next, lesser-below, units-none}
+use Rattle.pair.proofs.Dividing.{divided-least, divided-most, divided-one, divided-more, divided-twice}
+use Rattle.pair.proofs.Exponents.{by-cases, mag-plus}
 use Rattle.pair.proofs.Numbers.{Nine, number-zero, number-nine}
-use Rattle.pair.proofs.Powers.{ten-above, ten-add, ten-rises}
-use Rattle.pair.proofs.Rounds.{rounded-as, rounded-exact}
+use Rattle.pair.proofs.Powers.{ten-above, ten-add}
+use Rattle.pair.proofs.Rounds.{rounded-off, rounded-exact}
 
--- t = m × 10^g + n keeps m's exponent where it stays below 10^9 × 10^g, else takes the next
-module _ (up : Bool) (m n g : ℕ) (e : ℤ) (m-least : 100000000 ≤ m) (small : Small e) (few : g < 200020) where
-  at-g : (c : ℕ) → 0 < c → m * 10 ^ g + n < 1000000000 * c → 100000000 * c ≤ m * 10 ^ g + n → (j : ℕ) → c ≡ 10 ^ (g + j) → (l f : ℤ) →
-      f ≡ l +ℤ subℕ (g + j + 9) 9 → carried (divided up (m * 10 ^ g + n) c) f ≡ rounded up (m * 10 ^ g + n) 1 l
-  at-g c p most least j h l f k =
-      sym
-      (rounded-as (m * 10 ^ g + n) 1 (m * 10 ^ g + n) c (g + j + 9) (lit< tt) p
-      (rw (ten-add (g + j) 9, h) (omega arith))
-      least most up l
-      ∙ ap (λ (x : ℤ). carried (divided up (m * 10 ^ g + n) c) x) (sym k))
+pub next-small : (e : ℤ) → mag e < 100000 → Small (e +ℤ pos 1)
+next-small e h = record { small = omega (arith, mag-plus e (pos 1)) }
 
-  pub sum-kept : m * 10 ^ g + n < 1000000000 * 10 ^ g → carried (divided up (m * 10 ^ g + n) (10 ^ g)) e ≡ rounded up (m * 10 ^ g + n) 1 (e -ℤ pos g)
-  sum-kept most =
-      at-g (10 ^ g) (ten-above g) most (omega (arith, mul-le-mul-right (10 ^ g) m-least)) 0 (ap (λ (x : ℕ). 10 ^ x) (sym (add-zero g))) (e -ℤ pos g) e
-      (restored g (g + 0 + 9) 9 small small (omega arith) (omega arith))
+carry-tenth : (up : Bool) (e : ℤ) → carried (divided up 1000000000 10) (e +ℤ pos 1) ≡ carried 1000000000 e
+unfolding carried divided extra
+carry-tenth false e = refl
+carry-tenth true e = refl
 
-  pub sum-carried : (small′ : Small (e +ℤ pos 1)) → n < 10 ^ g * 1000000000 → m ≤ 999999999 → 1000000000 * 10 ^ g ≤ m * 10 ^ g + n →
-      carried (divided up (m * 10 ^ g + n) (10 * 10 ^ g)) (e +ℤ pos 1) ≡ rounded up (m * 10 ^ g + n) 1 (e -ℤ pos g)
-  sum-carried small′ n-most m-most h =
-      at-g (10 * 10 ^ g) (omega (arith, ten-above g)) (omega (arith, mul-le-mul-right (10 ^ g) m-most, ten-above g)) (omega arith) 1
-      (rw (ten-add g 1) (omega arith)) (e -ℤ pos g) (e +ℤ pos 1)
-      (restored g (g + 1 + 9) 9 small small′ (omega arith) (omega (arith, place-next small)))
+-- nine figures, or ten of them as a carry
+nine-kept : (up : Bool) (m : ℕ) (e : ℤ) → mag e < 100000 → 100000000 ≤ m → m ≤ 1000000000 → rounded up m 1 e ≡ carried m e
+nine-kept up m e reach least most =
+    by-cases (ltb m 1000000000)
+    (λ t.
+    sym (rounded-off up m 0 e e (omega arith) (omega (arith, ltb-true m 1000000000 t)) (raised 9 9 small small (lit< tt) refl))
+    ∙ ap (λ (q : ℕ). carried q e) (divided-one up m))
+    (λ t.
+    subst (λ (x : ℕ). rounded up x 1 e ≡ carried x e) (omega (arith, ltb-false m 1000000000 t))
+    (sym (rounded-off up 1000000000 1 e (e +ℤ pos 1) (lit≤ tt) (lit< tt) (raised 10 9 small (next-small e reach) (lit< tt) (omega (arith, place-next small)))) ∙ carry-tenth up e))
+  where
+    small : Small e
+    small = record { small = omega arith }
 
--- where n lies wholly below the last figure of m, it only counts as something
-some : (up : Bool) (n : ℕ) → 0 < n → extra up n ≡ extra up 1
-unfolding extra
-some false n h = refl
-some true zero h = absurd (omega arith)
-some true (suc n) h = refl
+-- to round at a place and then to nine figures, in one direction, is to round once: t units of l, at a place g higher
+module _ (up : Bool) (t g : ℕ) (l e : ℤ) (small : Small l) (reach : mag e < 100000) (apart : place l + g ≡ place e) where
+  pub rounded-twice : 100000000 * 10 ^ g ≤ t → t < 9000000000 * 10 ^ g → rounded up (divided up t (10 ^ g)) 1 e ≡ rounded up t 1 l
+  rounded-twice least most = by-cases (ltb t (1000000000 * 10 ^ g)) short long
+    where
+      small′ : Small e
+      small′ = record { small = omega arith }
 
-pub divided-below : (up : Bool) (m n d : ℕ) → 0 < n → n < d → divided up (m * d + n) d ≡ m + extra up 1
-unfolding divided
-divided-below up m n d p h = ap₂ _+_ (digits-div m h) (ap (extra up) (digits-mod m h) ∙ some up n p)
+      few : g < 200020
+      few = omega (arith, place-gap small′ small)
 
--- so a number more than nine places lower may be taken for one unit nine places lower
-pub sum-far : (up : Bool) (m n g : ℕ) (e l : ℤ) → Small e → Small l → 100000000 ≤ m → m ≤ 999999999 → 0 < n → n ≤ 999999999 → 9 < g → place l + g ≡ place e →
-    rounded up (m * 10 ^ 9 + 1) 1 (e -ℤ pos 9) ≡ rounded up (m * 10 ^ g + n) 1 l
-sum-far up m n g e l small small′ m-least m-most n-least n-most far h =
-    let room : 10 ^ 9 ≤ 10 ^ g = ten-rises {i = 9} (omega arith) in
-    let few : g < 200020 = omega (arith, place-gap small small′) in
-    sym (sum-kept up m 1 9 e m-least small (lit< tt) (omega arith))
-    ∙ ap (λ (q : ℕ). carried q e) (divided-below up m 1 (10 ^ 9) (lit< tt) (lit< tt) ∙ sym (divided-below up m n (10 ^ g) n-least (omega arith)))
-    ∙ at-g up m n g e m-least small few (10 ^ g) (ten-above g) (omega (arith, mul-le-mul-right (10 ^ g) m-most)) (omega (arith, mul-le-mul-right (10 ^ g) m-least)) 0
-    (ap (λ (x : ℕ). 10 ^ x) (sym (add-zero g))) l e (raised (g + 0 + 9) 9 small′ small (omega arith) (omega arith))
+      short : ltb t (1000000000 * 10 ^ g) ≡ true → rounded up (divided up t (10 ^ g)) 1 e ≡ rounded up t 1 l
+      short h =
+          let k : t < 1000000000 * 10 ^ g = ltb-true t (1000000000 * 10 ^ g) h in
+          nine-kept up (divided up t (10 ^ g)) e reach (divided-least up t (10 ^ g) 100000000 (ten-above g) least) (divided-most up t (10 ^ g) 1000000000 (ten-above g) k)
+          ∙ rounded-off up t g l e least k (raised (g + 9) 9 small small′ (omega (arith, few)) (omega arith))
+
+      long : ltb t (1000000000 * 10 ^ g) ≡ false → rounded up (divided up t (10 ^ g)) 1 e ≡ rounded up t 1 l
+      long h =
+          let k : 1000000000 * 10 ^ g ≤ t = ltb-false t (1000000000 * 10 ^ g) h in
+          let s : 10 ^ (g + 1) ≡ 10 ^ g * 10 = ten-add g 1 in
+          sym
+          (rounded-off up (divided up t (10 ^ g)) 1 e (e +ℤ pos 1) (divided-least up t (10 ^ g) 1000000000 (ten-above g) k)
+          (omega (arith, divided-most up t (10 ^ g) 9000000000 (ten-above g) most))
+          (raised 10 9 small′ (next-small e reach) (lit< tt) (omega (arith, place-next small′))))
+          ∙ ap (λ (q : ℕ). carried q (e +ℤ pos 1)) (divided-twice up t (10 ^ g) 10 (ten-above g) (lit< tt) ∙ ap (divided up t) (sym s))
+          ∙ rounded-off up t (g + 1) l (e +ℤ pos 1) (omega arith) (omega arith)
+          (raised (g + 1 + 9) 9 small (next-small e reach) (omega (arith, few)) (omega (arith, place-next small′)))
 
 -- the sum at the lower of the two exponents
 module _ (up : Bool) (a b : Number) (nine-a : Nine a) (nine-b : Nine b) (ordered : place (b .exponent) ≤ place (a .exponent)) where
@@ -70,18 +79,15 @@ module _ (up : Bool) (a b : Number) (nine-a : Nine a) (nine-b : Nine b) (ordered
       rw (lesser-second (nine-small nine-a) (nine-small nine-b) ordered)
       (ap (λ (x : ℕ). rounded up (a .significand * 10 ^ rise (b .exponent) (a .exponent) + x) 1 (b .exponent)) (units-own b (nine-small nine-b)))
 
-  -- as the code does it, near and far
-  pub sum-near : rounded up (a .significand * 10 ^ rise (b .exponent) (a .exponent) + b .significand) 1 (a .exponent -ℤ pos (rise (b .exponent) (a .exponent))) ≡ sumEnd up a b
-  sum-near =
-      ap (rounded up (a .significand * 10 ^ rise (b .exponent) (a .exponent) + b .significand) 1)
-      (fallen (rise (b .exponent) (a .exponent)) (nine-small nine-a) (nine-small nine-b) (omega (arith, rise-of (nine-small nine-b) (nine-small nine-a) ordered)))
-      ∙ sym sum-ordered
-
-  pub sum-beyond : 9 < rise (b .exponent) (a .exponent) → rounded up (a .significand * 10 ^ 9 + 1) 1 (a .exponent -ℤ pos 9) ≡ sumEnd up a b
-  sum-beyond far =
-      sum-far up (a .significand) (b .significand) (rise (b .exponent) (a .exponent)) (a .exponent) (b .exponent) (nine-small nine-a) (nine-small nine-b)
-      (nine-a .least) (nine-a .most) (omega (arith, nine-b .least)) (nine-b .most) far
+  -- as the code does it
+  pub sum-rounded : rounded up (a .significand + divided up (b .significand) (10 ^ rise (b .exponent) (a .exponent))) 1 (a .exponent) ≡ sumEnd up a b
+  sum-rounded =
+      let g = rise (b .exponent) (a .exponent) in
+      ap (λ (s : ℕ). rounded up s 1 (a .exponent)) (sym (divided-more up (a .significand) (b .significand) (10 ^ g) (ten-above g)))
+      ∙ rounded-twice up (a .significand * 10 ^ g + b .significand) g (b .exponent) (a .exponent) (nine-small nine-b) (nine-a .reach)
       (omega (arith, rise-of (nine-small nine-b) (nine-small nine-a) ordered))
+      (omega (arith, mul-le-mul-right (10 ^ g) (nine-a .least)))
+      (omega (arith, mul-le-mul-right (10 ^ g) (nine-a .most), nine-b .most, ten-above g))
       ∙ sym sum-ordered
 
 -- a sum does not depend on the order of its operands

@@ -6,16 +6,16 @@ use crate::exponent::is_zero;
 use crate::exponent::less;
 use crate::exponent::minus;
 use crate::exponent::plus;
+use crate::rounding::lowered;
 use crate::rounding::nine;
 use crate::rounding::normal;
 use crate::rounding::power;
-use crate::rounding::whole;
+use crate::rounding::ten;
 use crate::rounding::zero;
 ghost use mathlib.Core.Path.{_≡_};
 ghost use mathlib.Core.Bool.{Bool, true, false};
 ghost use Prim.Native.Nat.{_+_, _-_, _*_, _^_, _≤_, _<_};
 ghost use lib.Dec.{ltb};
-ghost use lib.IntN.{pos, negsuc, _-ℤ_};
 ghost use lib.Signed.{mag, ltZ};
 ghost use Rattle.pair.specs.Number.{isNumber, inReach, atMost, one};
 ghost use Rattle.pair.specs.Rounding.{rounded, sumEnd, productEnd, quotientEnd, restEnd, unitsEnd};
@@ -110,23 +110,8 @@ pub(crate) fn quotient(up: bool, a: Number, b: Number) -> Number
     shared(up, a.significand as u64, b.significand as u64, e)
 }
 
-// m × 10^e + n × 10^(e − g).
-fn added(up: bool, m: u64, e: i32, n: u64, g: usize) -> Number
-    requires { ⌜ (100000000 ≤ m) × (m ≤ 999999999) ⌝ }
-    requires { ⌜ n ≤ 999999999 ⌝ }
-    requires { ⌜ g ≤ 9 ⌝ }
-    requires { ⌜ mag e < 100000 ⌝ }
-    ensures { λ r. ⌜ r ≡ rounded up (m * 10 ^ g + n) 1 (e -ℤ pos g) ⌝ }
-{
-    let d = power(g);
-    let t = m * d + n;
-    if t < 1_000_000_000 * d {
-        return nine(up, t, d, e);
-    }
-    nine(up, t, 10 * d, plus(e, 1))
-}
-
-// a + b, neither 0 and a's exponent not below b's. What lies more than nine places below a's last figure counts as something, no more.
+// a + b, neither 0 and a's exponent not below b's: b is rounded at a's last figure, and the sum once more in the same direction,
+// which is to round once.
 fn aligned(up: bool, a: Number, b: Number) -> Number
     requires { ⌜ (isNumber a ≡ true) × (0 < a .significand) ⌝ }
     requires { ⌜ (isNumber b ≡ true) × (0 < b .significand) ⌝ }
@@ -134,16 +119,8 @@ fn aligned(up: bool, a: Number, b: Number) -> Number
     ensures { λ r. ⌜ r ≡ sumEnd up a b ⌝ }
 {
     let g = above(b.exponent, a.exponent);
-    if 9 < g {
-        return added(up, a.significand as u64, a.exponent, 1, 9);
-    }
-    added(
-        up,
-        a.significand as u64,
-        a.exponent,
-        b.significand as u64,
-        g,
-    )
+    let s = a.significand as u64 + lowered(up, b.significand as u64, g);
+    ten(up, s, a.exponent)
 }
 
 pub(crate) fn sum(up: bool, a: Number, b: Number) -> Number
@@ -163,17 +140,7 @@ pub(crate) fn sum(up: bool, a: Number, b: Number) -> Number
     aligned(up, a, b)
 }
 
-// 1 − m × 10^(−9 − g).
-fn reduced(up: bool, m: u64, g: usize) -> Number
-    requires { ⌜ (0 < m) × (m ≤ 999999999) ⌝ }
-    requires { ⌜ (1 ≤ g) × (g ≤ 9) ⌝ }
-    ensures { λ r. ⌜ r ≡ rounded up (1000000000 * 10 ^ g - m) 1 (negsuc 8 -ℤ pos g) ⌝ }
-{
-    let d = power(g);
-    nine(up, 1_000_000_000 * d - m, d, -9)
-}
-
-// 1 − f, f at most 1. As in a sum, what lies far below counts as something, no more.
+// 1 − f, f at most 1. As in a sum, f is rounded at the ninth figure first, here in the other direction.
 pub(crate) fn rest(up: bool, f: Number) -> Number
     requires { ⌜ isNumber f ≡ true ⌝ }
     requires { ⌜ atMost f one ≡ true ⌝ }
@@ -190,10 +157,7 @@ pub(crate) fn rest(up: bool, f: Number) -> Number
     if g == 0 {
         return normal(1_000_000_000 - m, -9);
     }
-    if 9 < g {
-        return reduced(up, 1, 9);
-    }
-    reduced(up, m, g)
+    ten(up, 1_000_000_000 - lowered(!up, m, g), -9)
 }
 
 // Whether w counts fewer than 10^19 units of 10^u, which an u64 holds.
@@ -220,11 +184,7 @@ pub(crate) fn units(up: bool, w: Number, u: i32) -> u64
     }
     let m = w.significand as u64;
     if less(w.exponent, u) {
-        let g = above(w.exponent, u);
-        if 9 < g {
-            return whole(up, 1, 10);
-        }
-        return whole(up, m, power(g));
+        return lowered(up, m, above(w.exponent, u));
     }
     m * power(above(u, w.exponent))
 }

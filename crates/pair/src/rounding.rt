@@ -5,30 +5,28 @@ use crate::exponent::minus;
 use crate::exponent::plus;
 ghost use mathlib.Core.Path.{_≡_};
 ghost use mathlib.Core.Bool.{Bool};
-ghost use Prim.Native.Nat.{_*_, _^_, _≤_, _<_};
+ghost use Prim.Native.Nat.{_+_, _*_, _^_, _≤_, _<_};
 ghost use lib.Signed.{mag};
 ghost use Rattle.pair.specs.Number as numbers;
 ghost use Rattle.pair.specs.Rounding.{divided, carried, rounded};
-
-const TEN: [u64; 11] = [
-    1,
-    10,
-    100,
-    1_000,
-    10_000,
-    100_000,
-    1_000_000,
-    10_000_000,
-    100_000_000,
-    1_000_000_000,
-    10_000_000_000,
-];
 
 pub(crate) fn power(k: usize) -> u64
     requires { ⌜ k ≤ 10 ⌝ }
     ensures { λ r. ⌜ r ≡ 10 ^ k ⌝ }
 {
-    TEN[k]
+    match k {
+        0 => 1,
+        1 => 10,
+        2 => 100,
+        3 => 1_000,
+        4 => 10_000,
+        5 => 100_000,
+        6 => 1_000_000,
+        7 => 10_000_000,
+        8 => 100_000_000,
+        9 => 1_000_000_000,
+        _ => 10_000_000_000,
+    }
 }
 
 pub(crate) fn zero() -> Number
@@ -41,29 +39,34 @@ pub(crate) fn zero() -> Number
 }
 
 // n / d as a whole number.
-pub(crate) fn whole(up: bool, n: u64, d: u64) -> u64
+fn whole(up: bool, n: u64, d: u64) -> u64
     requires { ⌜ 0 < d ⌝ }
-    requires { ⌜ n < 10000000000 * d ⌝ }
+    requires { ⌜ n + d < 10000000000000000000 ⌝ }
     ensures { λ r. ⌜ r ≡ divided up n d ⌝ }
 {
-    let q = n / d;
     if up {
-        if n % d != 0 {
-            return q + 1;
-        }
+        return (n + (d - 1)) / d;
     }
-    q
+    n / d
 }
 
-// n / d × 10^e, where n / d has nine figures before the point.
-pub(crate) fn nine(up: bool, n: u64, d: u64, e: i32) -> Number
-    requires { ⌜ 0 < d ⌝ }
-    requires { ⌜ 100000000 * d ≤ n ⌝ }
-    requires { ⌜ n < 1000000000 * d ⌝ }
-    requires { ⌜ mag e < 250000 ⌝ }
-    ensures { λ r. ⌜ r ≡ carried (divided up n d) e ⌝ }
+// n / 10^g as a whole number. What has nine figures at most and lies wholly below the point counts as something, no more.
+pub(crate) fn lowered(up: bool, n: u64, g: usize) -> u64
+    requires { ⌜ (0 < n) × (n ≤ 999999999) ⌝ }
+    ensures { λ r. ⌜ r ≡ divided up n (10 ^ g) ⌝ }
 {
-    let m = whole(up, n, d);
+    if 8 < g {
+        return whole(up, 1, 10);
+    }
+    whole(up, n, power(g))
+}
+
+// m × 10^e, where m may have been rounded up to ten figures.
+fn carry(m: u64, e: i32) -> Number
+    requires { ⌜ m ≤ 1000000000 ⌝ }
+    requires { ⌜ mag e < 250000 ⌝ }
+    ensures { λ r. ⌜ r ≡ carried m e ⌝ }
+{
     if m < 1_000_000_000 {
         return Number {
             significand: m as u32,
@@ -76,6 +79,71 @@ pub(crate) fn nine(up: bool, n: u64, d: u64, e: i32) -> Number
     }
 }
 
+// n / d × 10^e, where n / d has nine figures before the point. Only rounding up can carry.
+pub(crate) fn nine(up: bool, n: u64, d: u64, e: i32) -> Number
+    requires { ⌜ 0 < d ⌝ }
+    requires { ⌜ (100000000 * d ≤ n) × (n < 1000000000 * d) ⌝ }
+    requires { ⌜ n + d < 10000000000000000000 ⌝ }
+    requires { ⌜ mag e < 250000 ⌝ }
+    ensures { λ r. ⌜ r ≡ carried (divided up n d) e ⌝ }
+{
+    let m = whole(up, n, d);
+    if up {
+        return carry(m, e);
+    }
+    Number {
+        significand: m as u32,
+        exponent: e,
+    }
+}
+
+// m × 10^e, of nine or ten figures.
+pub(crate) fn ten(up: bool, m: u64, e: i32) -> Number
+    requires { ⌜ (100000000 ≤ m) × (m ≤ 9999999999) ⌝ }
+    requires { ⌜ mag e < 100000 ⌝ }
+    ensures { λ r. ⌜ r ≡ rounded up m 1 e ⌝ }
+{
+    if 999_999_999 < m {
+        return nine(up, m, 10, plus(e, 1));
+    }
+    Number {
+        significand: m as u32,
+        exponent: e,
+    }
+}
+
+// How many zeros put behind m give it nine figures.
+fn zeros(m: u64) -> usize
+    requires { ⌜ (0 < m) × (m ≤ 999999999) ⌝ }
+    ensures { λ r. ⌜ (r ≤ 8) × (100000000 ≤ m * 10 ^ r) × (m * 10 ^ r ≤ 999999999) ⌝ }
+{
+    if m < 10_000 {
+        if m < 100 {
+            if m < 10 {
+                return 8;
+            }
+            return 7;
+        }
+        if m < 1_000 {
+            return 6;
+        }
+        return 5;
+    }
+    if m < 1_000_000 {
+        if m < 100_000 {
+            return 4;
+        }
+        return 3;
+    }
+    if m < 10_000_000 {
+        return 2;
+    }
+    if m < 100_000_000 {
+        return 1;
+    }
+    0
+}
+
 // m × 10^e, of at most nine figures, with zeros put behind m until it has nine. Nothing is rounded.
 pub(crate) fn normal(m: u64, e: i32) -> Number
     requires { ⌜ m ≤ 999999999 ⌝ }
@@ -85,14 +153,9 @@ pub(crate) fn normal(m: u64, e: i32) -> Number
     if m == 0 {
         return zero();
     }
-    let mut filled = m;
-    let mut k: usize = 0;
-    while filled < 100_000_000 {
-        filled *= 10;
-        k += 1;
-    }
+    let k = zeros(m);
     Number {
-        significand: filled as u32,
+        significand: (m * power(k)) as u32,
         exponent: minus(e, figures(k)),
     }
 }

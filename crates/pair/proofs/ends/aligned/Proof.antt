@@ -1,12 +1,14 @@
--- The two ways of the alignment, near and far, are one sum. Assumes nothing.
-use mathlib.Core.Path.{_≡_, subst}
-use Prim.Native.Nat.{ℕ, _≤_, _<_}
-use lib.Dec.{lit≤}
+-- The other number is rounded at a's last figure, and the sum to nine figures. Assumes nothing.
+use mathlib.Core.Path.{_≡_, sym, subst}
+use Prim.Native.Nat.{ℕ, _^_, _≤_}
+use native.Mathlib.Omega.{arith}
 use borrow.Author.Needs.{needs}
 use Rattle.pair.specs.Number.{place, rise}
 use Rattle.pair.proofs.Alignment.{nine-small, not-less-place}
+use Rattle.pair.proofs.Dividing.{divided-most}
 use Rattle.pair.proofs.Numbers.{Nine, number-nine, number-back, number-minus}
-use Rattle.pair.proofs.Sums.{sum-near, sum-beyond}
+use Rattle.pair.proofs.Powers.{ten-above}
+use Rattle.pair.proofs.Sums.{sum-rounded}
 use Rattle.pair.proofs.ends.aligned.Statement.{statement}
 use Rattle.pair.proofs.ends.aligned.Tie as tie
 
@@ -17,58 +19,49 @@ above-requires c κs =
       rw (number-back (a .args .a) (a .pre .0 .0), number-back (a .args .b) (a .pre .1 .0 .0)) (a .pre .1 .1),
     )
 
-cast-added : tie.Need-cast-added
-cast-added c = search needs
+cast-s : tie.Need-cast-s
+cast-s c = search needs
 
-added-requires : tie.Need-added-requires
-added-requires c κs =
+cast-lowered : tie.Need-cast-lowered
+cast-lowered c = search needs
+
+lowered-requires : tie.Need-lowered-requires
+lowered-requires c κs =
+    let a = c .before .before .before .before .before in
+    let w : Nine (a .args .b) = number-nine (a .args .b) (a .pre .1 .0 .0) (a .pre .1 .0 .1) in
+    (a .pre .1 .0 .1, w .most)
+
+add-s : tie.Need-add-s
+add-s c =
     let a = c .before .before .before .before .before .before in
+    let g = c .before .before .before .above .result in
     let v : Nine (a .args .a) = number-nine (a .args .a) (a .pre .0 .0) (a .pre .0 .1) in
     let w : Nine (a .args .b) = number-nine (a .args .b) (a .pre .1 .0 .0) (a .pre .1 .0 .1) in
-    ((v .least, v .most), (lit≤ tt, (lit≤ tt, rw (number-back (a .args .a) (a .pre .0 .0)) (v .reach))))
+    let l : c .lowered .result ≤ 1000000000 = subst (λ (x : ℕ). x ≤ 1000000000) (sym (c .lowered .ensures)) (divided-most (a .args .up) (a .args .b .significand) (10 ^ g) 1000000000 (ten-above g) (omega (arith, w .most, ten-above g))) in
+    omega (arith, v .most, l)
+
+ten-requires : tie.Need-ten-requires
+ten-requires c κs =
+    let b = c .before in
+    let a = b .before .before .before .before .before .before in
+    let g = b .before .before .before .above .result in
+    let v : Nine (a .args .a) = number-nine (a .args .a) (a .pre .0 .0) (a .pre .0 .1) in
+    let w : Nine (a .args .b) = number-nine (a .args .b) (a .pre .1 .0 .0) (a .pre .1 .0 .1) in
+    let l : b .lowered .result ≤ 1000000000 = subst (λ (x : ℕ). x ≤ 1000000000) (sym (b .lowered .ensures)) (divided-most (a .args .up) (a .args .b .significand) (10 ^ g) 1000000000 (ten-above g) (omega (arith, w .most, ten-above g))) in
+    ((omega (arith, v .least), omega (arith, v .most, l)), rw (number-back (a .args .a) (a .pre .0 .0)) (v .reach))
 
 returns : tie.Need-returns
 returns c =
-    let a = c .before .before .before .before .before .before .before in
+    let b = c .before .before in
+    let a = b .before .before .before .before .before .before in
     let v : Nine (a .args .a) = number-nine (a .args .a) (a .pre .0 .0) (a .pre .0 .1) in
     let w : Nine (a .args .b) = number-nine (a .args .b) (a .pre .1 .0 .0) (a .pre .1 .0 .1) in
-    let h : c .before .before .before .before .above .result ≡ rise (a .args .b .exponent) (a .args .a .exponent) = rw (number-back (a .args .a) (a .pre .0 .0), number-back (a .args .b) (a .pre .1 .0 .0)) at (c .before .before .before .before .above .ensures) in
+    let h : b .before .before .before .above .result ≡ rise (a .args .b .exponent) (a .args .a .exponent) = rw (number-back (a .args .a) (a .pre .0 .0), number-back (a .args .b) (a .pre .1 .0 .0)) at (b .before .before .before .above .ensures) in
     let o : place (a .args .b .exponent) ≤ place (a .args .a .exponent) = not-less-place (nine-small v) (nine-small w) (a .pre .1 .1) in
-    rw (c .added .ensures, number-back (a .args .a) (a .pre .0 .0))
-    (sum-beyond (a .args .up) (a .args .a) (a .args .b) v w o (subst (λ (x : ℕ). 9 < x) h (search needs)))
-
-cast-added-2 : tie.Need-cast-added-2
-cast-added-2 c = search needs
-
-cast-added-3 : tie.Need-cast-added-3
-cast-added-3 c = search needs
-
-added-requires-2 : tie.Need-added-requires-2
-added-requires-2 c κs =
-    let a = c .before .before .before .before .before .before .before in
-    let v : Nine (a .args .a) = number-nine (a .args .a) (a .pre .0 .0) (a .pre .0 .1) in
-    let w : Nine (a .args .b) = number-nine (a .args .b) (a .pre .1 .0 .0) (a .pre .1 .0 .1) in
-    ((v .least, v .most), (w .most, (search needs, rw (number-back (a .args .a) (a .pre .0 .0)) (v .reach))))
-
-returns-2 : tie.Need-returns-2
-returns-2 c =
-    let a = c .before .before .before .before .before .before .before .before in
-    let v : Nine (a .args .a) = number-nine (a .args .a) (a .pre .0 .0) (a .pre .0 .1) in
-    let w : Nine (a .args .b) = number-nine (a .args .b) (a .pre .1 .0 .0) (a .pre .1 .0 .1) in
-    let h : c .before .before .before .before .before .above .result ≡ rise (a .args .b .exponent) (a .args .a .exponent) = rw (number-back (a .args .a) (a .pre .0 .0), number-back (a .args .b) (a .pre .1 .0 .0)) at (c .before .before .before .before .before .above .ensures) in
-    let o : place (a .args .b .exponent) ≤ place (a .args .a .exponent) = not-less-place (nine-small v) (nine-small w) (a .pre .1 .1) in
-    rw (c .added2 .ensures, number-back (a .args .a) (a .pre .0 .0), h)
-    (sum-near (a .args .up) (a .args .a) (a .args .b) v w o)
+    rw (c .ten .ensures, b .lowered .ensures, h, number-back (a .args .a) (a .pre .0 .0))
+    (sum-rounded (a .args .up) (a .args .a) (a .args .b) v w o)
 
 pub aligned-spec : {M : Type 1} → statement M
 aligned-spec =
     tie.close
-    (tie.spec
-    above-requires
-    cast-added
-    added-requires
-    returns
-    cast-added-2
-    cast-added-3
-    added-requires-2
-    returns-2)
+    (tie.spec above-requires cast-s cast-lowered lowered-requires add-s ten-requires returns)

@@ -18,16 +18,10 @@ plus-requires c κs = let a = c .before in rw (toZ-ofZ (a .fits .e)) (fits-plus 
 
 nine-requires : tie.Need-nine-requires
 nine-requires c κs =
-    let a = c .before .before in (
-      lit< tt,
-      (
-        omega (arith, product-least (a .pre .0 .0) (a .pre .1 .0 .0)),
-        (
-          omega (arith, product-most (a .pre .0 .1) (a .pre .1 .0 .1)),
-          rw (back (c .plus .ok), c .plus .ensures, toZ-ofZ (a .fits .e)) (omega (arith, mag-plus (a .args .e) (pos 8))),
-        ),
-      ),
-    )
+    let a = c .before .before in
+    let least = product-least (a .pre .0 .0) (a .pre .1 .0 .0) in
+    let most = product-most (a .pre .0 .1) (a .pre .1 .0 .1) in
+    (lit< tt, ((omega (arith, least), omega (arith, most)), (omega (arith, most), rw (back (c .plus .ok), c .plus .ensures, toZ-ofZ (a .fits .e)) (omega (arith, mag-plus (a .args .e) (pos 8))))))
 
 returns : tie.Need-returns
 returns c =
@@ -40,16 +34,10 @@ plus-requires-2 c κs = let a = c .before in rw (toZ-ofZ (a .fits .e)) (fits-plu
 
 nine-requires-2 : tie.Need-nine-requires-2
 nine-requires-2 c κs =
-    let a = c .before .before in (
-      lit< tt,
-      (
-        omega (arith, product-least (a .pre .0 .0) (a .pre .1 .0 .0)),
-        (
-          omega (arith, product-most (a .pre .0 .1) (a .pre .1 .0 .1)),
-          rw (back (c .plus2 .ok), c .plus2 .ensures, toZ-ofZ (a .fits .e)) (omega (arith, mag-plus (a .args .e) (pos 9))),
-        ),
-      ),
-    )
+    let a = c .before .before in
+    let least = product-least (a .pre .0 .0) (a .pre .1 .0 .0) in
+    let most = product-most (a .pre .0 .1) (a .pre .1 .0 .1) in
+    (lit< tt, ((omega (arith, least), omega (arith, most)), (omega (arith, most), rw (back (c .plus2 .ok), c .plus2 .ensures, toZ-ofZ (a .fits .e)) (omega (arith, mag-plus (a .args .e) (pos 9))))))
 
 returns-2 : tie.Need-returns-2
 returns-2 c =

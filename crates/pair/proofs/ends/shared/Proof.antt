@@ -18,7 +18,7 @@ plus-requires c κs = let a = c .before in rw (toZ-ofZ (a .fits .e)) (fits-plus 
 nine-requires : tie.Need-nine-requires
 nine-requires c κs =
     let a = c .before .before in
-    (omega arith, (omega arith, (omega arith, rw (back (c .plus .ok), c .plus .ensures, toZ-ofZ (a .fits .e)) (omega (arith, mag-plus (a .args .e) (negsuc 8))))))
+    (omega arith, ((omega arith, omega arith), (omega arith, rw (back (c .plus .ok), c .plus .ensures, toZ-ofZ (a .fits .e)) (omega (arith, mag-plus (a .args .e) (negsuc 8))))))
 
 returns : tie.Need-returns
 returns c =
@@ -35,7 +35,7 @@ plus-requires-2 c κs = let a = c .before in rw (toZ-ofZ (a .fits .e)) (fits-plu
 nine-requires-2 : tie.Need-nine-requires-2
 nine-requires-2 c κs =
     let a = c .before .before in
-    (omega arith, (omega arith, (omega arith, rw (back (c .plus2 .ok), c .plus2 .ensures, toZ-ofZ (a .fits .e)) (omega (arith, mag-plus (a .args .e) (negsuc 7))))))
+    (omega arith, ((omega arith, omega arith), (omega arith, rw (back (c .plus2 .ok), c .plus2 .ensures, toZ-ofZ (a .fits .e)) (omega (arith, mag-plus (a .args .e) (negsuc 7))))))
 
 returns-2 : tie.Need-returns-2
 returns-2 c =

@@ -14,10 +14,10 @@ use Rattle.pair.specs.declared.Number.{Number}
 use Rattle.pair.specs.Number.{place, rise, inReach}
 use Rattle.pair.specs.Rounding.{unitsEnd}
 use Rattle.pair.proofs.Alignment.{Small, nine-small, rise-of, less-place, not-less-place, less-turned}
-use Rattle.pair.proofs.Counts.{count-zero, count-above, count-far, count-below, count-long}
+use Rattle.pair.proofs.Counts.{count-zero, count-above, count-below, count-long}
 use Rattle.pair.proofs.Exponents.{by-cases}
 use Rattle.pair.proofs.Numbers.{Nine, number-nine, number-back, reach-mag, fits-minus}
-use Rattle.pair.proofs.Powers.{ten-rises, power}
+use Rattle.pair.proofs.Powers.{ten-rises}
 use Rattle.pair.proofs.ends.units.Statement.{statement}
 use Rattle.pair.proofs.ends.units.Tie as tie
 
@@ -54,40 +54,21 @@ above-requires c κs =
       rw (number-back (a .args .w) (a .pre .0), toZ-ofZ (a .fits .u)) (less-turned (nine-small n) v t),
     )
 
-whole-requires : tie.Need-whole-requires
-whole-requires c κs = search needs
+lowered-requires : tie.Need-lowered-requires
+lowered-requires c κs =
+    let a = c .before .before .before .before .before .before .before .before in
+    let n : Nine (a .args .w) = number-nine (a .args .w) (a .pre .0) (omega arith) in
+    (omega (arith, n .least), n .most)
 
 returns-2 : tie.Need-returns-2
 returns-2 c =
-    let a = c .before .before .before .before .before .before .before .before .before .before in
+    let a = c .before .before .before .before .before .before .before .before .before in
     let n : Nine (a .args .w) = number-nine (a .args .w) (a .pre .0) (omega arith) in
     let v : Small (a .args .u) = unit-small (a .args .u) (a .pre .1 .0) in
-    let t : ltZ (a .args .w .exponent) (a .args .u) ≡ true = rw (number-back (a .args .w) (a .pre .0), toZ-ofZ (a .fits .u)) at (sym (c .before .before .before .before .before .less .ensures) ∙ c .before .before .before .before .if2 .taken) in
-    let g : c .before .before .above .result ≡ rise (a .args .w .exponent) (a .args .u) = rw (number-back (a .args .w) (a .pre .0), toZ-ofZ (a .fits .u)) at (c .before .before .above .ensures) in
+    let t : ltZ (a .args .w .exponent) (a .args .u) ≡ true = rw (number-back (a .args .w) (a .pre .0), toZ-ofZ (a .fits .u)) at (sym (c .before .before .before .before .less .ensures) ∙ c .before .before .before .if2 .taken) in
+    let g : c .before .above .result ≡ rise (a .args .w .exponent) (a .args .u) = rw (number-back (a .args .w) (a .pre .0), toZ-ofZ (a .fits .u)) at (c .before .above .ensures) in
     let l : place (a .args .w .exponent) < place (a .args .u) = less-place (nine-small n) v t in
-    c .whole .ensures ∙ count-far (a .args .up) (a .args .w) (a .args .u) n v (omega arith) (subst (λ (x : ℕ). 9 < x) g (search needs))
-
-power-requires : tie.Need-power-requires
-power-requires c κs = search needs
-
-whole-requires-2 : tie.Need-whole-requires-2
-whole-requires-2 c κs =
-    let a = c .before .before .before .before .before .before .before .before .before .before in
-    let n : Nine (a .args .w) = number-nine (a .args .w) (a .pre .0) (omega arith) in
-    let v : Small (a .args .u) = unit-small (a .args .u) (a .pre .1 .0) in
-    let p = power (c .before .before .above .result) (c .power .result) (search needs) (c .power .ensures) in
-    (p .least, omega (arith, n .most, p .least))
-
-returns-3 : tie.Need-returns-3
-returns-3 c =
-    let a = c .before .before .before .before .before .before .before .before .before .before .before in
-    let n : Nine (a .args .w) = number-nine (a .args .w) (a .pre .0) (omega arith) in
-    let v : Small (a .args .u) = unit-small (a .args .u) (a .pre .1 .0) in
-    let t : ltZ (a .args .w .exponent) (a .args .u) ≡ true = rw (number-back (a .args .w) (a .pre .0), toZ-ofZ (a .fits .u)) at (sym (c .before .before .before .before .before .before .less .ensures) ∙ c .before .before .before .before .before .if2 .taken) in
-    let g : c .before .before .before .above .result ≡ rise (a .args .w .exponent) (a .args .u) = rw (number-back (a .args .w) (a .pre .0), toZ-ofZ (a .fits .u)) at (c .before .before .before .above .ensures) in
-    let l : place (a .args .w .exponent) < place (a .args .u) = less-place (nine-small n) v t in
-    rw (c .whole2 .ensures, c .before .power .ensures, g)
-    (count-above (a .args .up) (a .args .w) (a .args .u) n v (omega arith))
+    rw (c .lowered .ensures, g) (count-above (a .args .up) (a .args .w) (a .args .u) n v (omega arith))
 
 above-requires-2 : tie.Need-above-requires-2
 above-requires-2 c κs =
@@ -99,8 +80,8 @@ above-requires-2 c κs =
       rw (number-back (a .args .w) (a .pre .0), toZ-ofZ (a .fits .u)) t,
     )
 
-power-requires-2 : tie.Need-power-requires-2
-power-requires-2 c κs =
+power-requires : tie.Need-power-requires
+power-requires c κs =
     let a = c .before .before .before .before .before .before .before .before in
     let n : Nine (a .args .w) = number-nine (a .args .w) (a .pre .0) (omega arith) in
     let v : Small (a .args .u) = unit-small (a .args .u) (a .pre .1 .0) in
@@ -119,11 +100,11 @@ mul-result c =
     let g : c .before .above2 .result ≡ rise (a .args .u) (a .args .w .exponent) = rw (number-back (a .args .w) (a .pre .0), toZ-ofZ (a .fits .u)) at (c .before .above2 .ensures) in
     let l : place (a .args .u) ≤ place (a .args .w .exponent) = not-less-place (nine-small n) v t in
     let s : rise (a .args .u) (a .args .w .exponent) ≤ 10 = short (a .args .up) (a .args .w) (a .args .u) n v (a .pre .1 .1) l in
-    let q : c .power2 .result ≤ 10 ^ 10 = subst (λ (x : ℕ). x ≤ 10 ^ 10) (sym (c .power2 .ensures)) (ten-rises {j = 10} (omega arith)) in
+    let q : c .power .result ≤ 10 ^ 10 = subst (λ (x : ℕ). x ≤ 10 ^ 10) (sym (c .power .ensures)) (ten-rises {j = 10} (omega arith)) in
     omega (arith, mul-le-mul (n .most) q)
 
-returns-4 : tie.Need-returns-4
-returns-4 c =
+returns-3 : tie.Need-returns-3
+returns-3 c =
     let a = c .before .before .before .before .before .before .before .before .before in
     let n : Nine (a .args .w) = number-nine (a .args .w) (a .pre .0) (omega arith) in
     let v : Small (a .args .u) = unit-small (a .args .u) (a .pre .1 .0) in
@@ -131,7 +112,7 @@ returns-4 c =
     let g : c .before .above2 .result ≡ rise (a .args .u) (a .args .w .exponent) = rw (number-back (a .args .w) (a .pre .0), toZ-ofZ (a .fits .u)) at (c .before .above2 .ensures) in
     let l : place (a .args .u) ≤ place (a .args .w .exponent) = not-less-place (nine-small n) v t in
     let s : rise (a .args .u) (a .args .w .exponent) ≤ 10 = short (a .args .up) (a .args .w) (a .args .u) n v (a .pre .1 .1) l in
-    rw (c .power2 .ensures, g) (count-below (a .args .up) (a .args .w) (a .args .u) n v l)
+    rw (c .power .ensures, g) (count-below (a .args .up) (a .args .w) (a .args .u) n v l)
 
 pub units-spec : {M : Type 1} → statement M
 units-spec =
@@ -141,12 +122,9 @@ units-spec =
     cast-m
     less-requires
     above-requires
-    whole-requires
+    lowered-requires
     returns-2
-    power-requires
-    whole-requires-2
-    returns-3
     above-requires-2
-    power-requires-2
+    power-requires
     mul-result
-    returns-4)
+    returns-3)

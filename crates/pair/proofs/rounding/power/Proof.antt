@@ -1,41 +1,54 @@
--- The table's rule, tested over the whole table. Assumes nothing.
-use mathlib.Core.Path.{_≡_, refl, _∙_, ap}
-use mathlib.Core.List.{List, [], _∷_}
-use mathlib.Core.Bool.{Bool, true, _&&_}
-use Prim.Native.Nat.{ℕ, zero, suc, _+_, _^_, _<_}
-use native.Mathlib.Nat.{le-of-suc-le-suc, not-suc-le-zero, zero-add}
+-- Each arm is the power of ten of its number. Assumes nothing.
+use mathlib.Core.Path.{_≡_}
+use Prim.Native.Nat.{ℕ, _+_, _≤_}
+use native.Mathlib.Nat.{le-antisymm}
 use native.Mathlib.Omega.{arith}
-use lib.Dec.{eqb}
-use lib.ListN.{getD, length}
-use borrow.Author.Needs.{needs}
-use borrow.Author.Tests.{eqb-true}
-use Rattle.pair.proofs.Numbers.{both}
+use Rattle.pair.proofs.Powers.{ten-at}
 use Rattle.pair.proofs.rounding.power.Statement.{statement}
 use Rattle.pair.proofs.rounding.power.Tie as tie
 
--- each entry is the power of ten of its place, counted from i
-tens : ℕ → List ℕ → Bool
-tens i [] = true
-tens i (x ∷ xs) = eqb x (10 ^ i) && tens (suc i) xs
+-- what is none of the numbers below ten is ten
+least : (k : ℕ) → 0 ≤ k
+least k = omega arith
 
-at : (i : ℕ) (xs : List ℕ) (k : ℕ) → tens i xs ≡ true → k < length xs → getD xs k 0 ≡ 10 ^ (i + k)
-unfolding tens
-at i [] k t h = absurd (not-suc-le-zero h)
-at i (x ∷ xs) zero t h = eqb-true x (10 ^ i) (both (eqb x (10 ^ i)) (tens (suc i) xs) t .0) ∙ ap (λ (j : ℕ). 10 ^ j) (omega arith)
-at i (x ∷ xs) (suc k) t h = at (suc i) xs k (both (eqb x (10 ^ i)) (tens (suc i) xs) t .1) (le-of-suc-le-suc h) ∙ ap (λ (j : ℕ). 10 ^ j) (omega arith)
-
-powers : List ℕ
-powers = 1 ∷ 10 ∷ 100 ∷ 1000 ∷ 10000 ∷ 100000 ∷ 1000000 ∷ 10000000 ∷ 100000000 ∷ 1000000000 ∷ 10000000000 ∷ []
-
-mul-result : tie.Need-mul-result
-mul-result c = search needs
-
-array-read-result : tie.Need-array-read-result
-array-read-result c = search needs
+above : (k i : ℕ) → i ≤ k → (k ≡ i → ⊥) → i + 1 ≤ k
+above k i h n = omega arith
 
 returns : tie.Need-returns
-unfolding powers tens
-returns c = at 0 powers (c .args .k) refl (omega arith) ∙ ap (λ (j : ℕ). 10 ^ j) (zero-add (c .args .k))
+returns c = ten-at 0 (omega arith)
+
+returns-2 : tie.Need-returns-2
+returns-2 c = ten-at 1 (omega arith)
+
+returns-3 : tie.Need-returns-3
+returns-3 c = ten-at 2 (omega arith)
+
+returns-4 : tie.Need-returns-4
+returns-4 c = ten-at 3 (omega arith)
+
+returns-5 : tie.Need-returns-5
+returns-5 c = ten-at 4 (omega arith)
+
+returns-6 : tie.Need-returns-6
+returns-6 c = ten-at 5 (omega arith)
+
+returns-7 : tie.Need-returns-7
+returns-7 c = ten-at 6 (omega arith)
+
+returns-8 : tie.Need-returns-8
+returns-8 c = ten-at 7 (omega arith)
+
+returns-9 : tie.Need-returns-9
+returns-9 c = ten-at 8 (omega arith)
+
+returns-10 : tie.Need-returns-10
+returns-10 c = ten-at 9 (omega arith)
+
+returns-11 : tie.Need-returns-11
+returns-11 c =
+    let k = c .before .args .k in
+    let r = c .match .rest in
+    ten-at 10 (le-antisymm (c .before .pre) (above k 9 (above k 8 (above k 7 (above k 6 (above k 5 (above k 4 (above k 3 (above k 2 (above k 1 (above k 0 (least k) (r .0 .0 .0 .0 .0 .0 .0 .0 .0 .1)) (r .0 .0 .0 .0 .0 .0 .0 .0 .1)) (r .0 .0 .0 .0 .0 .0 .0 .1)) (r .0 .0 .0 .0 .0 .0 .1)) (r .0 .0 .0 .0 .0 .1)) (r .0 .0 .0 .0 .1)) (r .0 .0 .0 .1)) (r .0 .0 .1)) (r .0 .1)) (r .1)))
 
 pub power-spec : {M : Type 1} → statement M
-power-spec = tie.close (tie.spec mul-result array-read-result returns)
+power-spec = tie.close (tie.spec returns returns-2 returns-3 returns-4 returns-5 returns-6 returns-7 returns-8 returns-9 returns-10 returns-11)

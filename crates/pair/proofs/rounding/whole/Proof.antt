@@ -1,37 +1,27 @@
--- Each way out is one case of what rounding adds. Assumes nothing.
+-- Rounding up is dividing what is less than one more. Assumes nothing.
 use mathlib.Core.Path.{sym}
-use native.Mathlib.Nat.{div-lt-iff-lt-mul}
-use native.Mathlib.Omega.{arith}
 use borrow.Author.Needs.{needs}
-use Rattle.pair.proofs.Dividing.{divided-down, divided-even, divided-left}
+use Rattle.pair.proofs.Dividing.{divided-down, divided-up}
 use Rattle.pair.proofs.rounding.whole.Statement.{statement}
 use Rattle.pair.proofs.rounding.whole.Tie as tie
 
-div-q : tie.Need-div-q
-div-q c = search needs
-
-rem-if2 : tie.Need-rem-if2
-rem-if2 c = search needs
+sub-result : tie.Need-sub-result
+sub-result c = search needs
 
 add-result : tie.Need-add-result
-add-result c =
-    let a = c .before .before in
-    omega (arith, div-lt-iff-lt-mul {k = a .args .d} {x = a .args .n} {y = 10000000000} (a .pre .0) .1 (a .pre .1))
+add-result c = search needs
+
+div-result : tie.Need-div-result
+div-result c = search needs
 
 returns : tie.Need-returns
-returns c =
-    let a = c .before .before in
-    sym (divided-left (a .args .n) (a .args .d) (a .args .up) (c .before .if1 .taken) (c .if2 .taken))
+returns c = let a = c .before in sym (divided-up (a .args .n) (a .args .d) (a .args .up) (c .if1 .taken) (a .pre .0))
+
+div-result-2 : tie.Need-div-result-2
+div-result-2 c = search needs
 
 returns-2 : tie.Need-returns-2
-returns-2 c =
-    let a = c .before .before in
-    sym (divided-even (a .args .n) (a .args .d) (a .args .up) (c .if2 .left))
-
-returns-3 : tie.Need-returns-3
-returns-3 c =
-    let a = c .before in
-    sym (divided-down (a .args .n) (a .args .d) (a .args .up) (c .if1 .left))
+returns-2 c = let a = c .before in sym (divided-down (a .args .n) (a .args .d) (a .args .up) (c .if1 .left))
 
 pub whole-spec : {M : Type 1} → statement M
-whole-spec = tie.close (tie.spec div-q rem-if2 add-result returns returns-2 returns-3)
+whole-spec = tie.close (tie.spec sub-result add-result div-result returns div-result-2 returns-2)
