@@ -55,15 +55,17 @@ pub(crate) fn at_most(a: Number, b: Number) -> bool
     a.significand <= b.significand
 }
 
-// m × n × 10^e: the product has 17 or 18 figures.
-fn multiplied(up: bool, m: u64, n: u64, e: i32) -> Number
-    requires { ⌜ (100000000 ≤ m) × (m ≤ 999999999) ⌝ }
-    requires { ⌜ (100000000 ≤ n) × (n ≤ 999999999) ⌝ }
+// p × 10^e, p 0 or of 17 or 18 figures, as the product of two significands is.
+fn multiplied(up: bool, p: u64, e: i32) -> Number
+    requires { ⌜ (0 < p → 10000000000000000 ≤ p) ⌝ }
+    requires { ⌜ p < 1000000000000000000 ⌝ }
     requires { ⌜ mag e < 200003 ⌝ }
-    ensures { λ r. ⌜ r ≡ rounded up (m * n) 1 e ⌝ }
+    ensures { λ r. ⌜ r ≡ rounded up p 1 e ⌝ }
 {
-    let p = m * n;
     if p < 100_000_000_000_000_000 {
+        if p == 0 {
+            return zero();
+        }
         return nine(up, p, 100_000_000, plus(e, 8));
     }
     nine(up, p, 1_000_000_000, plus(e, 9))
@@ -74,14 +76,9 @@ pub(crate) fn product(up: bool, a: Number, b: Number) -> Number
     requires { ⌜ isNumber b ≡ true ⌝ }
     ensures { λ r. ⌜ r ≡ productEnd up a b ⌝ }
 {
-    if a.significand == 0 {
-        return zero();
-    }
-    if b.significand == 0 {
-        return zero();
-    }
     let e = plus(a.exponent, b.exponent);
-    multiplied(up, a.significand as u64, b.significand as u64, e)
+    let p = a.significand as u64 * b.significand as u64;
+    multiplied(up, p, e)
 }
 
 // m / n × 10^e: with nine zeros more the quotient has nine figures where m is below n, else with eight.
