@@ -43,6 +43,11 @@ pub struct Row {
 // Pathways of a chemical.
 pub const PATHWAYS: usize = 6;
 
+// The longest report: 388 lines.
+pub const MAX_REPORT: usize = LINE_WIDTH
+    * deck::MAX_RECEPTORS
+    * (deck::MAX_CHEMICALS * PATHWAYS + 1);
+
 // A receptor's lines but its total line, at most: 96.
 pub const MOST_LINES: usize = deck::MAX_CHEMICALS * PATHWAYS;
 

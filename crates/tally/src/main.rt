@@ -6,10 +6,6 @@ use libc::STDOUT_FILENO;
 // A byte more than the longest deck: input that fills it is no deck, whatever is in it.
 const DECK_ROOM: usize = deck::MAX_LENGTH + 1;
 
-const LINE_WIDTH: usize = 95;
-
-const REPORT_ROOM: usize = LINE_WIDTH * sheet::MAX_ROWS;
-
 const COLUMNS: usize = 6;
 
 // Writes n right-justified in 6 columns.
@@ -43,7 +39,7 @@ fn put_answer(told: Told, buffer: &[u8]) {
 fn main() {
     let mut input = [0u8; DECK_ROOM];
     let n = io::read_full(STDIN_FILENO, &mut input);
-    let mut buffer = [0u8; REPORT_ROOM];
+    let mut buffer = [0u8; sheet::MAX_REPORT];
     let told = sheet::report(&input[..n], &mut buffer);
     put_answer(told, &buffer);
 }
