@@ -30,7 +30,7 @@ fn next(x: Pair, n: u64, t: Partial) -> Partial
 {
     let before = t.term;
     let so_far = t.total;
-    let term = before.times(x.answer()).over(Pair::entry(n + 2, 0));
+    let term = before.times_over(x, Pair::entry(n + 2, 0));
     let total = so_far.plus(term);
     Partial { term, total }
 }

@@ -20,3 +20,4 @@ mod Keeps
 mod Answers
 mod Sizes
 pub mod Promises
+mod Worked

@@ -107,6 +107,34 @@ fn answered(low: Number, high: Number) -> Answer
     Answer::Is(Pair { low, high })
 }
 
+// p × q / d. The product is a pair if its exponents stayed in reach, so no more of it is looked at again.
+fn product_over(p: Pair, q: Pair, d: Pair) -> Answer
+    ensures { λ r. ⌜ calls.answer r ≡ calls.after calls.quotient (calls.product p q) (calls.is d) ⌝ }
+{
+    if !is_pair(p) {
+        return Answer::Refused;
+    }
+    if !is_pair(q) {
+        return Answer::Refused;
+    }
+    let low = product(false, p.low, q.low);
+    let high = product(true, p.high, q.high);
+    if !in_reach(low.exponent) {
+        return Answer::Refused;
+    }
+    if !in_reach(high.exponent) {
+        return Answer::Refused;
+    }
+    if !is_pair(d) {
+        return Answer::Refused;
+    }
+    let least = d.low;
+    if least.significand == 0 {
+        return Answer::Refused;
+    }
+    answered(quotient(false, low, d.high), quotient(true, high, least))
+}
+
 impl Number {
     // Whether a number is at most a bound.
     pub fn compare(self, bound: Number) -> Order
@@ -291,6 +319,19 @@ impl Answer {
             return Answer::Refused;
         };
         p.quotient(q)
+    }
+
+    // self × factor / divisor, as times and over one after the other: a step from term to term of a series.
+    pub fn times_over(self, factor: Pair, divisor: Answer) -> Answer
+        ensures { λ r. ⌜ calls.answer r ≡ calls.after calls.quotient (calls.after calls.product (calls.answer self) (calls.is factor)) (calls.answer divisor) ⌝ }
+    {
+        let Answer::Is(p) = self else {
+            return Answer::Refused;
+        };
+        let Answer::Is(d) = divisor else {
+            return Answer::Refused;
+        };
+        product_over(p, factor, d)
     }
 
     pub fn one_minus(self) -> Answer
