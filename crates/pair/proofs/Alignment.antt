@@ -104,6 +104,11 @@ unfolding unitsAt
 units-higher w l n p h =
     mul-le-mul {n₁ = 100000000} {m₁ = 10} (n .least) (ten-rises {i = 1} (omega (arith, rise-of p (nine-small n) (omega arith))))
 
+-- two numbers with one exponent are compared by their significands
+pub order-level : (a b : Number) → Small (a .exponent) → a .exponent ≡ b .exponent → atMost a b ≡ leb (a .significand) (b .significand)
+unfolding atMost lower unitsAt
+order-level a b p h = rw (sym h, lesser-first p p (omega arith), rise-none p, mul-one (a .significand), mul-one (b .significand)) refl
+
 -- comparing two working numbers
 module _ (a b : Number) (nine-a : Nine a) (nine-b : Nine b) where
   pub order-below : place (a .exponent) < place (b .exponent) → atMost a b ≡ true
@@ -121,10 +126,7 @@ module _ (a b : Number) (nine-a : Nine a) (nine-b : Nine b) where
       (lt-leb (unitsAt (b .exponent) a) (b .significand) (omega (arith, nine-b .most, units-higher a (b .exponent) nine-a q h)))
 
   pub order-same : place (a .exponent) ≡ place (b .exponent) → atMost a b ≡ leb (a .significand) (b .significand)
-  unfolding atMost lower unitsAt
-  order-same h =
-      let p = nine-small nine-a in
-      rw (sym (same-place p (nine-small nine-b) h), lesser-first p p (omega arith), rise-none p, mul-one (a .significand), mul-one (b .significand)) refl
+  order-same h = order-level a b (nine-small nine-a) (same-place (nine-small nine-a) (nine-small nine-b) h)
 
 -- 0 is at most every number, and no other number is at most 0
 pub units-none : (l : ℤ) (w : Number) → w .significand ≡ 0 → unitsAt l w ≡ 0

@@ -15,15 +15,15 @@ use Rattle.pair.specs.Fraction.{_≤ᶠ_, plus, times, over, rest}
 use Rattle.pair.specs.Number as N
 use Rattle.pair.specs.Number.{lesser, rise, isNumber, isZero, zeroExponent, nineFigures, inReach, unitsAt, lower, depth, place, value, one}
 use Rattle.pair.specs.Rounding.{extra, divided, excess, carried, rounded, unitsEnd}
-use Rattle.pair.specs.Promises.{Operation, sums, products, quotients, exactly, scaled, Sized, Rounded}
+use Rattle.pair.specs.Promises.{Operation, sums, products, quotients, exactResult, scaled, Sized, Rounded}
 use Rattle.pair.proofs.Exponents.{by-cases, place-plus, place-minus}
 use Rattle.pair.proofs.Powers.{ten-above, ten-add, ten-rises, ten-reflects}
 use Rattle.pair.proofs.Excess.{Beyond, excess-beyond}
 use Rattle.pair.proofs.Dividing.{divided-same}
-use Rattle.pair.proofs.Fractions.{Usable}
+use Rattle.pair.proofs.Fractions.{_=ᶠ_, Usable}
 use Rattle.pair.proofs.Alignment.{Small, lesser-below, units-scaled}
 use Rattle.pair.proofs.Ordered.{Working, working, Aligned, aligned, depth-is, size-small, power-rise}
-use Rattle.pair.proofs.Nearest.{Ratio, rounded-nearest, rounded-reach}
+use Rattle.pair.proofs.Nearest.{Ratio, rounded-nearest, rounded-reach, rounded-itself, zero-significand}
 
 place-size : (e : ℤ) → mag e < 100000 → (depth ≤ place e + 100000) × (place e < depth + 100000)
 unfolding depth place
@@ -47,10 +47,6 @@ some-or-none n = go (eq-zero-or-pos n)
     go (inl z) = inl z
     go (inr p) = inr (omega arith)
 
-zero-significand : N.zero .significand ≡ 0
-unfolding N.zero
-zero-significand = refl
-
 -- the numerator, the divisor and the exponent of an end
 unfoldable pub top : Operation → Number → Number → ℕ
 top sums a b = unitsAt (lower a b) a + unitsAt (lower a b) b
@@ -71,8 +67,8 @@ power quotients a b = a .exponent -ℤ b .exponent
 unfoldable pub endOf : Operation → Bool → Number → Number → Number
 endOf o up a b = rounded up (top o a b) (bottom o a b) (power o a b)
 
-pub end-ratio : (o : Operation) (a b : Number) → Working a → Working b → Usable o (value b) → Ratio (exactly o (value a) (value b)) (top o a b) (bottom o a b) (power o a b)
-unfolding top bottom power exactly plus times over value Usable
+pub end-ratio : (o : Operation) (a b : Number) → Working a → Working b → Usable o (value b) → Ratio (exactResult o (value a) (value b)) (top o a b) (bottom o a b) (power o a b)
+unfolding top bottom power exactResult plus times over value Usable
 end-ratio sums a b p q u =
     let l : Aligned (lower a b) a b = aligned a b p q in
     record {
@@ -214,17 +210,36 @@ entry-sized m e h l = record { sized = go (eq-zero-or-pos m) }
           omega (arith, ten-rises high, ten-add 9 (place e), ten-add depth wide, mul-le-mul-right (10 ^ place e) h),
         )
 
+-- m with k zeros behind it, and the exponent less by k, is the same number
+pub entry-place : (e : ℤ) (k : ℕ) → mag e < 100000 → k ≤ 9 → place (e -ℤ pos k) + k ≡ place e
+unfolding depth place
+entry-place e k h l = omega (arith, place-minus e (pos k) (omega arith))
+
+pub entry-zeros : (m k : ℕ) (e : ℤ) → mag e < 100000 → k ≤ 9 → scaled m e =ᶠ value (record { significand = m * 10 ^ k; exponent = e -ℤ pos k })
+unfolding scaled value
+entry-zeros m k e h l =
+    record {
+      across =
+          ap (λ (n : ℕ). m * n * 10 ^ depth) (ap (λ (i : ℕ). 10 ^ i) (sym (entry-place e k h l)) ∙ ten-add (place (e -ℤ pos k)) k) ∙ omega arith;
+    }
+
 -- one end of an operation is its exact end rounded, where in reach, and it is in reach where the exact end is no larger than 10^99991 and
 -- no smaller than 10^−99991
 pub end-rounds : (o : Operation) (up : Bool) (a b : Number) → isNumber a ≡ true → isNumber b ≡ true → Usable o (value b) →
-    inReach (endOf o up a b .exponent) ≡ true → Rounded up (exactly o (value a) (value b)) (endOf o up a b)
+    inReach (endOf o up a b .exponent) ≡ true → Rounded up (exactResult o (value a) (value b)) (endOf o up a b)
 unfolding endOf
 end-rounds o up a b p q u h = rounded-nearest up (end-ratio o a b (working a p) (working b q) u) h
 
 pub end-reach : (o : Operation) (up : Bool) (a b : Number) → isNumber a ≡ true → isNumber b ≡ true → Usable o (value b) →
-    (k : ℕ) → Sized k (exactly o (value a) (value b)) → k ≤ 99991 → inReach (endOf o up a b .exponent) ≡ true
+    (k : ℕ) → Sized k (exactResult o (value a) (value b)) → k ≤ 99991 → inReach (endOf o up a b .exponent) ≡ true
 unfolding endOf
 end-reach o up a b p q u k s h = rounded-reach up (end-ratio o a b (working a p) (working b q) u) k s h
+
+-- an end that is a working number is that number
+pub end-itself : (o : Operation) (up : Bool) (a b v : Number) → isNumber a ≡ true → isNumber b ≡ true → Usable o (value b) → isNumber v ≡ true →
+    exactResult o (value a) (value b) =ᶠ value v → endOf o up a b ≡ v
+unfolding endOf
+end-itself o up a b v p q u n s = rounded-itself up (end-ratio o a b (working a p) (working b q) u) v n s
 
 -- an entry needs no rounding: both directions give the same number
 exact-division : (n d : ℕ) → n % d ≡ 0 → divided false n d ≡ divided true n d

@@ -4,8 +4,8 @@ use Rattle.pair.specs.Number.{nineFigures, inReach, zeroExponent, isZero
 use Rattle.pair.specs.Rounding.{extra, divided, excessFrom, excess, carried, rounded, productEnd, quotientEnd, restEnd}
 use Rattle.pair.specs.Calls as calls
 use Rattle.pair.specs.Calls.{provided, after, afterOne, entry, product, quotient, oneMinus}
-use Rattle.pair.specs.Figures.{Each, figures, _⊗_, _⊘_, whole, ends}
+use Rattle.pair.specs.Figures.{Each, figures, _⊗_, _⊘_, whole, bothEnds}
 
 pub figures-hold : Each figures
-unfolding figures _⊗_ _⊘_ whole ends nineFigures inReach zeroExponent isZero isNumber zero one lesser rise unitsAt lower atMost isPair extra divided excessFrom excess carried rounded productEnd quotientEnd restEnd provided calls.ends after afterOne entry product quotient oneMinus
+unfolding figures _⊗_ _⊘_ whole bothEnds nineFigures inReach zeroExponent isZero isNumber zero one lesser rise unitsAt lower atMost isPair extra divided excessFrom excess carried rounded productEnd quotientEnd restEnd provided calls.ends after afterOne entry product quotient oneMinus
 figures-hold = (refl, (refl, (refl, (refl, tt))))

@@ -1,15 +1,15 @@
 -- The law of rounding, once for both directions: the number that `rounded` gives for n / d × 10^e is the nearest working number on its
 -- side of that fraction, within one part in 10^8, and 0 exactly where the fraction is. Assumes nothing.
-use mathlib.Core.Path.{_≡_, refl, sym, _∙_, ap}
+use mathlib.Core.Path.{_≡_, refl, sym, _∙_, ap, ap₂}
 use mathlib.Core.Bool.{Bool, true, false}
 use mathlib.Core.Logic.{_⊎_, inl, inr}
 use Prim.Native.Nat.{ℕ, zero, suc, _+_, _-_, _*_, _^_, _≤_, _<_}
 use native.Mathlib.Nat.{mul-le-mul-right, mul-lt-mul-of-pos-right, le-of-mul-le-mul-right, lt-of-mul-lt-mul-right, mul-pos, le-trans, le-dest, le-antisymm}
 use native.Mathlib.Omega.{arith}
-use lib.Dec.{ltb, lit≤}
+use lib.Dec.{ltb, lit<, lit≤}
 use lib.IntN.{ℤ, pos, negsuc, _+ℤ_, subℕ}
 use lib.Signed.{mag}
-use borrow.Author.Tests.{ltb-true, ltb-false}
+use borrow.Author.Tests.{ltb-true, ltb-false, lt-ltb}
 use Rattle.pair.specs.declared.Number.{Number}
 use Rattle.pair.specs.Fraction.{Fraction}
 use Rattle.pair.specs.Number as N
@@ -19,8 +19,10 @@ use Rattle.pair.specs.Promises.{Beside, Close, Rounded, Sized, grown}
 use Rattle.pair.proofs.Exponents.{by-cases, place-sub, place-raise}
 use Rattle.pair.proofs.Powers.{ten-above, ten-add, ten-rises, ten-reflects, ten-falls}
 use Rattle.pair.proofs.Excess.{Beyond, excess-beyond}
-use Rattle.pair.proofs.Dividing.{divided-same, down-least, down-most, up-least, up-most, divided-least, divided-most}
-use Rattle.pair.proofs.Ordered.{number, depth-is, reach-from, working, number-from, zero-number}
+use Rattle.pair.proofs.Fractions.{_=ᶠ_}
+use Rattle.pair.proofs.Numbers.{number-zero}
+use Rattle.pair.proofs.Dividing.{divided-same, down-least, down-most, up-least, up-most, divided-least, divided-most, divided-one}
+use Rattle.pair.proofs.Ordered.{number, depth-is, reach-from, Working, working, number-from, zero-number}
 
 le-of-lt-suc : {a b : ℕ} → a < b + 1 → a ≤ b
 le-of-lt-suc h = omega arith
@@ -101,6 +103,10 @@ module _ (x : Fraction) (proper : 0 < x .den) (q u : ℕ) (w : Number) (number :
       none : w ≡ N.zero → ⊥
       none z = omega (arith, same, ap (λ (v : Number). v .significand * 10 ^ place (w .exponent)) z, mul-le-mul-right (10 ^ u) figures, ten-above u)
 
+pub zero-significand : N.zero .significand ≡ 0
+unfolding N.zero
+zero-significand = refl
+
 -- x is n / d × 10^e, with enough figures for the search
 pub record Ratio (x : Fraction) (n d : ℕ) (e : ℤ) : Type 0 where
   pub proper : 0 < x .den
@@ -119,6 +125,14 @@ place-on : (e : ℤ) (b : ℕ) → 0 < place e → place (e +ℤ pos b) ≡ plac
 unfolding depth place
 place-on (pos a) b h = omega arith
 place-on (negsuc a) b h = omega (arith, place-sub b (suc a) (omega arith))
+
+-- the place tells the exponent
+place-only : (e f : ℤ) → mag f < 100000 → place e ≡ place f → e ≡ f
+unfolding depth place
+place-only (pos a) (pos b) h p = ap pos (omega arith)
+place-only (pos a) (negsuc b) h p = absurd (omega arith)
+place-only (negsuc a) (pos b) h p = absurd (omega arith)
+place-only (negsuc a) (negsuc b) h p = ap negsuc (omega arith)
 
 place-raised : (e : ℤ) (k : ℕ) → mag e < 200100 → place (e +ℤ subℕ k 9) + 9 ≡ place e + k
 place-raised e k h =
@@ -231,6 +245,54 @@ module _ {x : Fraction} {n d : ℕ} {e : ℤ} (r : Ratio x (suc n) d e) (some : 
       (carries up .same) (least-units up) (figures .0)
       up (whole up (x .num * 10 ^ depth) (10 ^ place raised * x .den) unit-above)
 
+  -- a working number is rounded to itself
+  module _ (v : Number) (number-v : isNumber v ≡ true) (same : x =ᶠ value v) where
+    inLeast : ℕ
+    inLeast = v .significand * 10 ^ place (v .exponent)
+
+    least-of : 10 ^ (8 + place raised) ≤ inLeast
+    unfolding inLeast value
+    least-of =
+        rw (ten-add 8 (place raised))
+        (le-of-mul-le-mul-right {k = x .den} (omega (arith, figures .0, same .across)) (r .proper))
+
+    most-of : inLeast < 10 ^ (9 + place raised)
+    unfolding inLeast value
+    most-of =
+        rw (ten-add 9 (place raised))
+        (lt-of-mul-lt-mul-right (x .den) (omega (arith, figures .1, same .across)))
+
+    nine-of : 100000000 ≤ v .significand
+    unfolding inLeast
+    nine-of = go (working v number-v .least)
+      where
+        go : (v ≡ N.zero) ⊎ (100000000 ≤ v .significand) → 100000000 ≤ v .significand
+        go (inl z) = absurd (omega (arith, least-of, ten-above (8 + place raised), ap (λ (i : ℕ). i * 10 ^ place (v .exponent)) (ap (λ (w : Number). w .significand) z ∙ zero-significand)))
+        go (inr l) = l
+
+    place-of : place raised ≡ place (v .exponent)
+    unfolding inLeast
+    place-of =
+        let w : Working v = working v number-v in
+        let a : 8 + place raised < 9 + place (v .exponent) =
+        ten-reflects (rw (ten-add 9 (place (v .exponent))) (omega (arith, least-of, mul-lt-mul-of-pos-right {n = 1000000000} (below (w .most)) (ten-above (place (v .exponent)))))) in
+        let b : 8 + place (v .exponent) < 9 + place raised =
+        ten-reflects (rw (ten-add 8 (place (v .exponent))) (omega (arith, most-of, mul-le-mul-right (10 ^ place (v .exponent)) nine-of))) in
+        omega arith
+      where
+        below : v .significand ≤ 999999999 → v .significand < 1000000000
+        below h = omega arith
+
+    rounded-same : (up : Bool) → rounded up (suc n) d e ≡ v
+    unfolding units value
+    rounded-same up =
+        let f : raised ≡ v .exponent = place-only raised (v .exponent) (working v number-v .reach) place-of in
+        let q : units up ≡ v .significand =
+        divided-same up (x .num * 10 ^ depth) (10 ^ place raised * x .den) (v .significand) 1 unit-above (lit< tt)
+        (omega (arith, same .across, ap (λ (i : ℕ). v .significand * 10 ^ i * x .den) place-of))
+        ∙ divided-one up (v .significand) in
+        rounded-is up ∙ ap₂ carried q f ∙ carried-below (v .significand) (v .exponent) (lt-ltb (v .significand) 1000000000 (omega (arith, working v number-v .most)))
+
   -- a fraction from 10^−99991 to 10^99991 stays in reach
   reach-some : (up : Bool) (k : ℕ) → Sized k x → k ≤ 99991 → inReach (rounded up (suc n) d e .exponent) ≡ true
   reach-some up k s h = go (s .sized)
@@ -301,3 +363,16 @@ pub rounded-reach : (up : Bool) {x : Fraction} {n d : ℕ} {e : ℤ} → Ratio x
 unfolding rounded N.zero inReach
 rounded-reach up {n = zero} r k s h = refl
 rounded-reach up {n = suc n} r k s h = reach-some r (enough r) up k s h
+
+-- A working number is rounded to itself.
+pub rounded-itself : (up : Bool) {x : Fraction} {n d : ℕ} {e : ℤ} → Ratio x n d e → (v : Number) → isNumber v ≡ true → x =ᶠ value v → rounded up n d e ≡ v
+unfolding rounded value
+rounded-itself up {x} {n = zero} r v h s =
+    sym
+    (number-zero v h
+    (none (v .significand) (10 ^ place (v .exponent) * x .den) (mul-pos (ten-above (place (v .exponent))) (r .proper))
+    (omega (arith, s .across, ap (λ (i : ℕ). i * 10 ^ depth) (ratio-zero r)))))
+  where
+    none : (a b : ℕ) → 0 < b → a * b ≡ 0 → a ≡ 0
+    none a b p i = le-antisymm (le-of-mul-le-mul-right {n = 0} (omega arith) p) (omega arith)
+rounded-itself up {n = suc n} r v h s = rounded-same r (enough r) v h s up

@@ -73,6 +73,13 @@ number-mag w h =
     (λ z. subst (λ (e : ℤ). mag e < 100000) (sym (zero-mag (w .exponent) (both (eqb (w .significand) 0) (zeroExponent (w .exponent)) z .1))) (omega arith))
     (λ n. reach-mag (w .exponent) (both (nineFigures (w .significand)) (inReach (w .exponent)) n .1))
 
+pub number-reach : (w : Number) → isNumber w ≡ true → inReach (w .exponent) ≡ true
+unfolding isNumber isZero inReach
+number-reach w h =
+    either (isZero w) (nineFigures (w .significand) && inReach (w .exponent)) h
+    (λ z. ap inReach (zero-mag (w .exponent) (both (eqb (w .significand) 0) (zeroExponent (w .exponent)) z .1)))
+    (λ n. both (nineFigures (w .significand)) (inReach (w .exponent)) n .1)
+
 -- the ends of a pair are numbers, in order
 pub pair-low : (p : Pair) → isPair p ≡ true → isNumber (p .low) ≡ true
 unfolding isPair

@@ -33,7 +33,7 @@ unfolding inReach depth place
 reach-from (pos n) l h = le-leb n 99999 (omega arith)
 reach-from (negsuc n) l h = both-from {b = true} (le-leb n 99998 (omega arith)) refl
 
-pub size-reach : (e : ℤ) → mag e ≤ 99000 → inReach e ≡ true
+pub size-reach : (e : ℤ) → mag e < 99999 → inReach e ≡ true
 unfolding inReach
 size-reach (pos n) h = le-leb n 99999 (omega arith)
 size-reach (negsuc n) h = both-from {b = true} (le-leb n 99998 (omega arith)) refl

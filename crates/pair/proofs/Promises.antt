@@ -1,39 +1,43 @@
 -- What the crates above may count on, each promise stated once over the operations: an answer's ends are the exact ends rounded once, it
 -- is a pair, it holds the exact result, it rises with its operands, and a call is answered wherever its exact ends are not too large or
--- too small. The same for 1 − f, for entries, for comparing and for counting in units. Assumes nothing.
-use mathlib.Core.Path.{_≡_, refl, sym, _∙_}
+-- too small, and ends that come to working numbers are not rounded. The same for 1 − f, for entries, for comparing and for counting in
+-- units. Assumes nothing.
+use mathlib.Core.Path.{_≡_, refl, sym, _∙_, ap, ap₂}
 use mathlib.Core.Bool.{Bool, true, false, _&&_}
 use mathlib.Core.Logic.{_↔_}
 use Prim.Native.Nat.{ℕ, zero, _+_, _*_, _^_, _≤_, _<_}
 use native.Mathlib.Nat.{mul-le-mul-right, le-of-mul-le-mul-right, mul-lt-mul-of-pos-right, lt-of-mul-lt-mul-right, mul-pos}
 use native.Mathlib.Omega.{arith}
 use lib.Dec.{leb, ltb, lit<, lit≤}
-use lib.IntN.{ℤ}
+use lib.IntN.{ℤ, pos, negsuc, _-ℤ_}
 use lib.Signed.{mag}
 use borrow.Author.Tests.{leb-true, le-leb, lt-ltb}
 use Rattle.pair.specs.declared.Number.{Number}
 use Rattle.pair.specs.declared.Pair.{Pair}
 use Rattle.pair.specs.declared.Units.{Units}
-use Rattle.pair.specs.Fraction.{Fraction, Proper, _≤ᶠ_, plus, rest}
+use Rattle.pair.specs.Fraction.{Fraction, Proper, _≤ᶠ_, plus, times, over, rest}
 use Rattle.pair.specs.Number as N
 use Rattle.pair.specs.Number.{isZero, zeroExponent, unitsAt, lower, lesser, rise, inReach, isNumber, isPair, atMost, value, place, depth, one}
 use Rattle.pair.specs.Rounding.{rounded, restEnd, unitsEnd, divided}
-use Rattle.pair.specs.Calls.{is, zeroPair, onePair, ends, entry, oneMinus, compared, inUnits}
-use Rattle.pair.specs.Promises.{Operation, sums, products, quotients, call, exactly, lowEnd, highEnd, withLow, withHigh, Holds, Beside, Rounded, Sized, _≤ₑ_, scaled}
-use Rattle.pair.proofs.Powers.{ten-above}
+use Rattle.pair.specs.Calls.{is, zeroPair, onePair, ends, checked, entry, sum, product, quotient, oneMinus, compared, inUnits}
+use Rattle.pair.specs.Promises.{Operation, sums, products, quotients, call, exactResult, lowEnd, highEnd, withLow, withHigh, Holds, Beside, Rounded, Sized, _≤ₑ_, scaled}
+use Rattle.pair.proofs.Exponents.{mag-minus}
+use Rattle.pair.proofs.Alignment.{order-level}
+use Rattle.pair.proofs.Powers.{ten-above, ten-reflects}
 use Rattle.pair.proofs.Dividing.{down-least, down-most, up-least, up-most}
 use Rattle.pair.proofs.Fractions.{rest-falls-exactly}
-pub use Rattle.pair.proofs.Fractions.{_<ᶠ_, below-itself, through, exactly-rises, exactly-proper}
+pub use Rattle.pair.proofs.Fractions.{_<ᶠ_, _=ᶠ_, below-itself, through, exactly-rises, exactly-proper}
 unfoldable pub use Rattle.pair.proofs.Fractions.{Usable, Along}
-use Rattle.pair.proofs.Numbers.{both, reach-mag}
-use Rattle.pair.proofs.Ordered.{both-from, Working, working, not-at-most, size-reach}
-pub use Rattle.pair.proofs.Ordered.{at-most, value-proper}
-use Rattle.pair.proofs.Nearest.{rounded-nearest, rounded-reach}
-use Rattle.pair.proofs.ExactEnds.{endOf, end-rounds, end-reach, one-number, one-value, rest-ratio, rest-sized, entry-ratio, entry-sized, entry-same, wide, wide-is, units-divided}
+use Rattle.pair.proofs.Numbers.{both, reach-mag, number-reach}
+use Rattle.pair.proofs.Ordered.{both-from, number, number-from, zero-number, Working, working, not-at-most, size-small}
+pub use Rattle.pair.proofs.Ordered.{at-most, value-proper, size-reach}
+use Rattle.pair.proofs.Nearest.{rounded-nearest, rounded-reach, rounded-itself}
+use Rattle.pair.proofs.ExactEnds.{endOf, end-rounds, end-reach, end-itself, one-number, one-value, rest-ratio, rest-sized, entry-ratio, entry-sized, entry-same, entry-zeros, wide, wide-is, units-divided}
 pub use Rattle.pair.proofs.Keeps.{stays-above, stays-below, keeps-order, sized-end}
 pub use Rattle.pair.proofs.Sizes.{joint-size, sized-on}
 unfoldable pub use Rattle.pair.proofs.Sizes.{joint}
-use Rattle.pair.proofs.Answers.{provided-is, provided-true, pair, ends-are, ends-from, Ordered, ordered, pair-from, usable-on, Answered, told, answers, Operand, operand, held-along}
+pub use Rattle.pair.proofs.Answers.{Ordered, ordered, pair-from}
+use Rattle.pair.proofs.Answers.{provided-is, provided-true, pair, ends-are, ends-from, usable-on, Answered, told, answers, Operand, operand, held-along}
 
 -- The operands of an answered call are pairs, and a divisor's low end is above 0.
 pub operands : (o : Operation) (p q r : Pair) → call o p q ≡ is r → (isPair p ≡ true) × (isPair q ≡ true) × Usable o (value (q .low))
@@ -82,7 +86,7 @@ pair-again o p q r h =
     })
 
 -- The answer holds the exact result of whatever exact operands its operands hold.
-pub holds : (o : Operation) (p q r : Pair) (x y : Fraction) → call o p q ≡ is r → Holds p x → Holds q y → Holds r (exactly o x y)
+pub holds : (o : Operation) (p q r : Pair) (x y : Fraction) → call o p q ≡ is r → Holds p x → Holds q y → Holds r (exactResult o x y)
 unfolding lowEnd highEnd Beside
 holds o p q r x y h a b =
     let t : Answered o p q r = told o p q r h in
@@ -146,6 +150,18 @@ answered o p q k a b u l h n =
           (end-reach o false (p .low) (withLow o q) (f .low) (s .low-number) (s .low-usable) k l n)
           (end-reach o true (p .high) (withHigh o q) (f .high) (s .high-number) (s .high-usable) k h n),
     )
+
+-- Ends that come to working numbers are those numbers.
+pub exact : (o : Operation) (p q r : Pair) → isPair p ≡ true → isPair q ≡ true → Usable o (value (q .low)) → isPair r ≡ true →
+    lowEnd o p q =ᶠ value (r .low) → highEnd o p q =ᶠ value (r .high) → call o p q ≡ is r
+unfolding lowEnd highEnd
+exact o p q r a b u c l h =
+    let f : Ordered p = ordered p a in
+    let s : Operand o q = operand o q (ordered q b) u in
+    let t : Ordered r = ordered r c in
+    let i : endOf o false (p .low) (withLow o q) ≡ r .low = end-itself o false (p .low) (withLow o q) (r .low) (f .low) (s .low-number) (s .low-usable) (t .low) l in
+    let j : endOf o true (p .high) (withHigh o q) ≡ r .high = end-itself o true (p .high) (withHigh o q) (r .high) (f .high) (s .high-number) (s .high-usable) (t .high) h in
+    answers o p q a b u (rw i (number-reach (r .low) (t .low))) (rw j (number-reach (r .high) (t .high))) ∙ rw (i, j) refl
 
 -- Both ends are 0 or from 10^−k to 10^k.
 pub record Within (k : ℕ) (p : Pair) : Type 0 where
@@ -343,7 +359,7 @@ unfolding entry
 entry-answered m e h l =
     let s : mag e < 100000 = omega arith in (
       pair (rounded false m 1 e) (rounded true m 1 e),
-      provided-true (ends (rounded false m 1 e) (rounded true m 1 e)) (both-from (le-leb m 999999999 h) (size-reach e l))
+      provided-true (ends (rounded false m 1 e) (rounded true m 1 e)) (both-from (le-leb m 999999999 h) (size-reach e (omega arith)))
           ∙ ends-from (rounded false m 1 e) (rounded true m 1 e)
           (rounded-reach false (entry-ratio m e s) wide (entry-sized m e h l) (omega (arith, wide-is)))
           (rounded-reach true (entry-ratio m e s) wide (entry-sized m e h l) (omega (arith, wide-is))),
@@ -354,6 +370,58 @@ pub entry-within : (m : ℕ) (e : ℤ) (r : Pair) (k : ℕ) → entry m e ≡ is
 entry-within m e r k h s n =
     let d = entry-rounds m e r h in
     record { low = sized-end false (d .0) (scaled-proper m e) k s n; high = sized-end true (d .1) (scaled-proper m e) k s n }
+
+-- An entry of more than 0 is above 0.
+pub entry-above : (m : ℕ) (e : ℤ) (r : Pair) → entry m e ≡ is r → 0 < m → 0 < value (r .low) .num
+unfolding value scaled
+entry-above m e r h p =
+    let x = entry-exact m e r h in
+    rw (x .0)
+    (omega (arith, le-of-mul-le-mul-right {k = 10 ^ depth} (x .1 .high .across) (ten-above depth), mul-pos p (ten-above (place e))))
+
+-- Nine figures and an exponent in reach make a working number.
+pub number-written : (m : ℕ) (e : ℤ) → 100000000 ≤ m → m ≤ 999999999 → mag e < 99999 → isNumber (number m e) ≡ true
+number-written m e l h n = number-from (number m e) l h (size-reach e n)
+
+few-zeros : (m k : ℕ) → 100000000 ≤ m * 10 ^ k → m * 10 ^ k ≤ 999999999 → k ≤ 9
+few-zeros m k l h = omega (arith, ten-reflects {i = k} {j = 9} (omega (arith, mul-le-mul-right {m = 1} {n = m} (10 ^ k) (lt-of-mul-lt-mul-right (10 ^ k) {m = 0} (omega arith)))))
+
+digits-few : (m k : ℕ) → m * 10 ^ k ≤ 999999999 → m ≤ 999999999
+digits-few m k h = omega (arith, mul-le-mul-right {m = 1} {n = 10 ^ k} m (ten-above k))
+
+-- An entry of m is m with zeros behind it to nine figures, and the exponent less by as many.
+pub entry-written : (m k : ℕ) (e : ℤ) → 100000000 ≤ m * 10 ^ k → m * 10 ^ k ≤ 999999999 → mag e ≤ 99000 →
+    entry m e ≡ is (pair (number (m * 10 ^ k) (e -ℤ pos k)) (number (m * 10 ^ k) (e -ℤ pos k)))
+unfolding entry
+entry-written m k e l h n =
+    let v : Number = number (m * 10 ^ k) (e -ℤ pos k) in
+    let s : mag e < 100000 = omega arith in
+    let few : k ≤ 9 = few-zeros m k l h in
+    let r : inReach (e -ℤ pos k) ≡ true = size-reach (e -ℤ pos k) (omega (arith, mag-minus e (pos k))) in
+    let w : isNumber v ≡ true = number-from v l h r in
+    let low : rounded false m 1 e ≡ v = rounded-itself false (entry-ratio m e s) v w (entry-zeros m k e s few) in
+    let high : rounded true m 1 e ≡ v = rounded-itself true (entry-ratio m e s) v w (entry-zeros m k e s few) in
+    provided-true (ends (rounded false m 1 e) (rounded true m 1 e)) (both-from (le-leb m 999999999 (digits-few m k h)) (size-reach e (omega arith)))
+    ∙ ap₂ ends low high ∙ ends-from v v r r
+
+-- 1, 64 and 0 as entries.
+pub one-entry : entry 1 (pos 0) ≡ is onePair
+unfolding onePair one
+one-entry = entry-written 1 8 (pos 0) (lit≤ tt) (lit≤ tt) (lit≤ tt)
+
+pub sixty-four-entry : entry 64 (pos 0) ≡ is (pair (number 640000000 (negsuc 6)) (number 640000000 (negsuc 6)))
+sixty-four-entry = entry-written 64 7 (pos 0) (lit≤ tt) (lit≤ tt) (lit≤ tt)
+
+pub zero-entry : (e : ℤ) → inReach e ≡ true → entry 0 e ≡ is zeroPair
+unfolding entry rounded zeroPair
+zero-entry e h =
+    provided-true (ends N.zero N.zero) (both-from (le-leb 0 999999999 (lit≤ tt)) h)
+    ∙ ends-from N.zero N.zero (number-reach N.zero zero-number) (number-reach N.zero zero-number)
+
+-- What is a pair is passed on.
+pub checked-is : (p : Pair) → isPair p ≡ true → checked p ≡ is p
+unfolding checked
+checked-is p h = provided-true (is p) h
 
 -- 0 and 1 are pairs, and hold 0 and 1.
 pub zero-pair : (isPair zeroPair ≡ true) × Holds zeroPair (record { num = 0; den = 1 })
@@ -374,6 +442,41 @@ one-pair = (
   },
 )
 
+-- What 0 and 1 do, as operands: nothing that is rounded.
+module _ (p : Pair) (h : isPair p ≡ true) where
+  -- p + 0
+  pub sum-zero : sum p zeroPair ≡ is p
+  unfolding call lowEnd highEnd withLow withHigh exactResult plus value zeroPair N.zero Usable
+  sum-zero = exact sums p zeroPair p h (zero-pair .0) tt h (record { across = omega arith }) (record { across = omega arith })
+
+  -- 0 + p
+  pub zero-sum : sum zeroPair p ≡ is p
+  unfolding call lowEnd highEnd withLow withHigh exactResult plus value zeroPair N.zero Usable
+  zero-sum = exact sums zeroPair p p (zero-pair .0) h tt h (record { across = omega arith }) (record { across = omega arith })
+
+  -- p × 0
+  pub product-zero : product p zeroPair ≡ is zeroPair
+  unfolding call lowEnd highEnd withLow withHigh exactResult times value zeroPair N.zero Usable
+  product-zero = exact products p zeroPair zeroPair h (zero-pair .0) tt (zero-pair .0) (record { across = omega arith }) (record { across = omega arith })
+
+  -- 0 × p
+  pub zero-product : product zeroPair p ≡ is zeroPair
+  unfolding call lowEnd highEnd withLow withHigh exactResult times value zeroPair N.zero Usable
+  zero-product = exact products zeroPair p zeroPair (zero-pair .0) h tt (zero-pair .0) (record { across = omega arith }) (record { across = omega arith })
+
+  -- 0 / p
+  pub zero-quotient : 0 < value (p .low) .num → quotient zeroPair p ≡ is zeroPair
+  unfolding call lowEnd highEnd withLow withHigh exactResult over value zeroPair N.zero Usable
+  zero-quotient u = exact quotients zeroPair p zeroPair (zero-pair .0) h u (zero-pair .0) (record { across = omega arith }) (record { across = omega arith })
+
+  -- p / 1
+  pub quotient-one : quotient p onePair ≡ is p
+  unfolding call lowEnd highEnd withLow withHigh exactResult over value onePair Usable
+  quotient-one =
+      exact quotients p onePair p h (one-pair .0) (omega (arith, one-value, ten-above depth)) h
+      (record { across = omega (arith, ap (λ (n : ℕ). p .low .significand * 10 ^ place (p .low .exponent) * 10 ^ depth * n) one-value) })
+      (record { across = omega (arith, ap (λ (n : ℕ). p .high .significand * 10 ^ place (p .high .exponent) * 10 ^ depth * n) one-value) })
+
 -- A comparison says true exactly where the first value is at most the second, and false where it is above.
 pub compared-right : (a b : Number) (t : Bool) → compared a b ≡ is t → (t ≡ true → value a ≤ᶠ value b) × (t ≡ false → value b <ᶠ value a)
 unfolding compared
@@ -388,6 +491,15 @@ compared-right a b t h =
 pub compared-answered : (a b : Number) → isNumber a ≡ true → isNumber b ≡ true → compared a b ≡ is (atMost a b)
 unfolding compared
 compared-answered a b p q = provided-true (is (atMost a b)) (both-from p q)
+
+-- A working number is at most itself.
+pub compared-itself : (w : Number) → isNumber w ≡ true → compared w w ≡ is true
+compared-itself w n = compared-answered w w n n ∙ ap is (at-most w w n n .1 (below-itself (value w)))
+
+-- Two working numbers with one exponent are compared by their significands.
+pub compared-level : (a b : Number) → isNumber a ≡ true → isNumber b ≡ true → a .exponent ≡ b .exponent →
+    compared a b ≡ is (leb (a .significand) (b .significand))
+compared-level a b p q h = compared-answered a b p q ∙ ap is (order-level a b (size-small (working a p .reach)) h)
 
 -- n counts p in units of 10^u: the low end down, the high end up, and by less than one unit
 pub record Counted (p : Pair) (u : ℤ) (n : Units) : Type 0 where

@@ -6,7 +6,7 @@ use Prim.Native.Nat.{ℕ, _+_, _*_, _^_, _≤_, _<_, max}
 use native.Mathlib.Nat.{mul-le-mul, mul-le-mul-right, mul-le-mul-left, le-trans, le-max-left, le-max-right}
 use native.Mathlib.Omega.{arith}
 use Rattle.pair.specs.Fraction.{Fraction, plus, times, over}
-use Rattle.pair.specs.Promises.{Operation, sums, products, quotients, exactly, Sized}
+use Rattle.pair.specs.Promises.{Operation, sums, products, quotients, exactResult, Sized}
 use Rattle.pair.proofs.Powers.{ten-rises, ten-add}
 use Rattle.pair.proofs.Fractions.{Usable}
 
@@ -59,8 +59,8 @@ turned : (k c d : ℕ) → 0 < c → Size k c d → Size k d c
 turned k c d p (inl z) = absurd (omega arith)
 turned k c d p (inr l) = inr (l .1, l .0)
 
-pub joint-size : (o : Operation) (j k : ℕ) {x y : Fraction} → Sized j x → Sized k y → Usable o y → Sized (joint o j k) (exactly o x y)
-unfolding joint exactly plus times over Usable
+pub joint-size : (o : Operation) (j k : ℕ) {x y : Fraction} → Sized j x → Sized k y → Usable o y → Sized (joint o j k) (exactResult o x y)
+unfolding joint exactResult plus times over Usable
 joint-size sums j k {x} {y} s t u =
     record {
       sized =

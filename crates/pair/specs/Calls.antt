@@ -1,5 +1,6 @@
 -- The calls on pairs and what each answers. A call that cannot be answered is refused with document 01's number 53: a pair that is
--- none, an entry with too many digits, a divisor with low end 0, 1 − f with f's high end above 1, an exponent out of reach.
+-- none, an entry with too many digits, a divisor with low end 0, 1 − f with f's high end above 1, an exponent out of reach; and so is
+-- a count of more than nineteen figures, which 64 bits may not hold.
 use Prim.Native.Nat.{ℕ, _^_}
 use mathlib.Core.Bool.{Bool, true, false, _&&_, not}
 use lib.Dec.{leb, ltb}
@@ -50,6 +51,10 @@ zeroPair = record { low = zero; high = zero }
 unfoldable pub onePair : Pair
 onePair = record { low = one; high = one }
 
+-- p itself, if it is a pair
+unfoldable pub checked : Pair → Outcome Pair
+checked p = provided (isPair p) (is p)
+
 -- m × 10^e, of at most nine digits
 unfoldable pub entry : ℕ → ℤ → Outcome Pair
 entry m e = provided (leb m 999999999 && inReach e) (ends (rounded false m 1 e) (rounded true m 1 e))
@@ -91,6 +96,11 @@ after f (refused n) y = refused n
 unfoldable pub afterOne : (Pair → Outcome Pair) → Outcome Pair → Outcome Pair
 afterOne f (is p) = f p
 afterOne f (refused n) = refused n
+
+-- a quantity made of a result: a refusal is carried along
+unfoldable pub mapped : {A B : Type 0} → (A → B) → Outcome A → Outcome B
+mapped f (is x) = is (f x)
+mapped f (refused n) = refused n
 
 -- how many units of 10^u a pair is: the low end down, the high end up; counts of up to nineteen figures
 unfoldable pub inUnits : Pair → ℤ → Outcome Units

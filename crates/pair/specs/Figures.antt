@@ -27,19 +27,19 @@ x ⊘ y = after quotient x y
 unfoldable pub whole : ℕ → Outcome Pair
 whole n = entry n (pos 0)
 
-unfoldable pub ends : ℕ → ℕ → ℤ → Outcome Pair
-ends low high e = is (record { low = record { significand = low; exponent = e }; high = record { significand = high; exponent = e } })
+unfoldable pub bothEnds : ℕ → ℕ → ℤ → Outcome Pair
+bothEnds low high e = is (record { low = record { significand = low; exponent = e }; high = record { significand = high; exponent = e } })
 
 unfoldable pub figures : List Figure
 figures =
-    record { worked = whole 2 ⊘ whole 3; printed = ends 666666666 666666667 (negsuc 8) }
+    record { worked = whole 2 ⊘ whole 3; printed = bothEnds 666666666 666666667 (negsuc 8) }
     ∷ record {
       worked = afterOne oneMinus (entry 1 (negsuc 19));
       printed = is (record { low = record { significand = 999999999; exponent = negsuc 8 }; high = record { significand = 100000000; exponent = negsuc 7 } });
     }
-    ∷ record { worked = whole 365 ⊗ entry 45 (negsuc 0); printed = ends 164250000 164250000 (negsuc 4) }
+    ∷ record { worked = whole 365 ⊗ entry 45 (negsuc 0); printed = bothEnds 164250000 164250000 (negsuc 4) }
     ∷ record {
       worked = whole 25 ⊗ whole 1 ⊗ entry 61 (negsuc 1) ⊗ whole 1 ⊗ whole 151 ⊗ whole 75 ⊗ entry 1 (negsuc 5) ⊘ (entry 633 (negsuc 0) ⊗ whole 27375);
-      printed = ends 996667315 996667316 (negsuc 15);
+      printed = bothEnds 996667315 996667316 (negsuc 15);
     }
     ∷ []

@@ -62,10 +62,10 @@ call products p q = calls.product p q
 call quotients p q = calls.quotient p q
 
 -- on exact fractions
-unfoldable pub exactly : Operation → Fraction → Fraction → Fraction
-exactly sums x y = exact.plus x y
-exactly products x y = exact.times x y
-exactly quotients x y = exact.over x y
+unfoldable pub exactResult : Operation → Fraction → Fraction → Fraction
+exactResult sums x y = exact.plus x y
+exactResult products x y = exact.times x y
+exactResult quotients x y = exact.over x y
 
 -- the end of the second operand that the low and the high end of the result take: a quotient's takes the other
 unfoldable pub withLow : Operation → Pair → Number
@@ -80,10 +80,10 @@ withHigh quotients q = q .low
 
 -- the exact ends, which are then rounded
 unfoldable pub lowEnd : Operation → Pair → Pair → Fraction
-lowEnd o p q = exactly o (value (p .low)) (value (withLow o q))
+lowEnd o p q = exactResult o (value (p .low)) (value (withLow o q))
 
 unfoldable pub highEnd : Operation → Pair → Pair → Fraction
-highEnd o p q = exactly o (value (p .high)) (value (withHigh o q))
+highEnd o p q = exactResult o (value (p .high)) (value (withHigh o q))
 
 -- m × 10^e as a fraction
 unfoldable pub scaled : ℕ → ℤ → Fraction

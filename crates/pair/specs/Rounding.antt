@@ -34,7 +34,8 @@ carried m e =
     (record { significand = m; exponent = e })
     (record { significand = 100000000; exponent = e +ℤ pos 1 })
 
--- n / d × 10^e with nine zeros put behind n, so that it has nine figures or more, then divided once by 10^k, k the figures beyond nine
+-- n / d × 10^e with nine zeros put behind n, so that it has nine figures or more, then divided once by 10^k, k the figures beyond nine.
+-- `Rounded` in Promises.antt says plainly what comes of it, and is promised of every call.
 unfoldable pub rounded : Bool → ℕ → ℕ → ℤ → Number
 rounded up zero d e = N.zero
 rounded up (suc n) d e =

@@ -190,7 +190,17 @@ impl Pair {
         answered(w, w)
     }
 
-    // A pair as what a call answered, to begin a chain of calls.
+    // The pair itself, if it is one.
+    pub fn checked(self) -> Answer
+        ensures { λ r. ⌜ calls.answer r ≡ calls.checked self ⌝ }
+    {
+        if is_pair(self) {
+            return Answer::Is(self);
+        }
+        Answer::Refused
+    }
+
+    // A pair as what a call answered, to begin a chain of calls: it is passed on untested, and the next call tests it.
     pub fn answer(self) -> Answer
         ensures { λ r. ⌜ calls.answer r ≡ calls.is self ⌝ }
     {
