@@ -1,0 +1,2 @@
+-- The table of slots (document 01, "Deck").
+pub mod Slots

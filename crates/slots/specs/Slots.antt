@@ -1,0 +1,118 @@
+-- The slots of each record, in deck order, by document 01's names, with their rules ("Deck"). This is the only table of them: whose record a
+-- slot stands in, its place there, whether it may be 0 or above 1, and what it may hold are read off it by name.
+-- Assumes nothing.
+use Prim.Native.Nat.{ℕ, suc, _+_, _*_}
+use Prim.Native.Char.{code}
+use Prim.Native.String.{String, [] as ε, _∷_ as _◂_}
+use mathlib.Core.Bool.{Bool, true, false, cond, not, _&&_}
+use mathlib.Core.List.{List, [], _∷_, map}
+use lib.Dec.{leb, eqb}
+use lib.ListN.{getD}
+use Rattle.slots.specs.declared.Owner.{Owner}
+use Rattle.slots.specs.declared.Owner.the-variants.{Site, Chemical, Receptor}
+use Rattle.slots.specs.declared.Rule.{Rule}
+
+-- A slot is named as in document 01.
+abbrev pub Slot : Type 0
+Slot = String
+
+-- A slot's rule: used, or a later slot, which is blank; - allowed; 0 allowed; the largest value. 1E+9 is the largest anywhere.
+abbrev pub ordinary : Rule
+ordinary = record { used = true; dash = false; zero = true; most = 1000000000 }
+
+-- never 0
+abbrev pub positive : Rule
+positive = record { used = true; dash = false; zero = false; most = 1000000000 }
+
+-- at most 1
+abbrev pub share : Rule
+share = record { used = true; dash = false; zero = true; most = 1 }
+
+-- at most 366
+abbrev pub days : Rule
+days = record { used = true; dash = false; zero = true; most = 366 }
+
+-- never 0, or -
+abbrev pub referenceValue : Rule
+referenceValue = record { used = true; dash = true; zero = false; most = 1000000000 }
+
+-- 0 too, or -
+abbrev pub slope : Rule
+slope = record { used = true; dash = true; zero = true; most = 1000000000 }
+
+-- a later slot
+abbrev pub unused : Rule
+unused = record { used = false; dash = false; zero = false; most = 0 }
+
+infix 95 _is_
+pub data Entry : Type 0 where
+  _is_ : Slot → Rule → Entry
+
+-- the slots of a record, from its first; what follows them are later slots
+unfoldable pub table : Owner → List Entry
+table Site =
+    "Zs" is positive ∷ "BD" is positive ∷ "tD" is positive ∷ "θ" is positive ∷ "Xe" is ordinary ∷ "SD" is ordinary
+    ∷ "ER" is ordinary ∷ "RO" is ordinary ∷ "R" is ordinary ∷ "VG" is share ∷ "FRsnow" is share
+    ∷ []
+table Chemical =
+    "Q" is ordinary ∷ "HgA" is share ∷ "HgD" is share ∷ "Fv" is share ∷ "Cyv" is ordinary ∷ "Cyp" is ordinary
+    ∷ "Dydv" is ordinary ∷ "Dywv" is ordinary ∷ "Dydp" is ordinary ∷ "Dywp" is ordinary ∷ "Kds" is positive ∷ "ksg" is ordinary
+    ∷ "ksv" is ordinary ∷ "Br" is ordinary ∷ "RCF" is ordinary ∷ "AFinh" is share ∷ "AForal" is share ∷ "AFderm" is share
+    ∷ "RfDo" is referenceValue ∷ "RfDi" is referenceValue ∷ "CSFo" is slope ∷ "CSFi" is slope
+    ∷ []
+table Receptor =
+    "BW" is positive ∷ "ED" is positive ∷ "ATc" is positive ∷ "IRinh" is ordinary ∷ "ETinh" is share ∷ "EFinh" is days
+    ∷ "IRsoil" is ordinary ∷ "ETsoil" is share ∷ "EFs" is days ∷ "EFw" is days ∷ "SAb" is ordinary ∷ "SAFb" is ordinary
+    ∷ "SAh" is ordinary ∷ "SAFh" is ordinary ∷ "ETderm" is share ∷ "IRag" is ordinary ∷ "Fag" is share ∷ "IRbg" is ordinary
+    ∷ "Fbg" is share ∷ "WP" is share ∷ "EFp" is days
+    ∷ []
+
+-- two names are spelled alike
+unfoldable pub same : String → String → Bool
+same ε ε = true
+same ε (d ◂ t) = false
+same (c ◂ s) ε = false
+same (c ◂ s) (d ◂ t) = cond (eqb (code c) (code d)) (same s t) false
+
+-- whether a slot is in a list, and its place there, from 0
+unfoldable pub isIn : List Entry → Slot → Bool
+isIn [] s = false
+isIn ((name is rule) ∷ rest) s = cond (same name s) true (isIn rest s)
+
+unfoldable pub placeIn : List Entry → Slot → ℕ
+placeIn [] s = 0
+placeIn ((name is rule) ∷ rest) s = cond (same name s) 0 (suc (placeIn rest s))
+
+-- the rule of a record's place, from 0
+unfoldable pub entryRule : Entry → Rule
+entryRule (name is rule) = rule
+
+unfoldable pub ruleAt : Owner → ℕ → Rule
+ruleAt o k = getD (map entryRule (table o)) k unused
+
+-- slots are filled line by line: the rules of the six fields of a record's line n, from 0
+abbrev pub fieldsPerLine : ℕ
+fieldsPerLine = 6
+
+unfoldable pub lineRules : Owner → ℕ → List Rule
+lineRules o n =
+    let k : ℕ = fieldsPerLine * n in
+    ruleAt o k ∷ ruleAt o (k + 1) ∷ ruleAt o (k + 2) ∷ ruleAt o (k + 3) ∷ ruleAt o (k + 4) ∷ ruleAt o (k + 5) ∷ []
+
+-- whose slot it is, its place in the record, and its rule
+unfoldable pub ownerOf : Slot → Owner
+ownerOf s = cond (isIn (table Site) s) Site (cond (isIn (table Chemical) s) Chemical Receptor)
+
+unfoldable pub placeOf : Slot → ℕ
+placeOf s = placeIn (table (ownerOf s)) s
+
+unfoldable pub ruleOf : Slot → Rule
+ruleOf s = ruleAt (ownerOf s) (placeOf s)
+
+-- Never 0
+unfoldable pub neverZero : Slot → Bool
+neverZero s = not (ruleOf s .zero)
+
+-- At most 1
+unfoldable pub atMostOne : Slot → Bool
+atMostOne s = leb (ruleOf s .most) 1

@@ -1,0 +1,232 @@
+//! The slots of a deck's records (document 01, "Deck"): for the code, each slot's place and rule. specs/Slots.antt is the table that both
+//! are held to.
+ghost use mathlib.Core.Path.{_≡_};
+ghost use Rattle.slots.specs.Slots.{lineRules};
+
+// Whose record a slot stands in.
+pub enum Owner {
+    Site,
+    Chemical,
+    Receptor,
+}
+
+// A slot's rule: used, or a later slot, which is blank; whether - and 0 are allowed; the largest value.
+pub struct Rule {
+    pub used: bool,
+    pub dash: bool,
+    pub zero: bool,
+    pub most: u32,
+}
+
+// Slots of a record, those that no record of its kind has included.
+pub const SLOTS: usize = 24;
+
+// Fields of a line, and so slots.
+pub const FIELDS: usize = 6;
+
+// The places of a site's slots.
+pub const ZS: usize = 0;
+
+pub const BD: usize = 1;
+
+pub const TD: usize = 2;
+
+pub const THETA: usize = 3;
+
+pub const XE: usize = 4;
+
+pub const SD: usize = 5;
+
+pub const ER: usize = 6;
+
+pub const RO: usize = 7;
+
+pub const R: usize = 8;
+
+pub const VG: usize = 9;
+
+pub const FR_SNOW: usize = 10;
+
+// A chemical's.
+pub const Q: usize = 0;
+
+pub const HG_A: usize = 1;
+
+pub const HG_D: usize = 2;
+
+pub const FV: usize = 3;
+
+pub const CYV: usize = 4;
+
+pub const CYP: usize = 5;
+
+pub const DYDV: usize = 6;
+
+pub const DYWV: usize = 7;
+
+pub const DYDP: usize = 8;
+
+pub const DYWP: usize = 9;
+
+pub const KDS: usize = 10;
+
+pub const KSG: usize = 11;
+
+pub const KSV: usize = 12;
+
+pub const BR: usize = 13;
+
+pub const RCF: usize = 14;
+
+pub const AF_INH: usize = 15;
+
+pub const AF_ORAL: usize = 16;
+
+pub const AF_DERM: usize = 17;
+
+pub const RFD_O: usize = 18;
+
+pub const RFD_I: usize = 19;
+
+pub const CSF_O: usize = 20;
+
+pub const CSF_I: usize = 21;
+
+// A receptor's.
+pub const BW: usize = 0;
+
+pub const ED: usize = 1;
+
+pub const ATC: usize = 2;
+
+pub const IR_INH: usize = 3;
+
+pub const ET_INH: usize = 4;
+
+pub const EF_INH: usize = 5;
+
+pub const IR_SOIL: usize = 6;
+
+pub const ET_SOIL: usize = 7;
+
+pub const EF_S: usize = 8;
+
+pub const EF_W: usize = 9;
+
+pub const SA_B: usize = 10;
+
+pub const SAF_B: usize = 11;
+
+pub const SA_H: usize = 12;
+
+pub const SAF_H: usize = 13;
+
+pub const ET_DERM: usize = 14;
+
+pub const IR_AG: usize = 15;
+
+pub const F_AG: usize = 16;
+
+pub const IR_BG: usize = 17;
+
+pub const F_BG: usize = 18;
+
+pub const WP: usize = 19;
+
+pub const EF_P: usize = 20;
+
+const PLAIN: Rule = Rule {
+    used: true,
+    dash: false,
+    zero: true,
+    most: 1000000000,
+};
+
+const POSITIVE: Rule = Rule {
+    used: true,
+    dash: false,
+    zero: false,
+    most: 1000000000,
+};
+
+const SHARE: Rule = Rule {
+    used: true,
+    dash: false,
+    zero: true,
+    most: 1,
+};
+
+const DAYS: Rule = Rule {
+    used: true,
+    dash: false,
+    zero: true,
+    most: 366,
+};
+
+const REFERENCE: Rule = Rule {
+    used: true,
+    dash: true,
+    zero: false,
+    most: 1000000000,
+};
+
+const SLOPE: Rule = Rule {
+    used: true,
+    dash: true,
+    zero: true,
+    most: 1000000000,
+};
+
+// A later slot.
+pub const UNUSED: Rule = Rule {
+    used: false,
+    dash: false,
+    zero: false,
+    most: 0,
+};
+
+// The rules of the six fields of a record's line, counted from 0.
+fn site_rules(line: usize) -> [Rule; FIELDS]
+    ensures { λ r. ⌜ r ≡ lineRules Owner.Site line ⌝ }
+{
+    match line {
+        0 => [POSITIVE, POSITIVE, POSITIVE, POSITIVE, PLAIN, PLAIN],
+        1 => [PLAIN, PLAIN, PLAIN, SHARE, SHARE, UNUSED],
+        _ => [UNUSED, UNUSED, UNUSED, UNUSED, UNUSED, UNUSED],
+    }
+}
+
+fn chemical_rules(line: usize) -> [Rule; FIELDS]
+    ensures { λ r. ⌜ r ≡ lineRules Owner.Chemical line ⌝ }
+{
+    match line {
+        0 => [PLAIN, SHARE, SHARE, SHARE, PLAIN, PLAIN],
+        1 => [PLAIN, PLAIN, PLAIN, PLAIN, POSITIVE, PLAIN],
+        2 => [PLAIN, PLAIN, PLAIN, SHARE, SHARE, SHARE],
+        3 => [REFERENCE, REFERENCE, SLOPE, SLOPE, UNUSED, UNUSED],
+        _ => [UNUSED, UNUSED, UNUSED, UNUSED, UNUSED, UNUSED],
+    }
+}
+
+fn receptor_rules(line: usize) -> [Rule; FIELDS]
+    ensures { λ r. ⌜ r ≡ lineRules Owner.Receptor line ⌝ }
+{
+    match line {
+        0 => [POSITIVE, POSITIVE, POSITIVE, PLAIN, SHARE, DAYS],
+        1 => [PLAIN, SHARE, DAYS, DAYS, PLAIN, PLAIN],
+        2 => [PLAIN, PLAIN, SHARE, PLAIN, SHARE, PLAIN],
+        3 => [SHARE, SHARE, DAYS, UNUSED, UNUSED, UNUSED],
+        _ => [UNUSED, UNUSED, UNUSED, UNUSED, UNUSED, UNUSED],
+    }
+}
+
+// The rules of the six fields of a record's line, counted from 0; past the record's lines all are later slots.
+pub fn rules(owner: Owner, line: usize) -> [Rule; FIELDS]
+    ensures { λ r. ⌜ r ≡ lineRules owner line ⌝ }
+{
+    match owner {
+        Owner::Site => site_rules(line),
+        Owner::Chemical => chemical_rules(line),
+        Owner::Receptor => receptor_rules(line),
+    }
+}
