@@ -1,0 +1,2 @@
+-- The crate's laws. Assumes nothing.
+mod Sums

@@ -1,0 +1,2 @@
+-- What the crate `totals` promises.
+pub mod Totals
