@@ -5,7 +5,7 @@ use mathlib.Core.Bool.{true}
 use Rattle.pair.specs.declared.Pair.{Pair}
 use Rattle.pair.specs.Fraction.{Fraction}
 use Rattle.pair.specs.Calls.{Outcome}
-use Rattle.pair.specs.Promises.{sums, products, quotients, call, exactly}
+use Rattle.pair.specs.Promises.{sums, products, quotients, call, exactResult}
 use Rattle.equations.specs.Formula.{Letter, Formula, letter, slot, constant, 1−, _⊕_, _⊗_, _⊘_, read, pairs, fractions}
 use Rattle.equations.proofs.Profile.{Profile, profiles, ofRest, Good, both, parts, good-op, good-rest, good-number}
 
@@ -15,7 +15,7 @@ profile prof f = read profiles prof f
 
 module _ (prof : Letter → Profile) (env : Letter → Outcome Pair) (vals : Letter → Fraction) (letters : (l : Letter) → prof l .answered ≡ true → Good (prof l) (env l) (vals l)) where
   pub reads-good : (f : Formula) → profile prof f .answered ≡ true → Good (profile prof f) (read pairs env f) (read fractions vals f)
-  unfolding profile read profiles pairs fractions call exactly ofRest
+  unfolding profile read profiles pairs fractions call exactResult ofRest
   reads-good (letter l) h = letters l h
   reads-good (constant m e) h = good-number m e h
   reads-good (1− s) h = good-rest (prof (slot s)) (letters (slot s) (both (prof (slot s) .answered) (prof (slot s) .share) h .0)) h

@@ -9,3 +9,4 @@ pub mod LineLaws
 pub mod Limits
 pub mod Rising
 pub mod Figures
+pub mod ValueLaws

@@ -16,18 +16,20 @@ use Rattle.pair.specs.Fraction.{Fraction, _≤ᶠ_}
 use Rattle.pair.specs.Number.{isPair, value, depth}
 use Rattle.pair.specs.Calls.{Outcome, is}
 use Rattle.pair.specs.Promises.{Holds, products, quotients}
-use Rattle.pair.proofs.Promises.{joint}
+use Rattle.pair.proofs.Promises.{joint, sixty-four-entry}
 use Rattle.equations.specs.declared.Pathway.{Pathway}
 use Rattle.equations.specs.declared.Pathway.the-variants.{Air, SoilSummer, SoilWinter, Skin, AboveGround, BelowGround}
 use Rattle.equations.specs.declared.Effect.{Effect}
 use Rattle.equations.specs.declared.Effect.the-variants.{Hazard, Cancer}
-use Rattle.equations.specs.Formula.{Slot, Letter, slot, phi, Formula, Algebra, read, pairs, fractions}
+use Rattle.slots.specs.Slots.{Slot, table, same, isIn, placeIn, entryRule, ruleAt, ownerOf, placeOf, ruleOf, neverZero, atMostOne}
+use Rattle.equations.specs.Formula.{Letter, slot, phi, Formula, Algebra, read, pairs, fractions}
 use Rattle.equations.specs.Series.{terms, pairSeries, exactSeries}
 use Rattle.equations.specs.Letters.{tD}
 use Rattle.equations.specs.Page as page
 use Rattle.equations.specs.Page.{x}
 use Rattle.equations.specs.Readings.{letters, plain, worked, exactly}
-use Rattle.equations.specs.Ranges.{siteBound, chemicalBound, receptorBound, bound, isNonzero, isShare, neverZero, atMostOne, InRange, sixtyFour}
+use Rattle.equations.specs.Ranges.{InRange, sixtyFour}
+use Rattle.equations.proofs.Limits.{at-most-whole}
 use Rattle.equations.proofs.Nearness.{Near, near-more, spread}
 use Rattle.equations.proofs.Profile.{Profile, profiles, ofNumber, positives, usable, joined, ofRest, Fits, Good, both, parts, good-number, equal-ends}
 use Rattle.equations.proofs.FormulaLaws.{profile, reads-good}
@@ -46,7 +48,7 @@ unfoldable pub ofX : Profile
 ofX = plain profiles ofSlot x
 
 pub x-profile : ofX ≡ answeredAs 215 30 false
-unfolding ofX plain read profiles letters x page.k page.u page.kse page.ksr page.ksl ofNumber joined ofRest joint spread positives usable ofSlot siteBound chemicalBound receptorBound bound isNonzero isShare neverZero atMostOne
+unfolding ofX plain read profiles letters x page.k page.u page.kse page.ksr page.ksl ofNumber joined ofRest joint spread positives usable ofSlot table same isIn placeIn entryRule ruleAt ownerOf placeOf ruleOf neverZero atMostOne
 x-profile = refl
 
 -- whether the profiles of a line say that it is answered and narrow, from φ's
@@ -72,7 +74,7 @@ phi-profile = ap seriesProfile x-profile ∙ series-profile
 
 -- The profiles of the lines, and with them of all that stands in a line.
 line-computed : (e : Effect) (p : Pathway) → lineCheck (answeredAs 57387 8675 true) e p ≡ true
-unfolding lineCheck profile read profiles letters page.line page.intake page.factor page.medium page.exposure page.B page.AT page.reference page.byRoute page.A page.C page.D page.g page.aboveGround page.belowGround x page.k page.u page.kse page.ksr page.ksl ofNumber joined ofRest joint spread positives usable ofSlot siteBound chemicalBound receptorBound bound isNonzero isShare neverZero atMostOne
+unfolding lineCheck profile read profiles letters page.line page.figureBy page.intake page.intakeBy page.factor page.medium page.byMedium page.exposure page.B page.AT page.reference page.referenceSlot page.byRoute page.A page.C page.D page.g page.aboveGround page.belowGround x page.k page.u page.kse page.ksr page.ksl ofNumber joined ofRest joint spread positives usable ofSlot table same isIn placeIn entryRule ruleAt ownerOf placeOf ruleOf neverZero atMostOne
 line-computed Hazard Air = refl
 line-computed Hazard SoilSummer = refl
 line-computed Hazard SoilWinter = refl
@@ -95,21 +97,21 @@ line-checked e p =
     (t .0, leb-true (f .width) 9300 (t .1))
 
 intake-checked : (e : Effect) (p : Pathway) → ofFormula (page.intake e p) .answered ≡ true
-unfolding page.line ofFormula profile read profiles
+unfolding page.line page.figureBy ofFormula profile read profiles
 intake-checked Hazard p = parts quotients (ofFormula (page.intake Hazard p)) (ofFormula (page.reference Hazard p)) (line-checked Hazard p .0) .first
 intake-checked Cancer p = parts products (ofFormula (page.intake Cancer p)) (ofFormula (page.reference Cancer p)) (line-checked Cancer p .0) .first
 
 factor-checked : (e : Effect) (p : Pathway) → ofFormula (page.factor e p) .answered ≡ true
-unfolding page.intake ofFormula profile read profiles
+unfolding page.intake page.intakeBy ofFormula profile read profiles
 factor-checked e p = parts products (ofFormula (page.factor e p)) (ofFormula (page.medium p)) (intake-checked e p) .first
 
 medium-checked : (p : Pathway) → ofFormula (page.medium p) .answered ≡ true
-unfolding page.intake ofFormula profile read profiles
+unfolding page.intake page.intakeBy ofFormula profile read profiles
 medium-checked p = parts products (ofFormula (page.factor Hazard p)) (ofFormula (page.medium p)) (intake-checked Hazard p) .second
 
 -- C is D × tD × g.
 soil-checked : (ofFormula page.D .answered ≡ true) × (ofFormula page.g .answered ≡ true)
-unfolding page.medium page.C ofFormula profile read profiles
+unfolding page.medium page.byMedium page.C ofFormula profile read profiles
 soil-checked =
     let a = parts products (joined products (ofFormula page.D) (ofFormula tD)) (ofFormula page.g) (medium-checked SoilSummer) in
     (parts products (ofFormula page.D) (ofFormula tD) (a .first) .first, a .second)
@@ -125,6 +127,11 @@ pub record Works (env : Slot → Pair) (vals : Slot → Fraction) (f : Formula) 
 pub x-plain : {A : Type 0} (alg : Algebra A) (env : Slot → A) (series : A) → read alg (letters env series) x ≡ plain alg env x
 unfolding plain read letters x page.k page.u page.kse page.ksr page.ksl
 x-plain alg env series = refl
+
+-- 6.4E+1 is 64.
+sixty-four : (p : Pair) → value (p .high) ≤ᶠ value sixtyFour → value (p .high) ≤ᶠ record { num = 64; den = 1 }
+unfolding sixtyFour
+sixty-four p h = at-most-whole 64 (record { low = sixtyFour; high = sixtyFour }) sixty-four-entry (p .high) .0 h
 
 -- Inputs in range are pairs that fit their slots' profiles.
 module _ (env : Slot → Pair) (vals : Slot → Fraction) (inputs : (s : Slot) → InRange s (env s) (vals s)) where
@@ -163,13 +170,13 @@ module _ (env : Slot → Pair) (vals : Slot → Fraction) (inputs : (s : Slot) �
   x-answered = (x-good .answer, x-good .told, x-good .fits .pair, x-good .held)
 
   -- What follows holds where x's high end is at most 64.
-  module _ (p : Pair) (told : plain pairs (λ s. is (env s)) x ≡ is p) (most : value (p .high) ≤ᶠ sixtyFour) where
+  module _ (p : Pair) (told : plain pairs (λ s. is (env s)) x ≡ is p) (most : value (p .high) ≤ᶠ value sixtyFour) where
     phi-good : (N : ℕ) → 256 ≤ N → ofPhi .answered ≡ true → Good ofPhi (pairSeries (plain pairs (λ s. is (env s)) x)) (exactSeries N (plain fractions vals x))
-    unfolding ofPhi sixtyFour
+    unfolding ofPhi
     phi-good N n h =
         let i : is (x-good .answer) ≡ is p = sym (x-good .told) ∙ told in
         let e : p ≡ x-good .answer = cc in
-        series-good ofX x-good (subst (λ (q : Pair). value (q .high) ≤ᶠ record { num = 64; den = 1 }) e most) h N n
+        series-good ofX x-good (subst (λ (q : Pair). value (q .high) ≤ᶠ record { num = 64; den = 1 }) e (sixty-four p most)) h N n
 
     worked-good : (f : Formula) → ofFormula f .answered ≡ true → (N : ℕ) → 256 ≤ N → Good (ofFormula f) (worked env f) (exactly N vals f)
     unfolding ofFormula worked exactly
@@ -214,19 +221,19 @@ module _ (env : Slot → Pair) (vals : Slot → Fraction) (inputs : (s : Slot) �
     g-works = formula-works page.g (soil-checked .1)
 
     pub A-works : (r : Pair) × Works env vals page.A r
-    unfolding page.medium
+    unfolding page.medium page.byMedium
     A-works = medium-works Air
 
     pub C-works : (r : Pair) × Works env vals page.C r
-    unfolding page.medium
+    unfolding page.medium page.byMedium
     C-works = medium-works SoilSummer
 
     pub aboveGround-works : (r : Pair) × Works env vals page.aboveGround r
-    unfolding page.medium
+    unfolding page.medium page.byMedium
     aboveGround-works = medium-works AboveGround
 
     pub belowGround-works : (r : Pair) × Works env vals page.belowGround r
-    unfolding page.medium
+    unfolding page.medium page.byMedium
     belowGround-works = medium-works BelowGround
 
 -- A line's high end is at most its low end and one part in 5,000 more.

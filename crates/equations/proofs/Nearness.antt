@@ -10,7 +10,7 @@ use lib.Pow.{pow-add}
 use Rattle.pair.specs.declared.Number.{Number}
 use Rattle.pair.specs.Fraction.{Fraction, Proper, _≤ᶠ_, plus, times, over}
 use Rattle.pair.specs.Number.{value}
-use Rattle.pair.specs.Promises.{Operation, sums, products, quotients, exactly, Rounded, Close, grown}
+use Rattle.pair.specs.Promises.{Operation, sums, products, quotients, exactResult, Rounded, Close, grown}
 
 -- x is at most y with w parts in 10^8 more
 pub record Near (w : ℕ) (x y : Fraction) : Type 0 where
@@ -65,8 +65,8 @@ NearAlong sums w y y' = Near w y y'
 NearAlong products w y y' = Near w y y'
 NearAlong quotients w y y' = Near w y' y
 
-pub near-exactly : (o : Operation) (v w : ℕ) {x x' : Fraction} (y y' : Fraction) → Near v x x' → NearAlong o w y y' → Near (spread o v w) (exactly o x y) (exactly o x' y')
-unfolding spread NearAlong exactly plus times over
+pub near-exactly : (o : Operation) (v w : ℕ) {x x' : Fraction} (y y' : Fraction) → Near v x x' → NearAlong o w y y' → Near (spread o v w) (exactResult o x y) (exactResult o x' y')
+unfolding spread NearAlong exactResult plus times over
 near-exactly sums v w {x} {x'} y y' h k =
     let a : Near (max v w) x x' = near-more (le-max-left v w) h in
     let b : Near (max v w) y y' = near-more (le-max-right v w) k in

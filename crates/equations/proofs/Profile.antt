@@ -17,7 +17,7 @@ use Rattle.pair.specs.declared.Pair.{Pair}
 use Rattle.pair.specs.Fraction.{Fraction, Proper, _≤ᶠ_, plus, times, over, rest}
 use Rattle.pair.specs.Number.{isPair, value, place, depth}
 use Rattle.pair.specs.Calls.{Outcome, is, after, afterOne, entry, oneMinus}
-use Rattle.pair.specs.Promises.{Operation, sums, products, quotients, call, exactly, lowEnd, highEnd, withLow, withHigh, Holds, Sized, scaled}
+use Rattle.pair.specs.Promises.{Operation, sums, products, quotients, call, exactResult, lowEnd, highEnd, withLow, withHigh, Holds, Sized, scaled}
 use Rattle.pair.proofs.Promises as promises
 use Rattle.pair.proofs.Promises.{Within, Usable, joint, value-proper, answered-within, rounds, ends-proper, pair-again, holds}
 use Rattle.equations.specs.Formula.{Algebra}
@@ -121,7 +121,7 @@ value-above w = value-proper w .above-zero
 -- The exact low end of a result is above 0 where its operands' profiles say so.
 low-above : (o : Operation) (s t : Bool) (p q : Pair) → positives o s t ≡ true →
     (s ≡ true → 0 < value (p .low) .num) → (t ≡ true → 0 < value (q .low) .num) → 0 < lowEnd o p q .num
-unfolding positives lowEnd withLow exactly plus times over
+unfolding positives lowEnd withLow exactResult plus times over
 low-above sums s t p q h a b = go (either s t h)
   where
     go : (s ≡ true) ⊎ (t ≡ true) → 0 < value (p .low) .num * value (q .low) .den + value (q .low) .num * value (p .low) .den
@@ -154,7 +154,7 @@ wide-op o v w p q r h a b =
 
 -- Sums, products and quotients.
 pub good-op : (o : Operation) (P Q : Profile) {f g : Outcome Pair} {x y : Fraction} → Good P f x → Good Q g y → joined o P Q .answered ≡ true →
-    Good (joined o P Q) (after (call o) f g) (exactly o x y)
+    Good (joined o P Q) (after (call o) f g) (exactResult o x y)
 unfolding joined after
 good-op o P Q {x} {y} a b h =
     let p : Pair = a .answer in

@@ -14,8 +14,8 @@ use Rattle.equations.specs.declared.Pathway.{Pathway}
 use Rattle.equations.specs.declared.Pathway.the-variants.{Air, SoilSummer, SoilWinter, Skin, AboveGround, BelowGround}
 use Rattle.equations.specs.declared.Effect.{Effect}
 use Rattle.equations.specs.declared.Effect.the-variants.{Hazard, Cancer}
-use Rattle.equations.specs.Formula as slots
-use Rattle.equations.specs.Formula.{ChemicalSlot, Slot, site, chemical, receptor, phi, Letter, slot, Formula, letter, constant, 1−, _⊕_, _⊗_, _⊘_, read, pairs}
+use Rattle.slots.specs.Slots.{Slot, same}
+use Rattle.equations.specs.Formula.{phi, Letter, slot, Formula, letter, constant, 1−, _⊕_, _⊗_, _⊘_, read, pairs}
 use Rattle.equations.specs.Series.{pairSeries}
 use Rattle.equations.specs.Page as page
 use Rattle.equations.specs.Page.{x}
@@ -63,12 +63,12 @@ operands f (refused n) y r h = absurd (never h)
 same-pair : {o : Outcome Pair} (p q : Pair) → o ≡ is p → o ≡ is q → p ≡ q
 same-pair p q h k = cc
 
-module _ (mark : Letter → Bool) (env env' : Letter → Outcome Pair) (same : (l : Letter) → mark l ≡ false → env l ≡ env' l) (risen : (l : Letter) (p p' : Pair) → env l ≡ is p → env' l ≡ is p' → _≤ₑ_ p p') where
+module _ (mark : Letter → Bool) (env env' : Letter → Outcome Pair) (alike : (l : Letter) → mark l ≡ false → env l ≡ env' l) (risen : (l : Letter) (p p' : Pair) → env l ≡ is p → env' l ≡ is p' → _≤ₑ_ p p') where
   pub steady-same : (f : Formula) → steady mark f ≡ true → read pairs env f ≡ read pairs env' f
   unfolding steady read pairs
-  steady-same (letter l) h = same l (not-true (mark l) h)
+  steady-same (letter l) h = alike l (not-true (mark l) h)
   steady-same (constant m e) h = refl
-  steady-same (1− s) h = ap (afterOne oneMinus) (same (slot s) (not-true (mark (slot s)) h))
+  steady-same (1− s) h = ap (afterOne oneMinus) (alike (slot s) (not-true (mark (slot s)) h))
   steady-same (f ⊕ g) h = let t = both (steady mark f) (steady mark g) h in ap₂ (after sum) (steady-same f (t .0)) (steady-same g (t .1))
   steady-same (f ⊗ g) h = let t = both (steady mark f) (steady mark g) h in ap₂ (after product) (steady-same f (t .0)) (steady-same g (t .1))
   steady-same (f ⊘ g) h = let t = both (steady mark f) (steady mark g) h in ap₂ (after quotient) (steady-same f (t .0)) (steady-same g (t .1))
@@ -78,7 +78,7 @@ module _ (mark : Letter → Bool) (env env' : Letter → Outcome Pair) (same : (
   formula-rises (letter l) h r r' a b = risen l r r' a b
   formula-rises (constant m e) h r r' a b = rw (same-pair r r' a b) (ends-itself r')
   formula-rises (1− s) h r r' a b =
-      rw (same-pair r r' (sym (ap (afterOne oneMinus) (same (slot s) (not-true (mark (slot s)) h))) ∙ a) b) (ends-itself r')
+      rw (same-pair r r' (sym (ap (afterOne oneMinus) (alike (slot s) (not-true (mark (slot s)) h))) ∙ a) b) (ends-itself r')
   formula-rises (f ⊕ g) h r r' a b =
       let t = both (rising mark f) (rising mark g) h in
       let c = operands sum (read pairs env f) (read pairs env g) r a in
@@ -103,10 +103,10 @@ module _ (mark : Letter → Bool) (env env' : Letter → Outcome Pair) (same : (
       (rw e (ends-itself (c .second)))
 
 -- Where the marked slots do not stand in x, a formula rises with them as it is worked.
-module _ (mark : Slot → Bool) (free : steady (letters mark false) x ≡ true) (env env' : Slot → Pair) (same : (s : Slot) → mark s ≡ false → env s ≡ env' s) (risen : (s : Slot) → _≤ₑ_ (env s) (env' s)) where
+module _ (mark : Slot → Bool) (free : steady (letters mark false) x ≡ true) (env env' : Slot → Pair) (alike : (s : Slot) → mark s ≡ false → env s ≡ env' s) (risen : (s : Slot) → _≤ₑ_ (env s) (env' s)) where
   letter-same : (o o' : Outcome Pair) → o ≡ o' → (l : Letter) → letters mark false l ≡ false → letters (λ s. is (env s)) o l ≡ letters (λ s. is (env' s)) o' l
   unfolding letters
-  letter-same o o' e (slot s) h = ap (λ (p : Pair). is p) (same s h)
+  letter-same o o' e (slot s) h = ap (λ (p : Pair). is p) (alike s h)
   letter-same o o' e phi h = e
 
   letter-risen : (o o' : Outcome Pair) → o ≡ o' → (l : Letter) (p p' : Pair) → letters (λ s. is (env s)) o l ≡ is p → letters (λ s. is (env' s)) o' l ≡ is p' → _≤ₑ_ p p'
@@ -132,41 +132,15 @@ module _ (mark : Slot → Bool) (free : steady (letters mark false) x ≡ true) 
       formula-rises (letters mark false) (letters (λ s. is (env s)) o) (letters (λ s. is (env' s)) o') (letter-same o o' e) (letter-risen o o' e) f h r r' a b
 
 -- The emission rate Q
-unfoldable pub isEmission : ChemicalSlot → Bool
-isEmission slots.q = true
-isEmission slots.hgA = false
-isEmission slots.hgD = false
-isEmission slots.fv = false
-isEmission slots.cyv = false
-isEmission slots.cyp = false
-isEmission slots.dydv = false
-isEmission slots.dywv = false
-isEmission slots.dydp = false
-isEmission slots.dywp = false
-isEmission slots.kds = false
-isEmission slots.ksg = false
-isEmission slots.ksv = false
-isEmission slots.br = false
-isEmission slots.rcf = false
-isEmission slots.afInh = false
-isEmission slots.afOral = false
-isEmission slots.afDerm = false
-isEmission slots.rfdO = false
-isEmission slots.rfdI = false
-isEmission slots.csfO = false
-isEmission slots.csfI = false
-
 unfoldable pub emission : Slot → Bool
-emission (site s) = false
-emission (chemical s) = isEmission s
-emission (receptor s) = false
+emission s = same "Q" s
 
 x-steady : steady (letters emission false) x ≡ true
-unfolding steady letters emission isEmission x page.k page.u page.kse page.ksr page.ksl
+unfolding steady letters emission same x page.k page.u page.kse page.ksr page.ksl
 x-steady = refl
 
 line-rising : (e : Effect) (p : Pathway) → rising (letters emission false) (page.line e p) ≡ true
-unfolding rising steady letters emission isEmission page.line page.intake page.factor page.medium page.exposure page.B page.AT page.reference page.byRoute page.A page.C page.D page.g page.aboveGround page.belowGround x page.k page.u page.kse page.ksr page.ksl
+unfolding rising steady letters emission same page.line page.figureBy page.intake page.intakeBy page.factor page.medium page.byMedium page.exposure page.B page.AT page.reference page.referenceSlot page.byRoute page.A page.C page.D page.g page.aboveGround page.belowGround x page.k page.u page.kse page.ksr page.ksl
 line-rising Hazard Air = refl
 line-rising Hazard SoilSummer = refl
 line-rising Hazard SoilWinter = refl

@@ -13,11 +13,11 @@ use borrow.Author.Tests.{leb-true}
 use Rattle.pair.specs.declared.Pair.{Pair}
 use Rattle.pair.specs.Fraction.{Fraction, Proper, _≤ᶠ_, plus}
 use Rattle.pair.specs.Number as numbers
-use Rattle.pair.specs.Number.{isNumber, isPair, atMost, value}
+use Rattle.pair.specs.Number.{isPair, value}
 use Rattle.pair.specs.Calls.{Outcome, is, after, afterOne, zeroPair}
-use Rattle.pair.specs.Promises.{sums, products, quotients, call, exactly, lowEnd, highEnd, withLow, withHigh, Holds}
+use Rattle.pair.specs.Promises.{sums, products, quotients, call, exactResult, lowEnd, highEnd, withLow, withHigh, Holds}
 use Rattle.pair.proofs.Promises as promises
-use Rattle.pair.proofs.Promises.{Within, Usable, joint, value-proper, through, at-most, zero-pair, answered-within, rounds, ends-proper, pair-again, holds}
+use Rattle.pair.proofs.Promises.{Within, Usable, joint, value-proper, through, ordered, pair-from, zero-pair, answered-within, rounds, ends-proper, pair-again, holds}
 use Rattle.equations.specs.Formula.{pairs, fractions}
 use Rattle.equations.specs.Series.{terms, fromZero, pairSeries, exactSeries}
 use Rattle.equations.proofs.Nearness.{Near, near-from, near-through, near-above, near-down, near-up}
@@ -27,7 +27,7 @@ use Rattle.equations.proofs.Tail.{term, total, total-proper, total-one,
 -- The n-th term and the n-th sum.
 pub terms-good : (P : Profile) {o : Outcome Pair} {x : Fraction} → Good P o x → (n : ℕ) → terms profiles P n .total .answered ≡ true →
     Good (terms profiles P n .term) (terms pairs o n .term) (term x n) × Good (terms profiles P n .total) (terms pairs o n .total) (total x n)
-unfolding terms profiles pairs fractions call exactly
+unfolding terms profiles pairs fractions call exactResult
 terms-good P g zero h = (good-number 1 (pos 0) h, good-number 1 (pos 0) h)
 terms-good P g (suc n) h =
     let before : Profile = terms profiles P n .term in
@@ -66,13 +66,9 @@ above-zero : Pair → Pair
 above-zero p = record { low = numbers.zero; high = p .high }
 
 above-zero-pair : (p : Pair) → isPair p ≡ true → isPair (above-zero p) ≡ true
-unfolding isPair above-zero zeroPair
+unfolding above-zero zeroPair
 above-zero-pair p h =
-    let a = both (isNumber (p .low)) (isNumber (p .high) && atMost (p .low) (p .high)) h .1 in
-    let n : isNumber (p .high) ≡ true = both (isNumber (p .high)) (atMost (p .low) (p .high)) a .0 in
-    let z : isNumber numbers.zero ≡ true =
-    both (isNumber numbers.zero) (isNumber numbers.zero && atMost numbers.zero numbers.zero) (zero-pair .0) .0 in
-    rw (z, n, at-most numbers.zero (p .high) z n .1 (zero-below (value (p .high))))
+    pair-from (above-zero p) (record { low = ordered zeroPair (zero-pair .0) .low; high = ordered p h .high; rising = zero-below (value (p .high)) })
 
 above-zero-within : (k : ℕ) (p : Pair) → Within k p → Within k (above-zero p)
 unfolding above-zero
@@ -125,22 +121,22 @@ module _ (P : Profile) (T t : Pair) (x : Fraction) (l : Last P T t x) where
       (l .whole .pair) (above-zero-pair t (l .last .pair)) tt (l .whole .within) (above-zero-within (terms profiles P 255 .term .size) t (l .last .within)) (l .size)
 
   phi-least : (r : Pair) → call sums T (above-zero t) ≡ is r → value (r .low) ≤ᶠ total x 255
-  unfolding exactly plus zero-fraction
+  unfolding exactResult plus zero-fraction
   phi-least r h =
       let z : zero-fraction ≤ᶠ term x 255 = record { across = omega arith } in
-      let a : Holds r (exactly sums (total x 255) zero-fraction) =
+      let a : Holds r (exactResult sums (total x 255) zero-fraction) =
       holds sums T (above-zero t) r (total x 255) zero-fraction h (l .whole-held)
       (above-zero-holds t (l .last-held) (record { above-zero = lit< tt }) z) in
       through (a .proper) (a .low) (record { across = omega arith })
 
   phi-most : (r : Pair) → call sums T (above-zero t) ≡ is r → plus (total x 255) (term x 255) ≤ᶠ value (r .high)
-  unfolding exactly
+  unfolding exactResult
   phi-most r h =
       holds sums T (above-zero t) r (total x 255) (term x 255) h (l .whole-held)
       (above-zero-holds t (l .last-held) (l .last-held .proper) (promises.below-itself (term x 255))) .high
 
   phi-wide : (r : Pair) → call sums T (above-zero t) ≡ is r → Near (terms profiles P 255 .total .width + 3) (value (r .high)) (value (r .low))
-  unfolding lowEnd highEnd withLow withHigh exactly above-zero
+  unfolding lowEnd highEnd withLow withHigh exactResult above-zero
   phi-wide r h =
       let w : ℕ = terms profiles P 255 .total .width in
       let d = rounds sums T (above-zero t) r h in
@@ -183,7 +179,7 @@ module _ (P : Profile) (T t : Pair) (x : Fraction) (l : Last P T t x) where
       }
     where
       above : 0 < value (T .low) .num → 0 < value (r .low) .num
-      above y = unfold lowEnd withLow exactly plus above-zero in
+      above y = unfold lowEnd withLow exactResult plus above-zero in
           near-above (value-proper (r .low)) (near-down (rounds sums T (above-zero t) r h .0))
           (omega (arith, mul-pos y (value-proper numbers.zero .above-zero)))
 

@@ -6,21 +6,7 @@ use Rattle.pair.specs.Fraction as exact
 use Rattle.pair.specs.Fraction.{Fraction}
 use Rattle.pair.specs.Calls.{Outcome, after, afterOne, entry, sum, product, quotient, oneMinus}
 use Rattle.pair.specs.Promises.{scaled}
-
--- The slots of a deck's records, in deck order.
-pub data SiteSlot : Type 0 where
-  zs bd td theta xe sd er ro r vg frSnow : SiteSlot
-
-pub data ChemicalSlot : Type 0 where
-  q hgA hgD fv cyv cyp dydv dywv dydp dywp kds ksg ksv br rcf afInh afOral afDerm rfdO rfdI csfO csfI : ChemicalSlot
-
-pub data ReceptorSlot : Type 0 where
-  bw ed atC irInh etInh efInh irSoil etSoil efS efW saB safB saH safH etDerm irAg fAg irBg fBg wp efP : ReceptorSlot
-
-pub data Slot : Type 0 where
-  site : SiteSlot → Slot
-  chemical : ChemicalSlot → Slot
-  receptor : ReceptorSlot → Slot
+use Rattle.slots.specs.Slots.{Slot}
 
 -- A letter stands for the value of a slot, or for the series φ at x.
 pub data Letter : Type 0 where

@@ -1,171 +1,158 @@
--- Document 01's letters, for the page of formulas.
-use Rattle.equations.specs.Formula as slots
-use Rattle.equations.specs.Formula.{Formula, letter, slot, site, chemical, receptor, phi}
+-- Document 01's letters, for the page of formulas: each stands for the slot of its own name in the table of slots.
+use Rattle.equations.specs.Formula.{Formula, letter, slot, phi}
 
 -- Site
 abbrev pub Zs : Formula
-Zs = letter (slot (site slots.zs))
+Zs = letter (slot "Zs")
 
 abbrev pub BD : Formula
-BD = letter (slot (site slots.bd))
+BD = letter (slot "BD")
 
 abbrev pub tD : Formula
-tD = letter (slot (site slots.td))
+tD = letter (slot "tD")
 
 abbrev pub θ : Formula
-θ = letter (slot (site slots.theta))
+θ = letter (slot "θ")
 
 abbrev pub Xe : Formula
-Xe = letter (slot (site slots.xe))
+Xe = letter (slot "Xe")
 
 abbrev pub SD : Formula
-SD = letter (slot (site slots.sd))
+SD = letter (slot "SD")
 
 abbrev pub ER : Formula
-ER = letter (slot (site slots.er))
+ER = letter (slot "ER")
 
 abbrev pub RO : Formula
-RO = letter (slot (site slots.ro))
+RO = letter (slot "RO")
 
 abbrev pub R : Formula
-R = letter (slot (site slots.r))
+R = letter (slot "R")
 
 abbrev pub VG : Formula
-VG = letter (slot (site slots.vg))
+VG = letter (slot "VG")
 
 abbrev pub FRsnow : Formula
-FRsnow = letter (slot (site slots.frSnow))
+FRsnow = letter (slot "FRsnow")
 
 -- Chemical
 abbrev pub Q : Formula
-Q = letter (slot (chemical slots.q))
+Q = letter (slot "Q")
 
 abbrev pub HgA : Formula
-HgA = letter (slot (chemical slots.hgA))
+HgA = letter (slot "HgA")
 
 abbrev pub HgD : Formula
-HgD = letter (slot (chemical slots.hgD))
+HgD = letter (slot "HgD")
 
 abbrev pub Fv : Formula
-Fv = letter (slot (chemical slots.fv))
+Fv = letter (slot "Fv")
 
 abbrev pub Cyv : Formula
-Cyv = letter (slot (chemical slots.cyv))
+Cyv = letter (slot "Cyv")
 
 abbrev pub Cyp : Formula
-Cyp = letter (slot (chemical slots.cyp))
+Cyp = letter (slot "Cyp")
 
 abbrev pub Dydv : Formula
-Dydv = letter (slot (chemical slots.dydv))
+Dydv = letter (slot "Dydv")
 
 abbrev pub Dywv : Formula
-Dywv = letter (slot (chemical slots.dywv))
+Dywv = letter (slot "Dywv")
 
 abbrev pub Dydp : Formula
-Dydp = letter (slot (chemical slots.dydp))
+Dydp = letter (slot "Dydp")
 
 abbrev pub Dywp : Formula
-Dywp = letter (slot (chemical slots.dywp))
+Dywp = letter (slot "Dywp")
 
 abbrev pub Kds : Formula
-Kds = letter (slot (chemical slots.kds))
+Kds = letter (slot "Kds")
 
 abbrev pub ksg : Formula
-ksg = letter (slot (chemical slots.ksg))
+ksg = letter (slot "ksg")
 
 abbrev pub ksv : Formula
-ksv = letter (slot (chemical slots.ksv))
+ksv = letter (slot "ksv")
 
 abbrev pub Br : Formula
-Br = letter (slot (chemical slots.br))
+Br = letter (slot "Br")
 
 abbrev pub RCF : Formula
-RCF = letter (slot (chemical slots.rcf))
+RCF = letter (slot "RCF")
 
 abbrev pub AFinh : Formula
-AFinh = letter (slot (chemical slots.afInh))
+AFinh = letter (slot "AFinh")
 
 abbrev pub AForal : Formula
-AForal = letter (slot (chemical slots.afOral))
+AForal = letter (slot "AForal")
 
 abbrev pub AFderm : Formula
-AFderm = letter (slot (chemical slots.afDerm))
-
-abbrev pub RfDo : Formula
-RfDo = letter (slot (chemical slots.rfdO))
-
-abbrev pub RfDi : Formula
-RfDi = letter (slot (chemical slots.rfdI))
-
-abbrev pub CSFo : Formula
-CSFo = letter (slot (chemical slots.csfO))
-
-abbrev pub CSFi : Formula
-CSFi = letter (slot (chemical slots.csfI))
+AFderm = letter (slot "AFderm")
 
 -- Receptor
 abbrev pub BW : Formula
-BW = letter (slot (receptor slots.bw))
+BW = letter (slot "BW")
 
 abbrev pub ED : Formula
-ED = letter (slot (receptor slots.ed))
+ED = letter (slot "ED")
 
 abbrev pub ATc : Formula
-ATc = letter (slot (receptor slots.atC))
+ATc = letter (slot "ATc")
 
 abbrev pub IRinh : Formula
-IRinh = letter (slot (receptor slots.irInh))
+IRinh = letter (slot "IRinh")
 
 abbrev pub ETinh : Formula
-ETinh = letter (slot (receptor slots.etInh))
+ETinh = letter (slot "ETinh")
 
 abbrev pub EFinh : Formula
-EFinh = letter (slot (receptor slots.efInh))
+EFinh = letter (slot "EFinh")
 
 abbrev pub IRsoil : Formula
-IRsoil = letter (slot (receptor slots.irSoil))
+IRsoil = letter (slot "IRsoil")
 
 abbrev pub ETsoil : Formula
-ETsoil = letter (slot (receptor slots.etSoil))
+ETsoil = letter (slot "ETsoil")
 
 abbrev pub EFs : Formula
-EFs = letter (slot (receptor slots.efS))
+EFs = letter (slot "EFs")
 
 abbrev pub EFw : Formula
-EFw = letter (slot (receptor slots.efW))
+EFw = letter (slot "EFw")
 
 abbrev pub SAb : Formula
-SAb = letter (slot (receptor slots.saB))
+SAb = letter (slot "SAb")
 
 abbrev pub SAFb : Formula
-SAFb = letter (slot (receptor slots.safB))
+SAFb = letter (slot "SAFb")
 
 abbrev pub SAh : Formula
-SAh = letter (slot (receptor slots.saH))
+SAh = letter (slot "SAh")
 
 abbrev pub SAFh : Formula
-SAFh = letter (slot (receptor slots.safH))
+SAFh = letter (slot "SAFh")
 
 abbrev pub ETderm : Formula
-ETderm = letter (slot (receptor slots.etDerm))
+ETderm = letter (slot "ETderm")
 
 abbrev pub IRag : Formula
-IRag = letter (slot (receptor slots.irAg))
+IRag = letter (slot "IRag")
 
 abbrev pub Fag : Formula
-Fag = letter (slot (receptor slots.fAg))
+Fag = letter (slot "Fag")
 
 abbrev pub IRbg : Formula
-IRbg = letter (slot (receptor slots.irBg))
+IRbg = letter (slot "IRbg")
 
 abbrev pub Fbg : Formula
-Fbg = letter (slot (receptor slots.fBg))
+Fbg = letter (slot "Fbg")
 
 abbrev pub WP : Formula
-WP = letter (slot (receptor slots.wp))
+WP = letter (slot "WP")
 
 abbrev pub EFp : Formula
-EFp = letter (slot (receptor slots.efP))
+EFp = letter (slot "EFp")
 
 -- the series at x
 abbrev pub φ : Formula

@@ -5,13 +5,13 @@ use Rattle.equations.specs.declared.Pathway.{Pathway}
 use Rattle.equations.specs.declared.Pathway.the-variants.{Air, SoilSummer, SoilWinter, Skin, AboveGround, BelowGround}
 use Rattle.equations.specs.declared.Effect.{Effect}
 use Rattle.equations.specs.declared.Effect.the-variants.{Hazard, Cancer}
-use Rattle.equations.specs.Formula as formulas
-use Rattle.equations.specs.Formula.{Formula, constant, 1−, _⊕_, _⊗_, _⊘_}
-use Rattle.equations.specs.Letters.{Zs, BD, tD, θ, Xe, SD, ER, RO, R, VG, FRsnow, Q, HgA, HgD, Fv, Cyv, Cyp, Dydv, Dywv, Dydp, Dywp, Kds, ksg, ksv, Br, RCF, AFinh, AForal, AFderm, RfDo, RfDi, CSFo, CSFi, BW, ED, ATc, IRinh, ETinh, EFinh, IRsoil, ETsoil, EFs, EFw, SAb, SAFb, SAh, SAFh, ETderm, IRag, Fag, IRbg, Fbg, WP, EFp, φ}
+use Rattle.slots.specs.Slots.{Slot}
+use Rattle.equations.specs.Formula.{Formula, letter, slot, constant, 1−, _⊕_, _⊗_, _⊘_}
+use Rattle.equations.specs.Letters.{Zs, BD, tD, θ, Xe, SD, ER, RO, R, VG, FRsnow, Q, HgA, HgD, Fv, Cyv, Cyp, Dydv, Dywv, Dydp, Dywp, Kds, ksg, ksv, Br, RCF, AFinh, AForal, AFderm, BW, ED, ATc, IRinh, ETinh, EFinh, IRsoil, ETsoil, EFs, EFw, SAb, SAFb, SAh, SAFh, ETderm, IRag, Fag, IRbg, Fbg, WP, EFp, φ}
 
 -- Constants: 1, 0.1, 100, 1000, 365 and 0.000001
-abbrev pub one : Formula
-one = constant 1 (pos 0)
+abbrev pub unity : Formula
+unity = constant 1 (pos 0)
 
 abbrev pub tenth : Formula
 tenth = constant 1 (negsuc 0)
@@ -30,7 +30,7 @@ perMillion = constant 1 (negsuc 5)
 
 -- 1 − Fv, the particle share
 abbrev pub 1−Fv : Formula
-1−Fv = 1− (formulas.chemical formulas.fv)
+1−Fv = 1− "Fv"
 
 -- Loss and series
 unfoldable pub u : Formula
@@ -40,10 +40,10 @@ unfoldable pub kse : Formula
 kse = tenth ⊗ Xe ⊗ SD ⊗ ER ⊘ (BD ⊗ Zs) ⊗ u ⊘ (θ ⊕ u)
 
 unfoldable pub ksr : Formula
-ksr = RO ⊘ (θ ⊗ Zs) ⊘ (one ⊕ u ⊘ θ)
+ksr = RO ⊘ (θ ⊗ Zs) ⊘ (unity ⊕ u ⊘ θ)
 
 unfoldable pub ksl : Formula
-ksl = R ⊘ (θ ⊗ Zs) ⊘ (one ⊕ u ⊘ θ)
+ksl = R ⊘ (θ ⊗ Zs) ⊘ (unity ⊕ u ⊘ θ)
 
 unfoldable pub k : Formula
 k = ksg ⊕ kse ⊕ ksr ⊕ ksl ⊕ ksv
@@ -53,7 +53,7 @@ x = k ⊗ tD
 
 -- φ is the series at x (Series.antt)
 unfoldable pub g : Formula
-g = one ⊘ (one ⊘ φ ⊕ x)
+g = unity ⊘ (unity ⊘ φ ⊕ x)
 
 -- Media: air in mg/m³, yearly deposition, soil and produce in mg/kg
 unfoldable pub A : Formula
@@ -91,19 +91,27 @@ exposure BelowGround = IRbg ⊗ Fbg ⊗ WP ⊗ AForal ⊗ EFp ⊗ ED
 unfoldable pub factor : Effect → Pathway → Formula
 factor e p = exposure p ⊘ B e
 
+-- A for 1, C for 2 to 4, the produce for 5 and 6
+unfoldable pub byMedium : {A : Type 0} → Pathway → A → A → A → A → A
+byMedium Air air soil above below = air
+byMedium SoilSummer air soil above below = soil
+byMedium SoilWinter air soil above below = soil
+byMedium Skin air soil above below = soil
+byMedium AboveGround air soil above below = above
+byMedium BelowGround air soil above below = below
+
 unfoldable pub medium : Pathway → Formula
-medium Air = A
-medium SoilSummer = C
-medium SoilWinter = C
-medium Skin = C
-medium AboveGround = aboveGround
-medium BelowGround = belowGround
+medium p = byMedium p A C aboveGround belowGround
+
+-- Intake = intake factor × its medium, in any reading of ×
+unfoldable pub intakeBy : {A : Type 0} → (A → A → A) → A → A → A
+intakeBy times factor medium = times factor medium
 
 unfoldable pub intake : Effect → Pathway → Formula
-intake e p = factor e p ⊗ medium p
+intake e p = intakeBy _⊗_ (factor e p) (medium p)
 
 -- Pathway 1 takes RfDi and CSFi, the rest RfDo and CSFo.
-unfoldable pub byRoute : Pathway → Formula → Formula → Formula
+unfoldable pub byRoute : {A : Type 0} → Pathway → A → A → A
 byRoute Air inhaled oral = inhaled
 byRoute SoilSummer inhaled oral = oral
 byRoute SoilWinter inhaled oral = oral
@@ -111,11 +119,17 @@ byRoute Skin inhaled oral = oral
 byRoute AboveGround inhaled oral = oral
 byRoute BelowGround inhaled oral = oral
 
-unfoldable pub reference : Effect → Pathway → Formula
-reference Hazard p = byRoute p RfDi RfDo
-reference Cancer p = byRoute p CSFi CSFo
+unfoldable pub referenceSlot : Effect → Pathway → Slot
+referenceSlot Hazard p = byRoute p "RfDi" "RfDo"
+referenceSlot Cancer p = byRoute p "CSFi" "CSFo"
 
--- Quotient = intake / RfD; risk = intake × CSF.
+unfoldable pub reference : Effect → Pathway → Formula
+reference e p = letter (slot (referenceSlot e p))
+
+-- Quotient = intake / RfD; risk = intake × CSF, in any reading of × and /
+unfoldable pub figureBy : {A : Type 0} → (A → A → A) → (A → A → A) → Effect → A → A → A
+figureBy times over Hazard intake rfd = over intake rfd
+figureBy times over Cancer intake csf = times intake csf
+
 unfoldable pub line : Effect → Pathway → Formula
-line Hazard p = intake Hazard p ⊘ reference Hazard p
-line Cancer p = intake Cancer p ⊗ reference Cancer p
+line e p = figureBy _⊗_ _⊘_ e (intake e p) (reference e p)

@@ -2,10 +2,16 @@
 -- at x, and x is read from the slots alone.
 use Prim.Native.Nat.{ℕ}
 use lib.IntN.{pos}
+use lib.ListN.{getD}
+use mathlib.Core.List.{[]}
 use Rattle.pair.specs.declared.Pair.{Pair}
 use Rattle.pair.specs.Fraction.{Fraction}
-use Rattle.pair.specs.Calls.{Outcome, is}
-use Rattle.equations.specs.Formula.{Slot, Letter, slot, phi, Formula, Algebra, read, pairs, fractions}
+use Rattle.pair.specs.Calls.{Outcome, is, onePair}
+use Rattle.slots.specs.Slots.{Slot, ownerOf, placeOf}
+use Rattle.slots.specs.declared.Owner.{Owner}
+use Rattle.slots.specs.declared.Owner.the-variants.{Site, Chemical, Receptor}
+use Rattle.equations.specs.declared.Values.{Values}
+use Rattle.equations.specs.Formula.{Letter, slot, phi, Formula, Algebra, read, pairs, fractions}
 use Rattle.equations.specs.Series.{pairSeries, exactSeries}
 use Rattle.equations.specs.Page.{x}
 
@@ -25,3 +31,20 @@ worked env f =
 
 unfoldable pub exactly : ℕ → (Slot → Fraction) → Formula → Fraction
 exactly N env f = read fractions (letters env (exactSeries N (plain fractions env x))) f
+
+-- the value at a place of a record; a place that no slot has reads as 1, as a missing reference value does
+unfoldable pub valueIn : Values → ℕ → Pair
+valueIn v k = getD (v .list) k onePair
+
+unfoldable pub byOwner : {A : Type 0} → Owner → A → A → A → A
+byOwner Site s c r = s
+byOwner Chemical s c r = c
+byOwner Receptor s c r = r
+
+-- the value of each slot, by the table of slots, from the values of a site, a chemical and a receptor
+unfoldable pub inputs : Values → Values → Values → Slot → Pair
+inputs s c r n = valueIn (byOwner (ownerOf n) s c r) (placeOf n)
+
+-- no record's values
+unfoldable pub noValues : Values
+noValues = record { list = [] }

@@ -1,5 +1,11 @@
-//! The equations of document 01 as formulas, with the names of pathways and effects. Their definitions and laws are in specs/ and
-//! proofs/; the crates above work them.
+//! The equations of document 01 as formulas, with the names of pathways and effects and the values that they are worked from. Their
+//! definitions and laws are in specs/ and proofs/; the crates above work them.
+use pair::Answer;
+use pair::Pair;
+use slots::SLOTS;
+ghost use mathlib.Core.Path.{_≡_};
+ghost use Rattle.pair.specs.Calls.{answer, is};
+ghost use Rattle.equations.specs.Readings.{valueIn};
 
 // The six pathways, in document 01's order.
 pub enum Pathway {
@@ -15,4 +21,22 @@ pub enum Pathway {
 pub enum Effect {
     Hazard,
     Cancer,
+}
+
+// The values of a record's slots as pairs, by the places of the crate `slots`.
+pub struct Values {
+    pub list: [Pair; SLOTS],
+}
+
+impl Values {
+    // The value at a place, to begin a chain of calls; a place that no slot has reads as 1, as a missing reference value does.
+    pub fn at(self, place: usize) -> Answer
+        ensures { λ r. ⌜ answer r ≡ is (valueIn self place) ⌝ }
+    {
+        if SLOTS <= place {
+            return Pair::ONE.answer();
+        }
+        let value = self.list[place];
+        value.answer()
+    }
 }
