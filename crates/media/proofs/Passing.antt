@@ -5,7 +5,8 @@ use native.Mathlib.Omega.{arith}
 use Prim.Native.Nat.{ℕ}
 use Rattle.pair.specs.declared.Pair.{Pair}
 use Rattle.pair.specs.Calls.{Outcome, is, refused, compared}
-use Rattle.media.specs.Media.{bounded, slow, sixtyFour, given}
+use Rattle.equations.specs.Ranges.{sixtyFour}
+use Rattle.media.specs.Media.{bounded, slow, given}
 use Rattle.media.specs.declared.Media.{Media}
 
 is-not-refused : {A : Type 0} {B : Type 0} (p : A) (n : ℕ) → refused n ≡ is p → B

@@ -1,3 +1,2 @@
 -- What the crate `media` promises.
-pub mod Slots
 pub mod Media

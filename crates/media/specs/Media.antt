@@ -1,27 +1,25 @@
 -- The media of document 01 by the working rule: x, refused by 41 where its high end is above 64, and the four concentrations.
 use mathlib.Core.Bool.{Bool, true, false}
-use lib.IntN.{negsuc}
-use Rattle.pair.specs.declared.Number.{Number}
 use Rattle.pair.specs.declared.Pair.{Pair}
-use Rattle.pair.specs.Calls.{Outcome, is, refused, compared}
-use Rattle.equations.specs.Formula.{Slot, Formula, pairs}
+use Rattle.pair.specs.Calls.{Outcome, is, refused, compared, zeroPair}
+use Rattle.slots.specs.Slots.{Slot}
+use Rattle.equations.specs.declared.Values.{Values}
+use Rattle.equations.specs.Formula.{Formula, pairs}
 use Rattle.equations.specs.Page.{x, A, C, aboveGround, belowGround}
-use Rattle.equations.specs.Readings.{plain, worked}
-use Rattle.media.specs.declared.Site.{Site}
-use Rattle.media.specs.declared.Chemical.{Chemical}
+use Rattle.equations.specs.Ranges.{sixtyFour}
+use Rattle.equations.specs.Readings.{plain, worked, inputs, noValues}
 use Rattle.media.specs.declared.Media.{Media}
 use Rattle.media.specs.declared.Bounded.{Bounded}
 use Rattle.media.specs.declared.Bounded.the-variants as Bounds
 use Rattle.media.specs.declared.Found.{Found}
 use Rattle.media.specs.declared.Found.the-variants as Founds
-use Rattle.media.specs.Slots.{mediaSlots}
 
--- a formula without φ, and one with it, read from a site and a chemical
-unfoldable pub ofSlots : Site → Chemical → Formula → Outcome Pair
-ofSlots s c f = plain pairs (λ i. is (mediaSlots s c i)) f
+-- a formula without φ, and one with it, read from the values of a site and a chemical; no formula here has a slot of a receptor
+unfoldable pub ofSlots : Values → Values → Formula → Outcome Pair
+ofSlots s c f = plain pairs (λ i. is (inputs s c noValues i)) f
 
-unfoldable pub ofMedia : Site → Chemical → Formula → Outcome Pair
-ofMedia s c f = worked (mediaSlots s c) f
+unfoldable pub ofMedia : Values → Values → Formula → Outcome Pair
+ofMedia s c f = worked (inputs s c noValues) f
 
 -- each case of an answer in document 01's numbers
 unfoldable pub exponent : Bounded → Outcome Pair
@@ -33,10 +31,6 @@ unfoldable pub found : Found → Outcome Media
 found (Founds.Is m) = is m
 found Founds.TooFast = refused 41
 found Founds.Refused = refused 53
-
--- 64
-unfoldable pub sixtyFour : Number
-sixtyFour = record { significand = 640000000; exponent = negsuc 6 }
 
 -- x, where its high end is at most 64
 unfoldable pub bounded : Outcome Bool → Pair → Outcome Pair
@@ -66,3 +60,7 @@ given (refused n) m = refused n
 
 unfoldable pub mediaOf : (Slot → Pair) → Outcome Media
 mediaOf env = given (exponentOf env) (four (worked env A) (worked env C) (worked env aboveGround) (worked env belowGround))
+
+-- no chemical: 0 in each
+unfoldable pub noMedia : Media
+noMedia = record { air = record { 0 = zeroPair }; soil = record { 0 = zeroPair }; «above_ground» = record { 0 = zeroPair }; «below_ground» = record { 0 = zeroPair } }

@@ -1,12 +1,28 @@
 //! Air, deposition, soil and produce (document 01, "Media").
-use crate::Chemical;
 use crate::Conc;
 use crate::Found;
 use crate::Media;
-use crate::Site;
 use crate::terms::sum_of_terms;
+use equations::Values;
 use pair::Answer;
 use pair::Pair;
+use slots::BD;
+use slots::BR;
+use slots::CYP;
+use slots::CYV;
+use slots::DYDP;
+use slots::DYDV;
+use slots::DYWP;
+use slots::DYWV;
+use slots::FV;
+use slots::HG_A;
+use slots::HG_D;
+use slots::KDS;
+use slots::Q;
+use slots::RCF;
+use slots::TD;
+use slots::VG;
+use slots::ZS;
 ghost use mathlib.Core.Path.{_≡_};
 ghost use Rattle.pair.specs.Calls.{answer, is};
 ghost use Rattle.equations.specs.Series.{pairSeries};
@@ -15,37 +31,36 @@ ghost use Rattle.equations.specs.Page.{x, g, D, C, aboveGround, belowGround, 1�
 ghost use Rattle.media.specs.Media.{ofSlots, ofMedia, found, four};
 
 // A. particles is 1 − Fv.
-fn air(s: Site, c: Chemical, particles: Answer) -> Answer
+fn air(s: Values, c: Values, particles: Answer) -> Answer
     requires { ⌜ answer particles ≡ ofMedia s c 1−Fv ⌝ }
     ensures { λ r. ⌜ answer r ≡ ofMedia s c page.A ⌝ }
 {
-    let vapour = c.fv.answer().times(c.cyv.answer());
-    let both = vapour.plus(particles.times(c.cyp.answer()));
-    c.q
-        .answer()
-        .times(c.hg_a.answer())
+    let vapour = c.at(FV).times(c.at(CYV));
+    let both = vapour.plus(particles.times(c.at(CYP)));
+    c.at(Q)
+        .times(c.at(HG_A))
         .times(both)
         .over(Pair::entry(1000, 0))
 }
 
 // D. particles is 1 − Fv.
-fn deposition(s: Site, c: Chemical, particles: Answer) -> Answer
+fn deposition(s: Values, c: Values, particles: Answer) -> Answer
     requires { ⌜ answer particles ≡ ofMedia s c 1−Fv ⌝ }
     ensures { λ r. ⌜ answer r ≡ ofMedia s c D ⌝ }
 {
-    let vapour = c.fv.answer().times(c.dydv.answer().plus(c.dywv.answer()));
-    let fallen = c.dydp.answer().plus(c.dywp.answer());
+    let vapour = c.at(FV).times(c.at(DYDV).plus(c.at(DYWV)));
+    let fallen = c.at(DYDP).plus(c.at(DYWP));
     let both = vapour.plus(fallen.times(particles));
-    let layer = s.zs.answer().times(s.bd.answer());
+    let layer = s.at(ZS).times(s.at(BD));
     Pair::entry(100, 0)
-        .times(c.hg_d.answer())
-        .times(c.q.answer())
+        .times(c.at(HG_D))
+        .times(c.at(Q))
         .over(layer)
         .times(both)
 }
 
 // g. e is x and phi the series at x.
-fn build_up(s: Site, c: Chemical, e: Pair, phi: Answer) -> Answer
+fn build_up(s: Values, c: Values, e: Pair, phi: Answer) -> Answer
     requires { ⌜ is e ≡ ofSlots s c x ⌝ }
     requires { ⌜ answer phi ≡ pairSeries (ofSlots s c x) ⌝ }
     ensures { λ r. ⌜ answer r ≡ ofMedia s c g ⌝ }
@@ -55,13 +70,13 @@ fn build_up(s: Site, c: Chemical, e: Pair, phi: Answer) -> Answer
 }
 
 // C.
-fn soil(s: Site, c: Chemical, particles: Answer, e: Pair) -> Answer
+fn soil(s: Values, c: Values, particles: Answer, e: Pair) -> Answer
     requires { ⌜ answer particles ≡ ofMedia s c 1−Fv ⌝ }
     requires { ⌜ is e ≡ ofSlots s c x ⌝ }
     ensures { λ r. ⌜ answer r ≡ ofMedia s c C ⌝ }
 {
     let g = build_up(s, c, e, sum_of_terms(e));
-    deposition(s, c, particles).times(s.td.answer()).times(g)
+    deposition(s, c, particles).times(s.at(TD)).times(g)
 }
 
 // The four concentrations, or the refusal among them.
@@ -89,16 +104,13 @@ fn all(air: Answer, soil: Answer, above: Answer, below: Answer) -> Found
 }
 
 // e is x.
-pub(crate) fn leave(s: Site, c: Chemical, e: Pair) -> Found
+pub(crate) fn leave(s: Values, c: Values, e: Pair) -> Found
     requires { ⌜ is e ≡ ofSlots s c x ⌝ }
     ensures { λ r. ⌜ found r ≡ four (ofMedia s c page.A) (ofMedia s c C) (ofMedia s c aboveGround) (ofMedia s c belowGround) ⌝ }
 {
-    let particles = c.fv.answer().one_minus();
+    let particles = c.at(FV).one_minus();
     let ground = soil(s, c, particles, e);
-    let leaves = ground.times(c.br.answer());
-    let roots = ground
-        .times(c.rcf.answer())
-        .times(s.vg.answer())
-        .over(c.kds.answer());
+    let leaves = ground.times(c.at(BR));
+    let roots = ground.times(c.at(RCF)).times(s.at(VG)).over(c.at(KDS));
     all(air(s, c, particles), ground, leaves, roots)
 }

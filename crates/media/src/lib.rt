@@ -6,6 +6,7 @@ mod terms;
 use crate::compartments::leave;
 use crate::loss::exponent_of;
 use crate::terms::sum_of_terms;
+use equations::Values;
 use pair::Answer;
 use pair::Number;
 use pair::Order;
@@ -13,43 +14,18 @@ use pair::Pair;
 ghost use mathlib.Core.Path.{_≡_};
 ghost use Rattle.pair.specs.Calls as calls;
 ghost use Rattle.equations.specs.Series.{pairSeries};
-ghost use Rattle.media.specs.Slots.{mediaSlots};
+ghost use Rattle.equations.specs.Readings.{inputs, noValues};
 ghost use Rattle.media.specs.Media as specs;
 
-// A concentration: mg/m³ in air, mg/kg in soil and produce.
-pub struct Conc(pub Pair);
+// A concentration: mg/m³ in air, mg/kg in soil and produce. Only this crate makes one.
+pub struct Conc(Pair);
 
-// A site's slots that the media need, as pairs.
-pub struct Site {
-    pub zs: Pair,
-    pub bd: Pair,
-    pub td: Pair,
-    pub theta: Pair,
-    pub xe: Pair,
-    pub sd: Pair,
-    pub er: Pair,
-    pub ro: Pair,
-    pub r: Pair,
-    pub vg: Pair,
-}
-
-// A chemical's slots that the media need, as pairs.
-pub struct Chemical {
-    pub q: Pair,
-    pub hg_a: Pair,
-    pub hg_d: Pair,
-    pub fv: Pair,
-    pub cyv: Pair,
-    pub cyp: Pair,
-    pub dydv: Pair,
-    pub dywv: Pair,
-    pub dydp: Pair,
-    pub dywp: Pair,
-    pub kds: Pair,
-    pub ksg: Pair,
-    pub ksv: Pair,
-    pub br: Pair,
-    pub rcf: Pair,
+impl Conc {
+    pub fn pair(self) -> Pair
+        ensures { λ r. ⌜ r ≡ self .0 ⌝ }
+    {
+        self.0
+    }
 }
 
 // What a chemical leaves in the media of the pathways.
@@ -58,6 +34,20 @@ pub struct Media {
     pub soil: Conc,
     pub above_ground: Conc,
     pub below_ground: Conc,
+}
+
+impl Media {
+    // Where no chemical was worked: 0 in each.
+    pub fn none() -> Media
+        ensures { λ r. ⌜ r ≡ specs.noMedia ⌝ }
+    {
+        Media {
+            air: Conc(Pair::ZERO),
+            soil: Conc(Pair::ZERO),
+            above_ground: Conc(Pair::ZERO),
+            below_ground: Conc(Pair::ZERO),
+        }
+    }
 }
 
 // x, or why there is none: its high end is above 64 (document 01's 41), or a pair or an exponent was out of reach (53).
@@ -94,8 +84,8 @@ fn slow(x: Answer) -> Bounded
 }
 
 // x = k × tD.
-pub fn exponent(site: Site, chemical: Chemical) -> Bounded
-    ensures { λ r. ⌜ specs.exponent r ≡ specs.exponentOf (mediaSlots site chemical) ⌝ }
+pub fn exponent(site: Values, chemical: Values) -> Bounded
+    ensures { λ r. ⌜ specs.exponent r ≡ specs.exponentOf (inputs site chemical noValues) ⌝ }
 {
     slow(exponent_of(site, chemical))
 }
@@ -108,8 +98,8 @@ pub fn series(x: Pair) -> Answer
 }
 
 // The concentrations that a chemical leaves in the media.
-pub fn concentrations(site: Site, chemical: Chemical) -> Found
-    ensures { λ r. ⌜ specs.found r ≡ specs.mediaOf (mediaSlots site chemical) ⌝ }
+pub fn concentrations(site: Values, chemical: Values) -> Found
+    ensures { λ r. ⌜ specs.found r ≡ specs.mediaOf (inputs site chemical noValues) ⌝ }
 {
     match slow(exponent_of(site, chemical)) {
         Bounded::Is(x) => leave(site, chemical, x),

@@ -1,52 +1,62 @@
 //! Loss from the soil and x (document 01, "Loss and series").
-use crate::Chemical;
-use crate::Site;
+use equations::Values;
 use pair::Answer;
 use pair::Pair;
+use slots::BD;
+use slots::ER;
+use slots::KDS;
+use slots::KSG;
+use slots::KSV;
+use slots::R;
+use slots::RO;
+use slots::SD;
+use slots::TD;
+use slots::THETA;
+use slots::XE;
+use slots::ZS;
 ghost use mathlib.Core.Path.{_≡_};
 ghost use Rattle.pair.specs.Calls.{answer, after, quotient, is};
 ghost use Rattle.equations.specs.Page.{u, kse, k, x};
 ghost use Rattle.media.specs.Media.{ofSlots};
 
 // kse, erosion. sorbed is u.
-fn erosion(s: Site, c: Chemical, sorbed: Answer) -> Answer
+fn erosion(s: Values, c: Values, sorbed: Answer) -> Answer
     requires { ⌜ answer sorbed ≡ ofSlots s c u ⌝ }
     ensures { λ r. ⌜ answer r ≡ ofSlots s c kse ⌝ }
 {
     let lost = Pair::entry(1, -1)
-        .times(s.xe.answer())
-        .times(s.sd.answer())
-        .times(s.er.answer());
-    let layer = s.bd.answer().times(s.zs.answer());
-    let held = s.theta.answer().plus(sorbed);
+        .times(s.at(XE))
+        .times(s.at(SD))
+        .times(s.at(ER));
+    let layer = s.at(BD).times(s.at(ZS));
+    let held = s.at(THETA).plus(sorbed);
     lost.over(layer).times(sorbed).over(held)
 }
 
 // ksr and ksl, runoff and leaching: what flows, over the soil's water, over what the soil holds back.
-fn washed(flow: Pair, water: Answer, retained: Answer) -> Answer
-    ensures { λ a. ⌜ answer a ≡ after quotient (after quotient (is flow) (answer water)) (answer retained) ⌝ }
+fn washed(flow: Answer, water: Answer, retained: Answer) -> Answer
+    ensures { λ a. ⌜ answer a ≡ after quotient (after quotient (answer flow) (answer water)) (answer retained) ⌝ }
 {
-    flow.answer().over(water).over(retained)
+    flow.over(water).over(retained)
 }
 
 // k, the rates of loss added up.
-fn loss_rate(s: Site, c: Chemical) -> Answer
+fn loss_rate(s: Values, c: Values) -> Answer
     ensures { λ r. ⌜ answer r ≡ ofSlots s c k ⌝ }
 {
-    let theta = s.theta.answer();
-    let sorbed = c.kds.answer().times(s.bd.answer());
-    let water = theta.times(s.zs.answer());
+    let theta = s.at(THETA);
+    let sorbed = c.at(KDS).times(s.at(BD));
+    let water = theta.times(s.at(ZS));
     let retained = Pair::entry(1, 0).plus(sorbed.over(theta));
-    c.ksg
-        .answer()
+    c.at(KSG)
         .plus(erosion(s, c, sorbed))
-        .plus(washed(s.ro, water, retained))
-        .plus(washed(s.r, water, retained))
-        .plus(c.ksv.answer())
+        .plus(washed(s.at(RO), water, retained))
+        .plus(washed(s.at(R), water, retained))
+        .plus(c.at(KSV))
 }
 
-pub(crate) fn exponent_of(s: Site, c: Chemical) -> Answer
+pub(crate) fn exponent_of(s: Values, c: Values) -> Answer
     ensures { λ r. ⌜ answer r ≡ ofSlots s c x ⌝ }
 {
-    loss_rate(s, c).times(s.td.answer())
+    loss_rate(s, c).times(s.at(TD))
 }

@@ -1,3 +1,3 @@
 -- What the crate `pathway` promises.
-pub mod Slots
 pub mod Lines
+pub mod Inner

@@ -1,16 +1,25 @@
--- A report line's figures by the working rule, from a receptor, its medium and the reference values.
+-- The six pathways of document 01 by the working rule. A concentration, an intake factor, a dose and a reference value are quantities of
+-- their own: factor × concentration is a dose, a dose by an RfD is a quotient, and a dose times a CSF is a risk.
 use Rattle.pair.specs.declared.Pair.{Pair}
-use Rattle.pair.specs.Calls.{Outcome, is, refused, after, product, quotient}
+use Rattle.pair.specs.Calls.{Outcome, is, refused, mapped, checked, after, afterOne, product, quotient}
 use Rattle.equations.specs.declared.Pathway.{Pathway}
 use Rattle.equations.specs.declared.Effect.{Effect}
 use Rattle.equations.specs.declared.Effect.the-variants.{Hazard, Cancer}
-use Rattle.equations.specs.Formula.{Formula, pairs}
-use Rattle.equations.specs.Page.{factor}
-use Rattle.equations.specs.Readings.{plain}
-use Rattle.pathway.specs.declared.Receptor.{Receptor}
-use Rattle.pathway.specs.declared.Uptake.{Uptake}
-use Rattle.pathway.specs.declared.Reference.{Reference}
-use Rattle.pathway.specs.declared.Reference.the-variants as References
+use Rattle.equations.specs.declared.Values.{Values}
+use Rattle.equations.specs.Formula.{Formula}
+use Rattle.equations.specs.Page.{factor, byMedium, intakeBy, byRoute, figureBy}
+use Rattle.equations.specs.Readings.{worked, inputs}
+use Rattle.media.specs.declared.Conc.{Conc}
+use Rattle.media.specs.declared.Media.{Media}
+use Rattle.pathway.specs.declared.Factor.{Factor}
+use Rattle.pathway.specs.declared.Dose.{Dose}
+use Rattle.pathway.specs.declared.Rfd.{Rfd}
+use Rattle.pathway.specs.declared.Csf.{Csf}
+use Rattle.pathway.specs.declared.GivenRfd.{GivenRfd}
+use Rattle.pathway.specs.declared.GivenRfd.the-variants as Rfds
+use Rattle.pathway.specs.declared.GivenCsf.{GivenCsf}
+use Rattle.pathway.specs.declared.GivenCsf.the-variants as Csfs
+use Rattle.pathway.specs.declared.References.{References}
 use Rattle.pathway.specs.declared.Factored.{Factored}
 use Rattle.pathway.specs.declared.Factored.the-variants as Factors
 use Rattle.pathway.specs.declared.Dosed.{Dosed}
@@ -18,51 +27,84 @@ use Rattle.pathway.specs.declared.Dosed.the-variants as Doses
 use Rattle.pathway.specs.declared.Figure.{Figure}
 use Rattle.pathway.specs.declared.Figure.the-variants as Figures
 use Rattle.pathway.specs.declared.Line.{Line}
-use Rattle.pathway.specs.Slots.{pathwaySlots}
 
--- each case of an answer in document 01's numbers; a figure may be absent as a reference value may
-unfoldable pub factored : Factored → Outcome Pair
-factored (Factors.Is f) = is (f .0)
+-- a value, or none where the reference value is missing
+pub data Optional (A : Type 0) : Type 0 where
+  some : A → Optional A
+  none : Optional A
+
+-- each case of an answer in document 01's numbers
+unfoldable pub factored : Factored → Outcome Factor
+factored (Factors.Is f) = is f
 factored Factors.Refused = refused 53
 
-unfoldable pub dosed : Dosed → Outcome Pair
-dosed (Doses.Is d) = is (d .0)
+unfoldable pub dosed : Dosed → Outcome Dose
+dosed (Doses.Is d) = is d
 dosed Doses.Refused = refused 53
 
-unfoldable pub figure : Figure → Outcome Reference
-figure (Figures.Is p) = is (References.Is p)
-figure Figures.Absent = is References.Absent
+unfoldable pub figure : Figure → Outcome (Optional Pair)
+figure (Figures.Is p) = is (some p)
+figure Figures.Absent = is none
 figure Figures.Refused = refused 53
 
--- a formula of a receptor's slots
-unfoldable pub ofReceptor : Receptor → Uptake → Formula → Outcome Pair
-ofReceptor r t f = plain pairs (λ i. is (pathwaySlots r t i)) f
+unfoldable pub rfdGiven : GivenRfd → Optional Rfd
+rfdGiven (Rfds.Is r) = some r
+rfdGiven Rfds.Absent = none
 
-unfoldable pub present : Outcome Pair → Outcome Reference
-present (is p) = is (References.Is p)
-present (refused n) = refused n
+unfoldable pub csfGiven : GivenCsf → Optional Csf
+csfGiven (Csfs.Is f) = some f
+csfGiven Csfs.Absent = none
 
--- quotient = intake / RfD, risk = intake × CSF; none without a reference value
-unfoldable pub hazardOf : Outcome Pair → Reference → Outcome Reference
-hazardOf intake References.Absent = is References.Absent
-hazardOf intake (References.Is rfd) = present (after quotient intake (is rfd))
+-- a formula read from the values of a site, a chemical and a receptor
+unfoldable pub workedFor : Values → Values → Values → Formula → Outcome Pair
+workedFor s c r f = worked (inputs s c r) f
 
-unfoldable pub cancerOf : Outcome Pair → Reference → Outcome Reference
-cancerOf intake References.Absent = is References.Absent
-cancerOf intake (References.Is csf) = present (after product intake (is csf))
+-- the intake factor, as the page writes it
+unfoldable pub factorOf : Effect → Pathway → Values → Values → Values → Outcome Factor
+factorOf e p s c r = mapped (λ (q : Pair). record { 0 = q }) (workedFor s c r (factor e p))
 
--- intake = factor × medium
-unfoldable pub intakeOf : Effect → Pathway → Receptor → Uptake → Pair → Outcome Pair
-intakeOf e p r t medium = after product (ofReceptor r t (factor e p)) (is medium)
+-- A for 1, C for 2 to 4, the produce for 5 and 6
+unfoldable pub concentrationFor : Pathway → Media → Conc
+concentrationFor p m = byMedium p (m .air) (m .soil) (m .«above_ground») (m .«below_ground»)
 
--- what a line tells, each figure by itself
-pub record Told : Type 0 where
-  pub hazard : Outcome Reference
-  pub cancer : Outcome Reference
+-- the dose: factor × concentration
+unfoldable pub doseOf : Outcome Factor → Conc → Outcome Dose
+doseOf f c = mapped (λ (q : Pair). record { 0 = q }) (intakeBy (after product) (mapped (λ (g : Factor). g .0) f) (is (c .0)))
 
-unfoldable pub told : Line → Told
-told l = record { hazard = figure (l .hazard); cancer = figure (l .cancer) }
+-- the figure of a dose with its reference value; none without one, if the dose is a pair
+unfoldable pub figureOf : Effect → Outcome Dose → Optional Pair → Outcome (Optional Pair)
+figureOf e d (some v) = mapped (λ (q : Pair). some q) (figureBy (after product) (after quotient) e (mapped (λ (g : Dose). g .0) d) (is v))
+figureOf e d none = mapped (λ (q : Pair). none) (afterOne checked (mapped (λ (g : Dose). g .0) d))
 
-unfoldable pub lineOf : Pathway → Receptor → Uptake → Pair → Reference → Reference → Told
-lineOf p r t medium rfd csf =
-    record { hazard = hazardOf (intakeOf Hazard p r t medium) rfd; cancer = cancerOf (intakeOf Cancer p r t medium) csf }
+unfoldable pub rfdValue : Optional Rfd → Optional Pair
+rfdValue (some r) = some (r .0)
+rfdValue none = none
+
+unfoldable pub csfValue : Optional Csf → Optional Pair
+csfValue (some f) = some (f .0)
+csfValue none = none
+
+-- quotient = dose / RfD
+unfoldable pub quotientOf : Outcome Dose → GivenRfd → Outcome (Optional Pair)
+quotientOf d rfd = figureOf Hazard d (rfdValue (rfdGiven rfd))
+
+-- risk = dose × CSF
+unfoldable pub riskOf : Outcome Dose → GivenCsf → Outcome (Optional Pair)
+riskOf d csf = figureOf Cancer d (csfValue (csfGiven csf))
+
+-- a line's two figures, each by itself
+pub record Figured : Type 0 where
+  pub hazard : Outcome (Optional Pair)
+  pub cancer : Outcome (Optional Pair)
+
+unfoldable pub figured : Line → Figured
+figured l = record { hazard = figure (l .hazard); cancer = figure (l .cancer) }
+
+-- pathway 1 takes RfDi and CSFi, the rest RfDo and CSFo
+unfoldable pub figuresOf : Pathway → Values → Values → Values → Media → References → Figured
+figuresOf p s c r m refs =
+    let medium : Conc = concentrationFor p m in
+    record {
+      hazard = quotientOf (doseOf (factorOf Hazard p s c r) medium) (byRoute p (refs .«rfd_i») (refs .«rfd_o»));
+      cancer = riskOf (doseOf (factorOf Cancer p s c r) medium) (byRoute p (refs .«csf_i») (refs .«csf_o»));
+    }

@@ -4,16 +4,19 @@ use crate::Dosed;
 use crate::Factor;
 use crate::Factored;
 use crate::Figure;
-use crate::Reference;
+use crate::GivenCsf;
+use crate::GivenRfd;
 use media::Conc;
 use pair::Answer;
 ghost use mathlib.Core.Path.{_≡_};
-ghost use Rattle.pair.specs.Calls.{answer, after, product, quotient, is};
-ghost use Rattle.pathway.specs.Lines.{factored, dosed, figure, present, hazardOf, cancerOf};
+ghost use Rattle.pair.specs.declared.Pair.{Pair};
+ghost use Rattle.pair.specs.Calls.{answer, after, quotient, mapped};
+ghost use Rattle.pathway.specs.Lines.{factored, dosed, figure, some, doseOf, quotientOf, riskOf};
+ghost use Rattle.pathway.specs.Inner.{absentFor};
 
 // exposure / B.
 pub(crate) fn factor_of(exposure: Answer, base: Answer) -> Factored
-    ensures { λ r. ⌜ factored r ≡ after quotient (answer exposure) (answer base) ⌝ }
+    ensures { λ r. ⌜ factored r ≡ mapped (λ (q : Pair). record { 0 = q }) (after quotient (answer exposure) (answer base)) ⌝ }
 {
     match exposure.over(base) {
         Answer::Is(p) => Factored::Is(Factor(p)),
@@ -21,51 +24,61 @@ pub(crate) fn factor_of(exposure: Answer, base: Answer) -> Factored
     }
 }
 
-// factor × medium.
+// factor × concentration.
 pub(crate) fn dose_of(factor: Factored, medium: Conc) -> Dosed
-    ensures { λ r. ⌜ dosed r ≡ after product (factored factor) (is (medium .0)) ⌝ }
+    ensures { λ r. ⌜ dosed r ≡ doseOf (factored factor) medium ⌝ }
 {
     let Factored::Is(f) = factor else {
         return Dosed::Refused;
     };
-    match f.0.product(medium.0) {
+    match f.0.product(medium.pair()) {
         Answer::Is(p) => Dosed::Is(Dose(p)),
         Answer::Refused => Dosed::Refused,
     }
 }
 
 // A worked figure.
-fn figured(a: Answer) -> Figure
-    ensures { λ r. ⌜ figure r ≡ present (answer a) ⌝ }
+fn worked_figure(a: Answer) -> Figure
+    ensures { λ r. ⌜ figure r ≡ mapped (λ (q : Pair). some q) (answer a) ⌝ }
 {
-    match a {
-        Answer::Is(p) => Figure::Is(p),
+    let Answer::Is(p) = a else {
+        return Figure::Refused;
+    };
+    Figure::Is(p)
+}
+
+// No reference value: no figure, if the dose is a pair.
+fn absent_figure(dose: Dose) -> Figure
+    ensures { λ r. ⌜ figure r ≡ absentFor dose ⌝ }
+{
+    match dose.0.checked() {
+        Answer::Is(_) => Figure::Absent,
         Answer::Refused => Figure::Refused,
     }
 }
 
-// Quotient = intake / RfD.
-pub(crate) fn quotient_of(dose: Dosed, rfd: Reference) -> Figure
-    ensures { λ r. ⌜ figure r ≡ hazardOf (dosed dose) rfd ⌝ }
+// Quotient = dose / RfD.
+pub(crate) fn quotient_of(dose: Dosed, rfd: GivenRfd) -> Figure
+    ensures { λ r. ⌜ figure r ≡ quotientOf (dosed dose) rfd ⌝ }
 {
-    let Reference::Is(least) = rfd else {
-        return Figure::Absent;
-    };
     let Dosed::Is(d) = dose else {
         return Figure::Refused;
     };
-    figured(d.0.quotient(least))
+    let GivenRfd::Is(least) = rfd else {
+        return absent_figure(d);
+    };
+    worked_figure(d.0.quotient(least.0))
 }
 
-// Risk = intake × CSF.
-pub(crate) fn risk_of(dose: Dosed, csf: Reference) -> Figure
-    ensures { λ r. ⌜ figure r ≡ cancerOf (dosed dose) csf ⌝ }
+// Risk = dose × CSF.
+pub(crate) fn risk_of(dose: Dosed, csf: GivenCsf) -> Figure
+    ensures { λ r. ⌜ figure r ≡ riskOf (dosed dose) csf ⌝ }
 {
-    let Reference::Is(slope) = csf else {
-        return Figure::Absent;
-    };
     let Dosed::Is(d) = dose else {
         return Figure::Refused;
     };
-    figured(d.0.product(slope))
+    let GivenCsf::Is(slope) = csf else {
+        return absent_figure(d);
+    };
+    worked_figure(d.0.product(slope.0))
 }

@@ -10,56 +10,44 @@ use crate::exposure::base_of;
 use crate::exposure::exposure_of;
 use equations::Effect;
 use equations::Pathway;
+use equations::Values;
 use media::Conc;
+use media::Media;
 use pair::Pair;
 ghost use mathlib.Core.Path.{_≡_};
+ghost use mathlib.Core.Bool.{true, false};
 ghost use Rattle.pathway.specs.Lines as specs;
 ghost use Rattle.equations.specs.Page as page;
 ghost use Rattle.pair.specs.Calls as calls;
 
-// An intake factor: what of a medium is taken in, per day and kg of body weight.
-pub struct Factor(pub Pair);
+// An intake factor: what of a medium is taken in, per day and kg of body weight. Only this crate makes one, and a dose.
+pub struct Factor(Pair);
 
 // A dose, mg/kg-day.
-pub struct Dose(pub Pair);
+pub struct Dose(Pair);
 
-// A receptor's slots, as pairs.
-pub struct Receptor {
-    pub bw: Pair,
-    pub ed: Pair,
-    pub atc: Pair,
-    pub ir_inh: Pair,
-    pub et_inh: Pair,
-    pub ef_inh: Pair,
-    pub ir_soil: Pair,
-    pub et_soil: Pair,
-    pub ef_s: Pair,
-    pub ef_w: Pair,
-    pub sa_b: Pair,
-    pub saf_b: Pair,
-    pub sa_h: Pair,
-    pub saf_h: Pair,
-    pub et_derm: Pair,
-    pub ir_ag: Pair,
-    pub f_ag: Pair,
-    pub ir_bg: Pair,
-    pub f_bg: Pair,
-    pub wp: Pair,
-    pub ef_p: Pair,
-}
+// A reference dose, mg/kg-day, and a cancer slope factor, its inverse.
+pub struct Rfd(pub Pair);
 
-// What an intake also depends on: a chemical's absorption factors and the site's share of winter without snow cover.
-pub struct Uptake {
-    pub af_inh: Pair,
-    pub af_oral: Pair,
-    pub af_derm: Pair,
-    pub fr_snow: Pair,
-}
+pub struct Csf(pub Pair);
 
-// A reference value, RfD or CSF, which a chemical may lack.
-pub enum Reference {
-    Is(Pair),
+// Reference values, which a chemical may lack.
+pub enum GivenRfd {
+    Is(Rfd),
     Absent,
+}
+
+pub enum GivenCsf {
+    Is(Csf),
+    Absent,
+}
+
+// A chemical's reference values: o oral, i inhaled.
+pub struct References {
+    pub rfd_o: GivenRfd,
+    pub rfd_i: GivenRfd,
+    pub csf_o: GivenCsf,
+    pub csf_i: GivenCsf,
 }
 
 // An intake factor, or document 01's 53.
@@ -87,38 +75,85 @@ pub struct Line {
     pub cancer: Figure,
 }
 
-// The intake factor of a pathway, for hazard or for cancer.
+// The concentration of a pathway's medium.
+fn medium_of(pathway: Pathway, media: Media) -> Conc
+    ensures { λ r. ⌜ r ≡ specs.concentrationFor pathway media ⌝ }
+{
+    match pathway {
+        Pathway::Air => media.air,
+        Pathway::SoilSummer => media.soil,
+        Pathway::SoilWinter => media.soil,
+        Pathway::Skin => media.soil,
+        Pathway::AboveGround => media.above_ground,
+        Pathway::BelowGround => media.below_ground,
+    }
+}
+
+// Whether a pathway takes the inhaled reference values.
+fn is_inhaled(pathway: Pathway) -> bool
+    ensures { λ r. ⌜ r ≡ page.byRoute pathway true false ⌝ }
+{
+    match pathway {
+        Pathway::Air => true,
+        Pathway::SoilSummer => false,
+        Pathway::SoilWinter => false,
+        Pathway::Skin => false,
+        Pathway::AboveGround => false,
+        Pathway::BelowGround => false,
+    }
+}
+
+fn rfd_of(pathway: Pathway, references: References) -> GivenRfd
+    ensures { λ r. ⌜ r ≡ page.byRoute pathway (references .«rfd_i») (references .«rfd_o») ⌝ }
+{
+    if is_inhaled(pathway) {
+        return references.rfd_i;
+    }
+    references.rfd_o
+}
+
+fn csf_of(pathway: Pathway, references: References) -> GivenCsf
+    ensures { λ r. ⌜ r ≡ page.byRoute pathway (references .«csf_i») (references .«csf_o») ⌝ }
+{
+    if is_inhaled(pathway) {
+        return references.csf_i;
+    }
+    references.csf_o
+}
+
+// The intake factor of a pathway, for hazard or for cancer, from the values of a site, a chemical and a receptor.
 pub fn intake_factor(
     effect: Effect,
     pathway: Pathway,
-    receptor: Receptor,
-    uptake: Uptake,
+    site: Values,
+    chemical: Values,
+    receptor: Values,
 ) -> Factored
-    ensures { λ r. ⌜ specs.factored r ≡ specs.ofReceptor receptor uptake (page.factor effect pathway) ⌝ }
+    ensures { λ r. ⌜ specs.factored r ≡ specs.factorOf effect pathway site chemical receptor ⌝ }
 {
     factor_of(
-        exposure_of(receptor, uptake, pathway),
-        base_of(receptor, uptake, effect),
+        exposure_of(site, chemical, receptor, pathway),
+        base_of(site, chemical, receptor, effect),
     )
 }
 
-// The dose: factor × medium.
+// The dose: factor × concentration.
 pub fn intake(factor: Factor, medium: Conc) -> Dosed
-    ensures { λ r. ⌜ specs.dosed r ≡ calls.product (factor .0) (medium .0) ⌝ }
+    ensures { λ r. ⌜ specs.dosed r ≡ specs.doseOf (calls.is factor) medium ⌝ }
 {
     dose_of(Factored::Is(factor), medium)
 }
 
 // The hazard quotient of a dose.
-pub fn hazard(dose: Dose, rfd: Reference) -> Figure
-    ensures { λ r. ⌜ specs.figure r ≡ specs.hazardOf (calls.is (dose .0)) rfd ⌝ }
+pub fn hazard(dose: Dose, rfd: GivenRfd) -> Figure
+    ensures { λ r. ⌜ specs.figure r ≡ specs.quotientOf (calls.is dose) rfd ⌝ }
 {
     quotient_of(Dosed::Is(dose), rfd)
 }
 
 // The cancer risk of a dose.
-pub fn cancer(dose: Dose, csf: Reference) -> Figure
-    ensures { λ r. ⌜ specs.figure r ≡ specs.cancerOf (calls.is (dose .0)) csf ⌝ }
+pub fn cancer(dose: Dose, csf: GivenCsf) -> Figure
+    ensures { λ r. ⌜ specs.figure r ≡ specs.riskOf (calls.is dose) csf ⌝ }
 {
     risk_of(Dosed::Is(dose), csf)
 }
@@ -126,19 +161,20 @@ pub fn cancer(dose: Dose, csf: Reference) -> Figure
 // Both figures of a line. What stands above B is worked once for the two.
 pub fn figures(
     pathway: Pathway,
-    receptor: Receptor,
-    uptake: Uptake,
-    medium: Conc,
-    rfd: Reference,
-    csf: Reference,
+    site: Values,
+    chemical: Values,
+    receptor: Values,
+    media: Media,
+    references: References,
 ) -> Line
-    ensures { λ r. ⌜ specs.told r ≡ specs.lineOf pathway receptor uptake (medium .0) rfd csf ⌝ }
+    ensures { λ r. ⌜ specs.figured r ≡ specs.figuresOf pathway site chemical receptor media references ⌝ }
 {
-    let exposure = exposure_of(receptor, uptake, pathway);
-    let noncancer = factor_of(exposure, base_of(receptor, uptake, Effect::Hazard));
-    let lifetime = factor_of(exposure, base_of(receptor, uptake, Effect::Cancer));
+    let exposure = exposure_of(site, chemical, receptor, pathway);
+    let noncancer = factor_of(exposure, base_of(site, chemical, receptor, Effect::Hazard));
+    let lifetime = factor_of(exposure, base_of(site, chemical, receptor, Effect::Cancer));
+    let medium = medium_of(pathway, media);
     Line {
-        hazard: quotient_of(dose_of(noncancer, medium), rfd),
-        cancer: risk_of(dose_of(lifetime, medium), csf),
+        hazard: quotient_of(dose_of(noncancer, medium), rfd_of(pathway, references)),
+        cancer: risk_of(dose_of(lifetime, medium), csf_of(pathway, references)),
     }
 }

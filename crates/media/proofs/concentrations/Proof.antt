@@ -4,8 +4,7 @@ use Rattle.pair.specs.Calls.{Outcome}
 use Rattle.equations.specs.Page as page
 use Rattle.equations.specs.Page.{C, aboveGround, belowGround}
 use Rattle.media.specs.declared.Media.{Media}
-use Rattle.media.specs.declared.Site.{Site}
-use Rattle.media.specs.declared.Chemical.{Chemical}
+use Rattle.equations.specs.declared.Values.{Values}
 use Rattle.media.specs.Media.{exponent, found, slow, ofSlots, ofMedia, four, given, exponentOf, mediaOf}
 use Rattle.media.proofs.Passing.{slow-is, given-is, given-refused}
 use borrow.Author.Needs.{needs}
@@ -13,7 +12,7 @@ use Rattle.media.proofs.concentrations.Statement.{statement}
 use Rattle.media.proofs.concentrations.Tie as tie
 
 -- all four formulas
-four-of : Site → Chemical → Outcome Media
+four-of : Values → Values → Outcome Media
 four-of s c = four (ofMedia s c page.A) (ofMedia s c C) (ofMedia s c aboveGround) (ofMedia s c belowGround)
 
 exponent-of-requires : tie.Need-exponent-of-requires

@@ -2,7 +2,8 @@
 use mathlib.Core.Path.{refl}
 use Rattle.pair.specs.Calls as calls
 use Rattle.pair.specs.Calls.{answer, order}
-use Rattle.media.specs.Media.{exponent, bounded, slow, sixtyFour}
+use Rattle.equations.specs.Ranges.{sixtyFour}
+use Rattle.media.specs.Media.{exponent, bounded, slow}
 use borrow.Author.Needs.{needs}
 use Rattle.media.proofs.slow.Statement.{statement}
 use Rattle.media.proofs.slow.Tie as tie

@@ -1,6 +1,5 @@
--- The product of two pairs. Assumes nothing.
+-- A factor that is there. Assumes nothing.
 use borrow.Author.Needs.{needs}
-use Rattle.pair.specs.Calls.{after}
 use Rattle.pathway.specs.Lines.{factored}
 use Rattle.pathway.proofs.intake.Statement.{statement}
 use Rattle.pathway.proofs.intake.Tie as tie
@@ -9,7 +8,7 @@ dose-of-requires : tie.Need-dose-of-requires
 dose-of-requires c κs = search needs
 
 returns : tie.Need-returns
-unfolding after factored
+unfolding factored
 returns c = c .dose-of .ensures
 
 pub intake-spec : {M : Type 1} → statement M

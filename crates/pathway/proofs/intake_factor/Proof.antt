@@ -1,11 +1,10 @@
 -- The exposure over B. Assumes nothing.
-use mathlib.Core.Path.{_∙_, ap₂}
+use mathlib.Core.Path.{refl}
 use borrow.Author.Needs.{needs}
 use Rattle.equations.specs.Formula.{read, pairs}
 use Rattle.equations.specs.Page.{factor}
-use Rattle.equations.specs.Readings.{plain}
-use Rattle.pair.specs.Calls.{after, quotient}
-use Rattle.pathway.specs.Lines.{ofReceptor}
+use Rattle.equations.specs.Readings.{worked}
+use Rattle.pathway.specs.Lines.{workedFor, factorOf}
 use Rattle.pathway.proofs.intake_factor.Statement.{statement}
 use Rattle.pathway.proofs.intake_factor.Tie as tie
 
@@ -19,8 +18,8 @@ factor-of-requires : tie.Need-factor-of-requires
 factor-of-requires c κs = search needs
 
 returns : tie.Need-returns
-unfolding ofReceptor plain read pairs factor
-returns c = c .factor-of .ensures ∙ ap₂ (after quotient) (c .before .before .exposure-of .ensures) (c .before .base-of .ensures)
+unfolding factorOf workedFor worked read pairs factor
+returns c = rw (c .factor-of .ensures, c .before .base-of .ensures, c .before .before .exposure-of .ensures) refl
 
 pub intake-factor-spec : {M : Type 1} → statement M
 intake-factor-spec =

@@ -3,10 +3,10 @@ use mathlib.Core.Path.{refl, _∙_, ap}
 use borrow.Author.Needs.{needs}
 use Rattle.equations.specs.Formula.{read, pairs}
 use Rattle.equations.specs.Page.{C}
-use Rattle.equations.specs.Readings.{letters, worked}
+use Rattle.equations.specs.Readings.{letters, worked, inputs, byOwner, valueIn}
 use Rattle.equations.specs.Series.{pairSeries}
 use Rattle.media.specs.Media.{ofMedia}
-use Rattle.media.specs.Slots.{mediaSlots}
+use Rattle.slots.specs.Slots.{table, same, isIn, placeIn, ownerOf, placeOf}
 use Rattle.media.proofs.compartments.soil.Statement.{statement}
 use Rattle.media.proofs.compartments.soil.Tie as tie
 
@@ -19,8 +19,8 @@ build-up-requires c κs = (c .before .pre .1, c .sum-of-terms .ensures ∙ ap pa
 deposition-requires : tie.Need-deposition-requires
 deposition-requires c κs = search needs
 
-answer-requires : tie.Need-answer-requires
-answer-requires c κs = search needs
+at-requires : tie.Need-at-requires
+at-requires c κs = search needs
 
 times-requires : tie.Need-times-requires
 times-requires c κs = search needs
@@ -29,8 +29,8 @@ times-requires-2 : tie.Need-times-requires-2
 times-requires-2 c κs = search needs
 
 returns : tie.Need-returns
-unfolding ofMedia worked read letters mediaSlots pairs C
-returns c = rw (c .times2 .ensures, c .before .times .ensures, c .before .before .answer .ensures, c .before .before .before .deposition .ensures, c .before .before .before .before .build-up .ensures)
+unfolding ofMedia worked read letters inputs byOwner valueIn ownerOf placeOf table same isIn placeIn pairs C
+returns c = rw (c .times2 .ensures, c .before .times .ensures, c .before .before .at .ensures, c .before .before .before .deposition .ensures, c .before .before .before .before .build-up .ensures)
     refl
 
 pub soil-spec : {M : Type 1} → statement M
@@ -40,7 +40,7 @@ soil-spec =
     sum-of-terms-requires
     build-up-requires
     deposition-requires
-    answer-requires
+    at-requires
     times-requires
     times-requires-2
     returns)

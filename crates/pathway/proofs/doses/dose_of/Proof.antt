@@ -1,8 +1,9 @@
 -- A refusal is carried along, else the product answers. Assumes nothing.
-use mathlib.Core.Path.{refl, sym, _∙_, ap}
+use mathlib.Core.Path.{refl}
 use borrow.Author.Needs.{needs}
-use Rattle.pair.specs.Calls.{answer, after}
-use Rattle.pathway.specs.Lines.{factored, dosed}
+use Rattle.equations.specs.Page.{intakeBy}
+use Rattle.pair.specs.Calls.{answer, after, mapped}
+use Rattle.pathway.specs.Lines.{factored, dosed, doseOf}
 use Rattle.pathway.proofs.doses.dose_of.Statement.{statement}
 use Rattle.pathway.proofs.doses.dose_of.Tie as tie
 
@@ -13,8 +14,11 @@ enum-told : tie.Need-enum-told
 enum-told c = search needs
 
 returns : tie.Need-returns
-unfolding after factored dosed
+unfolding after mapped factored dosed doseOf intakeBy
 returns c = rw (c .enum-told .given .1) refl
+
+pair-requires : tie.Need-pair-requires
+pair-requires c κs = search needs
 
 product-requires : tie.Need-product-requires
 product-requires c κs = search needs
@@ -26,12 +30,12 @@ enum-told-2 : tie.Need-enum-told-2
 enum-told-2 c = search needs
 
 returns-2 : tie.Need-returns-2
-unfolding answer after factored dosed
-returns-2 c = rw (c .before .before .before .before .before .factor .given .1) (ap answer (sym (c .before .p .given .1)) ∙ c .before .before .before .product .ensures)
+unfolding answer after mapped factored dosed doseOf intakeBy
+returns-2 c = rw (c .before .before .before .before .before .before .factor .given .1, ← c .before .before .before .before .pair .ensures, ← c .before .before .before .product .ensures, c .before .p .given .1) refl
 
 returns-3 : tie.Need-returns-3
-unfolding answer after factored dosed
-returns-3 c = rw (c .before .before .before .before .factor .given .1) (ap answer (sym (c .enum-told2 .given .1)) ∙ c .before .before .product .ensures)
+unfolding answer after mapped factored dosed doseOf intakeBy
+returns-3 c = rw (c .before .before .before .before .before .factor .given .1, ← c .before .before .before .pair .ensures, ← c .before .before .product .ensures, c .enum-told2 .given .1) refl
 
 pub dose-of-spec : {M : Type 1} → statement M
 dose-of-spec =
@@ -40,6 +44,7 @@ dose-of-spec =
     enum-known-factor
     enum-told
     returns
+    pair-requires
     product-requires
     enum-known-p
     enum-told-2

@@ -1,7 +1,7 @@
 -- What the quotient answers. Assumes nothing.
-use mathlib.Core.Path.{sym, _∙_, ap}
+use mathlib.Core.Path.{refl}
 use borrow.Author.Needs.{needs}
-use Rattle.pair.specs.Calls.{answer}
+use Rattle.pair.specs.Calls.{answer, mapped}
 use Rattle.pathway.specs.Lines.{factored}
 use Rattle.pathway.proofs.doses.factor_of.Statement.{statement}
 use Rattle.pathway.proofs.doses.factor_of.Tie as tie
@@ -16,12 +16,12 @@ enum-told : tie.Need-enum-told
 enum-told c = search needs
 
 returns : tie.Need-returns
-unfolding answer factored
-returns c = ap answer (sym (c .before .p .given .1)) ∙ c .before .before .before .over .ensures
+unfolding answer mapped factored
+returns c = rw (← c .before .before .before .over .ensures, c .before .p .given .1) refl
 
 returns-2 : tie.Need-returns-2
-unfolding answer factored
-returns-2 c = ap answer (sym (c .enum-told .given .1)) ∙ c .before .before .over .ensures
+unfolding answer mapped factored
+returns-2 c = rw (← c .before .before .over .ensures, c .enum-told .given .1) refl
 
 pub factor-of-spec : {M : Type 1} → statement M
 factor-of-spec = tie.close (tie.spec over-requires enum-known-p enum-told returns returns-2)

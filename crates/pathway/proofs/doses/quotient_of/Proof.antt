@@ -1,51 +1,58 @@
--- No reference value gives no figure; a refusal is carried along. Assumes nothing.
-use mathlib.Core.Path.{refl, _∙_, ap}
+-- A refusal is carried along; no reference value gives no figure. Assumes nothing.
+use mathlib.Core.Path.{refl}
 use borrow.Author.Needs.{needs}
-use Rattle.pair.specs.Calls.{after}
-use Rattle.pathway.specs.Lines.{figure, present, dosed, hazardOf}
+use Rattle.equations.specs.Page.{figureBy}
+use Rattle.pair.specs.Calls.{after, afterOne, mapped}
+use Rattle.pathway.specs.Inner.{absentFor}
+use Rattle.pathway.specs.Lines.{figure, dosed, rfdGiven, rfdValue, figureOf, quotientOf}
+use Rattle.pathway.proofs.Carried.{refused-carried}
 use Rattle.pathway.proofs.doses.quotient_of.Statement.{statement}
 use Rattle.pathway.proofs.doses.quotient_of.Tie as tie
 
-enum-known-rfd : tie.Need-enum-known-rfd
-enum-known-rfd c = search needs
+enum-known-dose : tie.Need-enum-known-dose
+enum-known-dose c = search needs
 
 enum-told : tie.Need-enum-told
 enum-told c = search needs
 
 returns : tie.Need-returns
-unfolding figure hazardOf
-returns c = rw (c .enum-told .given .1) refl
+unfolding figure dosed quotientOf
+returns c = rw (c .enum-told .given .1, refused-carried) refl
 
-enum-known-dose : tie.Need-enum-known-dose
-enum-known-dose c = search needs
+enum-known-rfd : tie.Need-enum-known-rfd
+enum-known-rfd c = search needs
 
 enum-told-2 : tie.Need-enum-told-2
 enum-told-2 c = search needs
 
+absent-figure-requires : tie.Need-absent-figure-requires
+absent-figure-requires c κs = search needs
+
 returns-2 : tie.Need-returns-2
-unfolding after figure present dosed hazardOf
-returns-2 c = rw (c .before .before .before .rfd .given .1, c .enum-told2 .given .1) refl
+unfolding after afterOne mapped dosed rfdGiven rfdValue figureBy figureOf quotientOf absentFor
+returns-2 c = rw (c .before .before .before .before .dose .given .1, c .before .enum-told2 .given .1) (c .absent-figure .ensures)
 
 quotient-requires : tie.Need-quotient-requires
 quotient-requires c κs = search needs
 
-figured-requires : tie.Need-figured-requires
-figured-requires c κs = search needs
+worked-figure-requires : tie.Need-worked-figure-requires
+worked-figure-requires c κs = search needs
 
 returns-3 : tie.Need-returns-3
-unfolding after dosed hazardOf
-returns-3 c = rw (c .before .before .before .before .before .before .rfd .given .1, c .before .before .before .dose .given .1) (c .figured .ensures ∙ ap present (c .before .quotient .ensures))
+unfolding after afterOne mapped dosed rfdGiven rfdValue figureBy figureOf quotientOf
+returns-3 c = rw (c .before .before .before .before .before .before .dose .given .1, c .before .before .before .rfd .given .1, c .worked-figure .ensures, c .before .quotient .ensures) refl
 
 pub quotient-of-spec : {M : Type 1} → statement M
 quotient-of-spec =
     tie.close
     (tie.spec
-    enum-known-rfd
+    enum-known-dose
     enum-told
     returns
-    enum-known-dose
+    enum-known-rfd
     enum-told-2
+    absent-figure-requires
     returns-2
     quotient-requires
-    figured-requires
+    worked-figure-requires
     returns-3)

@@ -3,41 +3,41 @@ use mathlib.Core.Path.{refl}
 use borrow.Author.Needs.{needs}
 use Rattle.equations.specs.Formula.{read, pairs}
 use Rattle.equations.specs.Page.{exposure}
-use Rattle.equations.specs.Readings.{plain, letters}
-use Rattle.pathway.specs.Lines.{ofReceptor}
-use Rattle.pathway.specs.Slots.{pathwaySlots}
+use Rattle.equations.specs.Readings.{worked, letters, inputs, byOwner, valueIn}
+use Rattle.pathway.specs.Lines.{workedFor}
+use Rattle.slots.specs.Slots.{table, same, isIn, placeIn, ownerOf, placeOf}
 use Rattle.pathway.proofs.exposure.soil_winter.Statement.{statement}
 use Rattle.pathway.proofs.exposure.soil_winter.Tie as tie
 
-answer-requires : tie.Need-answer-requires
-answer-requires c κs = search needs
+at-requires : tie.Need-at-requires
+at-requires c κs = search needs
 
-answer-requires-2 : tie.Need-answer-requires-2
-answer-requires-2 c κs = search needs
+at-requires-2 : tie.Need-at-requires-2
+at-requires-2 c κs = search needs
 
 times-requires : tie.Need-times-requires
 times-requires c κs = search needs
 
-answer-requires-3 : tie.Need-answer-requires-3
-answer-requires-3 c κs = search needs
+at-requires-3 : tie.Need-at-requires-3
+at-requires-3 c κs = search needs
 
 times-requires-2 : tie.Need-times-requires-2
 times-requires-2 c κs = search needs
 
-answer-requires-4 : tie.Need-answer-requires-4
-answer-requires-4 c κs = search needs
+at-requires-4 : tie.Need-at-requires-4
+at-requires-4 c κs = search needs
 
 times-requires-3 : tie.Need-times-requires-3
 times-requires-3 c κs = search needs
 
-answer-requires-5 : tie.Need-answer-requires-5
-answer-requires-5 c κs = search needs
+at-requires-5 : tie.Need-at-requires-5
+at-requires-5 c κs = search needs
 
 times-requires-4 : tie.Need-times-requires-4
 times-requires-4 c κs = search needs
 
-answer-requires-6 : tie.Need-answer-requires-6
-answer-requires-6 c κs = search needs
+at-requires-6 : tie.Need-at-requires-6
+at-requires-6 c κs = search needs
 
 times-requires-5 : tie.Need-times-requires-5
 times-requires-5 c κs = search needs
@@ -49,24 +49,24 @@ times-requires-6 : tie.Need-times-requires-6
 times-requires-6 c κs = search needs
 
 returns : tie.Need-returns
-unfolding ofReceptor plain read letters pathwaySlots pairs exposure
-returns c = rw (c .times6 .ensures, c .before .entry .ensures, c .before .before .times5 .ensures, c .before .before .before .answer6 .ensures, c .before .before .before .before .times4 .ensures, c .before .before .before .before .before .answer5 .ensures, c .before .before .before .before .before .before .times3 .ensures, c .before .before .before .before .before .before .before .answer4 .ensures, c .before .before .before .before .before .before .before .before .times2 .ensures, c .before .before .before .before .before .before .before .before .before .answer3 .ensures, c .before .before .before .before .before .before .before .before .before .before .times .ensures, c .before .before .before .before .before .before .before .before .before .before .before .answer2 .ensures, c .before .before .before .before .before .before .before .before .before .before .before .before .answer .ensures)
+unfolding workedFor worked read letters inputs byOwner valueIn ownerOf placeOf table same isIn placeIn pairs exposure
+returns c = rw (c .times6 .ensures, c .before .entry .ensures, c .before .before .times5 .ensures, c .before .before .before .at6 .ensures, c .before .before .before .before .times4 .ensures, c .before .before .before .before .before .at5 .ensures, c .before .before .before .before .before .before .times3 .ensures, c .before .before .before .before .before .before .before .at4 .ensures, c .before .before .before .before .before .before .before .before .times2 .ensures, c .before .before .before .before .before .before .before .before .before .at3 .ensures, c .before .before .before .before .before .before .before .before .before .before .times .ensures, c .before .before .before .before .before .before .before .before .before .before .before .at2 .ensures, c .before .before .before .before .before .before .before .before .before .before .before .before .at .ensures)
     refl
 
 pub soil-winter-spec : {M : Type 1} → statement M
 soil-winter-spec =
     tie.close
     (tie.spec
-    answer-requires
-    answer-requires-2
+    at-requires
+    at-requires-2
     times-requires
-    answer-requires-3
+    at-requires-3
     times-requires-2
-    answer-requires-4
+    at-requires-4
     times-requires-3
-    answer-requires-5
+    at-requires-5
     times-requires-4
-    answer-requires-6
+    at-requires-6
     times-requires-5
     entry-requires
     times-requires-6

@@ -1,0 +1,3 @@
+-- The crate's laws. Assumes nothing.
+mod Routes
+mod Carried
