@@ -12,33 +12,32 @@ use lib.Dec.{leb, ltb, eqb, lit<}
 use lib.IntN.{ℤ, pos, negsuc, subℕ}
 use lib.ListN.{length, getD, take, drop, replicate, List·getD-append}
 use lib.Seq.{getD-at}
-use Rattle.deck.specs.Parts.{leading, linesOf, lineOf, fieldIn, fieldOf, fieldsPerLine}
-use Rattle.deck.specs.Numbers.{decimal, unspaced, exponentSpelled, powerOf, digitsRead, endedOf, pointedOf, spelledOf, loneDash, wordOf}
-use Rattle.deck.specs.Slots.{kindOf, S1, C1, R1, rulesOf, unused, above, below, inRange, atLeast, atMost}
+use Rattle.deck.specs.Parts.{leading, linesOf, lineOf, fieldIn, fieldOf}
+use Rattle.deck.specs.Numbers.{digitsValue, unspaced, exponentSpelled, powerOf, digitsRead, endedOf, pointedOf, spelledOf, loneDash, wordOf}
+use Rattle.deck.specs.Kinds.{kindOf, S1, C1, R1, kinds, rulesIn, rulesOf}
+use Rattle.deck.specs.Ranges.{above, below, inRange, valueAtLeast, valueAtMost}
+use Rattle.slots.specs.Slots.{fieldsPerLine, unused, lineRules, ruleAt, ruleOf, ownerOf, placeOf}
+use Rattle.slots.specs.declared.Owner.{Owner}
+use Rattle.slots.specs.declared.Owner.the-variants.{Site, Chemical, Receptor}
+use Rattle.slots.proofs.Laws.{places, place-rule, inside}
 use Rattle.deck.specs.Conditions.{at, first, upTo, fieldConditions, fieldAt, misspelled, misplaced, outOfRange, countOf, conditions}
-use Rattle.deck.specs.Cases.{tabulate, valueOf, noSlot, slotOf, noRecord, recordOf, recordsOf, caseWith, caseOf, caseFor, readOf}
-use Rattle.deck.specs.declared.Rule.{Rule}
-use Rattle.deck.specs.declared.Case.{Case}
-use Rattle.deck.specs.declared.Slot.{Slot}
+use Rattle.deck.specs.Cases.{tabulate, valueOf, noSlot, slotSpelled, noRecord, recordOf, recordsOf, caseWith, caseOf, valueAt, chemicalAt, receptorAt, ownersRecord, printed}
+use Rattle.deck.specs.Ranged.{Spelled, Fits, Ranged}
+use Rattle.slots.specs.declared.Rule.{Rule}
+use Rattle.deck.specs.declared.Filled.{Filled}
 use Rattle.deck.specs.declared.Record.{Record}
 use Rattle.deck.specs.declared.Value.{Value}
 use Rattle.deck.specs.declared.Value.the-variants.{Absent, Printed}
 use Rattle.deck.specs.declared.Word.{Word}
 use Rattle.deck.specs.declared.Word.the-variants.{Blank, Dash, Number, Other}
-use Rattle.deck.specs.declared.Status.{Status}
 use Rattle.deck.specs.declared.Status.the-variants.{Read}
-use Rattle.deck.proofs.Digits.{both, leading-take, decimal-append, decimal-below}
+use Rattle.deck.proofs.Digits.{both, leading-take, digits-value-append, digits-value-below}
 use Rattle.deck.proofs.Words.{digits-next, exponent-small, tail-part}
 use Rattle.deck.proofs.Scan.{first-read}
 use Rattle.deck.proofs.CaseLaws.{length-tabulate}
 use Rattle.deck.proofs.Places.{upTo-each, line-facts, counts, lines-are, kind-site, kind-chemical, kind-receptor}
 
--- ---- what a field may spell: nine digits, and a power of ten from -108 to 99
-pub record Spelled (digits : ℕ) (power : ℤ) : Type 0 where
-  pub nine : digits < 1000000000
-  pub high : above power ≤ 99
-  pub low : below power ≤ 108
-
+-- ---- every word that is a number is one that a field may spell
 abbrev Small : Word → Type 0
 Small Blank = Unit {0}
 Small Dash = Unit {0}
@@ -59,23 +58,23 @@ unfolding below
 sub-below true a b e = omega (arith, ltb-true a b e)
 sub-below false a b e = omega arith
 
-exponent-at-most : (tail : List ℕ) (t : Bool) → exponentSpelled tail ≡ true → eqb (length tail) 0 ≡ t → decimal 0 (drop 2 tail) ≤ 99
-unfolding decimal
+exponent-at-most : (tail : List ℕ) (t : Bool) → exponentSpelled tail ≡ true → eqb (length tail) 0 ≡ t → digitsValue 0 (drop 2 tail) ≤ 99
+unfolding digitsValue
 exponent-at-most [] t s e = omega arith
 exponent-at-most (x ∷ xs) t s e =
-    let l = exponent-small (x ∷ xs) s (λ z. omega arith) (decimal 0 (drop 2 (x ∷ xs))) (ap (decimal 0) (sym (tail-part (x ∷ xs) 2))) in
+    let l = exponent-small (x ∷ xs) s (λ z. omega arith) (digitsValue 0 (drop 2 (x ∷ xs))) (ap (digitsValue 0) (sym (tail-part (x ∷ xs) 2))) in
     omega arith
 
 power-small : (t : Bool) (tail : List ℕ) (places : ℕ) → exponentSpelled tail ≡ true → places ≤ 9
-    → (above (cond t (subℕ 0 (places + decimal 0 (drop 2 tail))) (subℕ (decimal 0 (drop 2 tail)) places)) ≤ 99)
-    × (below (cond t (subℕ 0 (places + decimal 0 (drop 2 tail))) (subℕ (decimal 0 (drop 2 tail)) places)) ≤ 108)
+    → (above (cond t (subℕ 0 (places + digitsValue 0 (drop 2 tail))) (subℕ (digitsValue 0 (drop 2 tail)) places)) ≤ 99)
+    × (below (cond t (subℕ 0 (places + digitsValue 0 (drop 2 tail))) (subℕ (digitsValue 0 (drop 2 tail)) places)) ≤ 108)
 power-small true tail places s h =
     let x = exponent-at-most tail (eqb (length tail) 0) s refl in
-    let b = places + decimal 0 (drop 2 tail) in
+    let b = places + digitsValue 0 (drop 2 tail) in
     (omega (arith, sub-above (ltb 0 b) 0 b refl), omega (arith, sub-below (ltb 0 b) 0 b refl))
 power-small false tail places s h =
     let x = exponent-at-most tail (eqb (length tail) 0) s refl in
-    let a = decimal 0 (drop 2 tail) in
+    let a = digitsValue 0 (drop 2 tail) in
     (omega (arith, sub-above (ltb a places) a places refl), omega (arith, sub-below (ltb a places) a places refl))
 
 module _ (text : List ℕ) (whole places : ℕ) (before : leading 48 57 (take whole text) ≡ length (take whole text))
@@ -83,12 +82,12 @@ module _ (text : List ℕ) (whole places : ℕ) (before : leading 48 57 (take wh
   digits-small : whole + places ≤ 9 → digitsRead text whole places < 1000000000
   unfolding digitsRead
   digits-small few =
-      let n = decimal 0 (take whole text) in
+      let n = digitsValue 0 (take whole text) in
       let rest = take places (drop (whole + 1) text) in
       let cut : whole + 1 + places - (whole + 1) ≡ places = omega arith in
       let room : (n + 1) * 10 ^ length rest ≤ 1000000000 =
       subst (λ (k : ℕ). (n + 1) * 10 ^ length (take k (drop (whole + 1) text)) ≤ 1000000000) cut (digits-next text whole places before few after n refl .1) in
-      omega (arith, decimal-append 0 (take whole text) rest, decimal-below rest after n (n + 1) (le-refl (n + 1)), room)
+      omega (arith, digits-value-append 0 (take whole text) rest, digits-value-below rest after n (n + 1) (le-refl (n + 1)), room)
 
   ended-small : (end : ℕ) → Small (endedOf text whole places end)
   unfolding endedOf powerOf
@@ -120,15 +119,7 @@ unfolding wordOf
 word-small part =
     choose (eqb (length (unspaced part)) 0) Blank _ (λ t. tt) (λ t. choose (loneDash (unspaced part)) Dash _ (λ u. tt) (λ u. spelled-small (unspaced part)))
 
--- ---- what a slot's rule asks of its value; no value is right where - is allowed, and in a later slot
-abbrev pub Fits : Rule → Value → Type 0
-Fits rule Absent = (rule .dash || not (rule .used)) ≡ true
-Fits rule (Printed digits power) = (rule .used ≡ true) × (inRange rule digits power ≡ true) × Spelled digits power
-
--- the rule of slot k, from 0, of a record whose first line is of kind `head`
-unfoldable pub slotRule : ℕ → ℕ → Rule
-slotRule head k = getD (rulesOf (head + k / fieldsPerLine)) (k % fieldsPerLine) unused
-
+-- ---- a field of which no condition holds
 blank-right : (d u : Bool) → u ≡ false → (d || not u) ≡ true
 blank-right true u e = refl
 blank-right false u e = ap not e
@@ -154,21 +145,6 @@ field-fits rule (Number digits power) n f s e =
     (not-false (rule .used) (t .1 .0), not-false (inRange rule digits power) (t .1 .1), s)
 field-fits rule Other n f s e = absurd (true≢false (three rule Other n f e .0))
 
-module _ (deck : List ℕ) (e : first (conditions deck) ≡ Read) where
-  slot-fits : (n head k m : ℕ) → m < linesOf deck → n + k / 6 ≡ suc m → kindOf (lineOf deck (n + k / 6)) ≡ head + k / 6 → Fits (slotRule head k) (slotOf deck n k .value)
-  unfolding slotRule slotOf fieldOf fieldAt
-  slot-fits n head k m h g q =
-      let l = lineOf deck (n + k / 6) in
-      let line : lineOf deck (suc m) ≡ l = ap (lineOf deck) (sym g) in
-      let r = subst (λ (x : List ℕ). first (upTo (fieldAt (kindOf x) x (suc m)) fieldsPerLine) ≡ Read) line (line-facts deck e m h .fields) in
-      let f = upTo-each (fieldAt (kindOf l) l (suc m)) 6 r (k % 6) (mod-lt k (lit< tt)) in
-      let i : suc (k % 6) - 1 ≡ k % 6 = omega arith in
-      let s : suc (k % 6) ≡ k % 6 + 1 = omega arith in
-      subst (λ (x : ℕ). Fits (getD (rulesOf x) (k % 6) unused) (valueOf (wordOf (fieldIn l (k % 6 + 1))))) q
-      (subst (λ (x : ℕ). Fits (getD (rulesOf (kindOf l)) (k % 6) unused) (valueOf (wordOf (fieldIn l x)))) s
-      (subst (λ (x : ℕ). Fits (getD (rulesOf (kindOf l)) x unused) (valueOf (wordOf (fieldIn l (suc (k % 6)))))) i
-      (field-fits (getD (rulesOf (kindOf l)) (suc (k % 6) - 1) unused) (wordOf (fieldIn l (suc (k % 6)))) (suc m) (suc (k % 6)) (word-small (fieldIn l (suc (k % 6)))) f)))
-
 -- ---- what stands in an array that a loop filled
 tabulated : {A : Type 0} (f : ℕ → A) (d : A) (n k : ℕ) → k < n → getD (tabulate n f) k d ≡ f k
 unfolding tabulate
@@ -183,63 +159,89 @@ pub filled-at : {A : Type 0} (f : ℕ → A) (d : A) (n : ℕ) (rest : List A) (
 filled-at f d n rest k h =
     List·getD-append (tabulate n f) rest d k (subst (λ (m : ℕ). k < m) (sym (length-tabulate f d 0 n)) h) ∙ tabulated f d n k h
 
-record-slot : (deck : List ℕ) (n lines k : ℕ) → k < lines * 6 → getD (recordOf deck n lines .slots) k noSlot ≡ slotOf deck n k
+record-slot : (deck : List ℕ) (n lines k : ℕ) → k < lines * 6 → getD (recordOf deck n lines .slots) k noSlot ≡ slotSpelled deck n k
 unfolding recordOf
-record-slot deck n lines k h = filled-at (slotOf deck n) noSlot (lines * 6) (replicate (24 - lines * 6) noSlot) k h
+record-slot deck n lines k h = filled-at (slotSpelled deck n) noSlot (lines * 6) (replicate (24 - lines * 6) noSlot) k h
 
 record-at : (deck : List ℕ) (n count room i : ℕ) → i < count → getD (recordsOf deck n count room) i noRecord ≡ recordOf deck (n + 4 * i) 4
 unfolding recordsOf
 record-at deck n count room i h = filled-at (λ j. recordOf deck (n + 4 * j) 4) noRecord count (replicate (room - count) noRecord) i h
 
+-- ---- the rules of a record's lines, whose kinds follow that of its first
+head : Owner → ℕ
+head Site = S1
+head Chemical = C1
+head Receptor = R1
+
+kind-rules : (o : Owner) (n : ℕ) → 6 * n < places o → rulesOf (head o + n) ≡ lineRules o n
+unfolding head places rulesOf rulesIn kinds
+kind-rules Site zero h = refl
+kind-rules Site (suc zero) h = refl
+kind-rules Site (suc (suc n)) h = absurd (omega arith)
+kind-rules Chemical zero h = refl
+kind-rules Chemical (suc zero) h = refl
+kind-rules Chemical (suc (suc zero)) h = refl
+kind-rules Chemical (suc (suc (suc zero))) h = refl
+kind-rules Chemical (suc (suc (suc (suc n)))) h = absurd (omega arith)
+kind-rules Receptor zero h = refl
+kind-rules Receptor (suc zero) h = refl
+kind-rules Receptor (suc (suc zero)) h = refl
+kind-rules Receptor (suc (suc (suc zero))) h = refl
+kind-rules Receptor (suc (suc (suc (suc n)))) h = absurd (omega arith)
+
+slot-rule : (o : Owner) (k : ℕ) → k < places o → getD (rulesOf (head o + k / 6)) (k % 6) unused ≡ ruleAt o k
+slot-rule o k h = ap (λ (rs : List Rule). getD rs (k % 6) unused) (kind-rules o (k / 6) (omega arith)) ∙ place-rule o k
+
 -- ---- the law
--- One to sixteen chemicals, one to four receptors, and every slot as its rule asks.
-pub record InRange (c : Case) : Type 0 where
-  pub some-chemicals : 1 ≤ c .chemicals .count
-  pub few-chemicals : c .chemicals .count ≤ 16
-  pub some-receptors : 1 ≤ c .receptors .count
-  pub few-receptors : c .receptors .count ≤ 4
-  pub site : (k : ℕ) → k < 12 → Fits (slotRule S1 k) (getD (c .site .slots) k noSlot .value)
-  pub chemical : (i k : ℕ) → i < c .chemicals .count → k < 24
-      → Fits (slotRule C1 k) (getD (getD (c .chemicals .records) i noRecord .slots) k noSlot .value)
-  pub receptor : (i k : ℕ) → i < c .receptors .count → k < 24
-      → Fits (slotRule R1 k) (getD (getD (c .receptors .records) i noRecord .slots) k noSlot .value)
-
 module _ (deck : List ℕ) (e : first (conditions deck) ≡ Read) where
-  sixth : (k : ℕ) → k < 24 → k / 6 < 4
-  sixth k h = omega arith
+  -- slot k of an owner's record that begins at line n
+  slot-fits : (o : Owner) (n k : ℕ) → k < places o → 1 ≤ n → n + k / 6 ≤ linesOf deck → kindOf (lineOf deck (n + k / 6)) ≡ head o + k / 6
+      → Fits (ruleAt o k) (slotSpelled deck n k .value)
+  unfolding slotSpelled fieldOf fieldAt
+  slot-fits o n k p s h q =
+      let m = n + k / 6 - 1 in
+      let l = lineOf deck (n + k / 6) in
+      let line : lineOf deck (suc m) ≡ l = ap (lineOf deck) (omega arith) in
+      let r = subst (λ (x : List ℕ). first (upTo (fieldAt (kindOf x) x (suc m)) fieldsPerLine) ≡ Read) line (line-facts deck e m (omega arith) .fields) in
+      let f = upTo-each (fieldAt (kindOf l) l (suc m)) 6 r (k % 6) (mod-lt k (lit< tt)) in
+      let i : suc (k % 6) - 1 ≡ k % 6 = omega arith in
+      let rule : getD (rulesOf (kindOf l)) (suc (k % 6) - 1) unused ≡ ruleAt o k =
+      ap (λ (x : ℕ). getD (rulesOf (kindOf l)) x unused) i ∙ ap (λ (x : ℕ). getD (rulesOf x) (k % 6) unused) q ∙ slot-rule o k p in
+      subst (λ (x : Rule). Fits x (valueOf (wordOf (fieldIn l (k % 6 + 1))))) rule
+      (subst (λ (x : ℕ). Fits (getD (rulesOf (kindOf l)) (suc (k % 6) - 1) unused) (valueOf (wordOf (fieldIn l x)))) (omega arith)
+      (field-fits (getD (rulesOf (kindOf l)) (suc (k % 6) - 1) unused) (wordOf (fieldIn l (suc (k % 6)))) (suc m) (suc (k % 6)) (word-small (fieldIn l (suc (k % 6)))) f))
 
-  four : (n head i k : ℕ) (xs : List Record) → getD xs i noRecord ≡ recordOf deck n 4 → k < 24 → Fits (slotRule head k) (slotOf deck n k .value)
-      → Fits (slotRule head k) (getD (getD xs i noRecord .slots) k noSlot .value)
-  four n head i k xs r h f =
-      subst (λ (s : Slot). Fits (slotRule head k) (s .value)) (sym (ap (λ (x : Record). getD (x .slots) k noSlot) r ∙ record-slot deck n 4 k h)) f
+  value-fits : (o : Owner) (n k lines : ℕ) → k < places o → k < lines * 6 → 1 ≤ n → n + k / 6 ≤ linesOf deck → kindOf (lineOf deck (n + k / 6)) ≡ head o + k / 6
+      → (r : Record) → r ≡ recordOf deck n lines → Fits (ruleAt o k) (valueAt r k)
+  unfolding valueAt
+  value-fits o n k lines p b s h q r g =
+      subst (λ (x : Filled). Fits (ruleAt o k) (x .value)) (sym (ap (λ (x : Record). getD (x .slots) k noSlot) g ∙ record-slot deck n lines k b))
+      (slot-fits o n k p s h q)
 
-  case-in-range : InRange (caseOf deck)
-  unfolding caseOf caseWith
-  case-in-range =
+  owner-fits : (o : Owner) (j i k : ℕ) → j < countOf deck R1 (linesOf deck) → i < countOf deck C1 (linesOf deck) → k < places o
+      → Fits (ruleAt o k) (valueAt (ownersRecord o (caseOf deck) j i) k)
+  unfolding head places caseOf caseWith ownersRecord chemicalAt receptorAt
+  owner-fits Site j i k h l p =
+      value-fits Site 1 k 2 p p (omega arith) (omega (arith, lines-are deck e)) (kind-site deck e (k / 6) (omega arith)) _ refl
+  owner-fits Chemical j i k h l p =
+      value-fits Chemical (3 + 4 * i) k 4 p p (omega arith) (omega (arith, lines-are deck e)) (kind-chemical deck e i (k / 6) l (omega arith))
+      _ (record-at deck 3 (countOf deck C1 (linesOf deck)) 16 i l)
+  owner-fits Receptor j i k h l p =
       let m = countOf deck C1 (linesOf deck) in
-      let p = countOf deck R1 (linesOf deck) in
-      let all = lines-are deck e in
-      record {
-        some-chemicals = counts deck e .0 .0;
-        few-chemicals = counts deck e .0 .1;
-        some-receptors = counts deck e .1 .0;
-        few-receptors = counts deck e .1 .1;
-        site = λ k h.
-            subst (λ (s : Slot). Fits (slotRule S1 k) (s .value)) (sym (record-slot deck 1 2 k h))
-            (slot-fits deck e 1 S1 k (k / 6) (omega (arith, all)) (omega arith) (kind-site deck e (k / 6) (omega arith)));
-        chemical = λ i k h l.
-            four (3 + 4 * i) C1 i k (recordsOf deck 3 m 16) (record-at deck 3 m 16 i h) l
-            (slot-fits deck e (3 + 4 * i) C1 k (2 + 4 * i + k / 6) (omega (arith, all, sixth k l)) (omega arith) (kind-chemical deck e i (k / 6) h (sixth k l)));
-        receptor = λ i k h l.
-            four (3 + 4 * m + 4 * i) R1 i k (recordsOf deck (3 + 4 * m) p 4) (record-at deck (3 + 4 * m) p 4 i h) l
-            (slot-fits deck e (3 + 4 * m + 4 * i) R1 k (2 + 4 * m + 4 * i + k / 6) (omega (arith, all, sixth k l)) (omega arith)
-            (kind-receptor deck e i (k / 6) h (sixth k l)));
-      }
+      value-fits Receptor (3 + 4 * m + 4 * j) k 4 p p (omega arith) (omega (arith, lines-are deck e)) (kind-receptor deck e j (k / 6) h (omega arith))
+      _ (record-at deck (3 + 4 * m) (countOf deck R1 (linesOf deck)) 4 j h)
 
--- every case that is read
-pub accepted : (deck : List ℕ) → readOf deck .status ≡ Read → InRange (readOf deck .case)
-unfolding readOf caseFor
-accepted deck e = subst (λ (s : Status). InRange (caseFor s deck)) (sym e) (case-in-range deck e)
+-- the case of every deck that is read
+pub accepted : (deck : List ℕ) → first (conditions deck) ≡ Read → Ranged (caseOf deck)
+unfolding caseOf caseWith printed ruleOf
+accepted deck e =
+    record {
+      some-chemicals = counts deck e .0 .0;
+      few-chemicals = counts deck e .0 .1;
+      some-receptors = counts deck e .1 .0;
+      few-receptors = counts deck e .1 .1;
+      fits = λ j i h l s. owner-fits deck e (ownerOf s) j i (placeOf s) h l (inside s);
+    }
 
 -- ---- what a value in range gives the equations
 module _ (rule : Rule) (digits : ℕ) (power : ℤ) where
@@ -250,7 +252,7 @@ module _ (rule : Rule) (digits : ℕ) (power : ℤ) where
   -- a value that may not be 0 is above it
   pub range-positive : inRange rule digits power ≡ true → rule .zero ≡ false → 0 < digits
   unfolding inRange
-  range-positive h z = positive-if (eqb digits 0) (atLeast digits power && atMost (rule .most) digits power) refl h z
+  range-positive h z = positive-if (eqb digits 0) (valueAtLeast digits power && valueAtMost (rule .most) digits power) refl h z
 
   tests-if : (t : Bool) (s : Bool) → eqb digits 0 ≡ t → cond t (rule .zero) s ≡ true → 0 < digits → s ≡ true
   tests-if true s e h p = absurd (let z = eqb-true digits 0 e in omega arith)
@@ -259,10 +261,10 @@ module _ (rule : Rule) (digits : ℕ) (power : ℤ) where
   -- a value above 0 is at least 1E-20 and at most the rule's largest
   pub range-bounds : inRange rule digits power ≡ true → 0 < digits
       → (10 ^ below power ≤ digits * 10 ^ (above power + 20)) × (digits * 10 ^ above power ≤ rule .most * 10 ^ below power)
-  unfolding inRange atLeast atMost
+  unfolding inRange valueAtLeast valueAtMost
   range-bounds h p =
-      let t = tests-if (eqb digits 0) (atLeast digits power && atMost (rule .most) digits power) refl h p in
-      let b = both (atLeast digits power) (atMost (rule .most) digits power) t in
+      let t = tests-if (eqb digits 0) (valueAtLeast digits power && valueAtMost (rule .most) digits power) refl h p in
+      let b = both (valueAtLeast digits power) (valueAtMost (rule .most) digits power) t in
       (leb-true (10 ^ below power) (digits * 10 ^ (above power + 20)) (b .0), leb-true (digits * 10 ^ above power) (rule .most * 10 ^ below power) (b .1))
 
 -- a slot that is needed and allows no - has a value

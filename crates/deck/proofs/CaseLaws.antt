@@ -13,12 +13,12 @@ use lib.Seq.{set-at, append-snoc}
 use Rattle.deck.specs.Parts.{within, leading, linesOf, lineOf, fieldIn, fieldOf}
 use Rattle.deck.specs.Numbers.{idIn, idSpelled, wordOf}
 use Rattle.deck.specs.Conditions.{idOf}
-use Rattle.deck.specs.Cases.{tabulate, valueOf, noSlot, slotOf, noRecord, recordOf, recordsOf, caseWith, noCase}
+use Rattle.deck.specs.Cases.{tabulate, valueOf, noSlot, slotSpelled, noRecord, recordOf, recordsOf, caseWith, noCase}
 use Rattle.deck.specs.declared.Word.{Word}
 use Rattle.deck.specs.declared.Word.the-variants.{Number}
 use Rattle.deck.specs.declared.Value.{Value}
 use Rattle.deck.specs.declared.Value.the-variants.{Absent, Printed}
-use Rattle.deck.specs.declared.Slot.{Slot}
+use Rattle.deck.specs.declared.Filled.{Filled}
 use Rattle.deck.specs.declared.Record.{Record}
 use Rattle.deck.specs.declared.Case.{Case}
 use Rattle.deck.proofs.Digits.{within-bounds}
@@ -69,8 +69,8 @@ unfolding valueOf
 value-number w d p q e h = ap (Printed d) h ∙ sym (ap valueOf e)
 
 pub slot-is : (deck part : List ℕ) (n k : ℕ) (w : Word) (v : Value) → v ≡ valueOf w → w ≡ wordOf part
-    → part ≡ fieldOf deck (n + k / 6) (k % 6 + 1) → _≡_ {A = Slot} (record { value = v }) (slotOf deck n k)
-unfolding slotOf
+    → part ≡ fieldOf deck (n + k / 6) (k % 6 + 1) → _≡_ {A = Filled} (record { value = v }) (slotSpelled deck n k)
+unfolding slotSpelled
 slot-is deck part n k w v e f g = ap (λ (x : Value). record { value = x }) (e ∙ ap valueOf (f ∙ ap wordOf g))
 
 -- ---- an array that a loop fills
@@ -97,13 +97,13 @@ module _ {A : Type 0} (f : ℕ → A) (none : A) (room : ℕ) where
       ∙ sym (ap (λ (m : ℕ). tabulate m f ++ replicate (room - (k + 1)) none) (add-one k) ∙ append-snoc (tabulate k f) (f k) (replicate (room - (k + 1)) none))
 
 -- ---- records and cases
-pub record-is : (deck : List ℕ) (n lines k id : ℕ) (slots : List Slot) → id ≡ idOf (lineOf deck n) → k ≤ lines * 6 → lines * 6 ≤ k
-    → slots ≡ tabulate k (slotOf deck n) ++ replicate (24 - k) noSlot
+pub record-is : (deck : List ℕ) (n lines k id : ℕ) (slots : List Filled) → id ≡ idOf (lineOf deck n) → k ≤ lines * 6 → lines * 6 ≤ k
+    → slots ≡ tabulate k (slotSpelled deck n) ++ replicate (24 - k) noSlot
     → _≡_ {A = Record} (record { id = id; slots = slots }) (recordOf deck n lines)
 unfolding recordOf
 record-is deck n lines k id slots e p q f =
-    let s : slots ≡ tabulate (lines * 6) (slotOf deck n) ++ replicate (24 - lines * 6) noSlot =
-    f ∙ ap (λ (m : ℕ). tabulate m (slotOf deck n) ++ replicate (24 - m) noSlot) (le-antisymm p q) in
+    let s : slots ≡ tabulate (lines * 6) (slotSpelled deck n) ++ replicate (24 - lines * 6) noSlot =
+    f ∙ ap (λ (m : ℕ). tabulate m (slotSpelled deck n) ++ replicate (24 - m) noSlot) (le-antisymm p q) in
     λ i. record { id = e i; slots = s i }
 
 pub records-are : (deck : List ℕ) (n count room i : ℕ) (xs : List Record) → i ≤ count → count ≤ i

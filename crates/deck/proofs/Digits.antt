@@ -12,7 +12,7 @@ use lib.Dec.{leb, lit≤}
 use lib.ListN.{length, take, drop, getD, drop-of-length-le}
 use lib.Seq.{drop-cons}
 use Rattle.deck.specs.Parts.{within, leading}
-use Rattle.deck.specs.Numbers.{decimal}
+use Rattle.deck.specs.Numbers.{digitsValue}
 
 pub both : (a b : Bool) → (a && b) ≡ true → (a ≡ true) × (b ≡ true)
 both true b h = (refl, h)
@@ -65,19 +65,19 @@ pub digit-at : (s : List ℕ) → leading 48 57 s ≡ length s → (i : ℕ) →
 digit-at s e i h = within-bounds 48 57 (getD s i 0) (in-leading 48 57 s i (subst (λ (n : ℕ). i < n) (sym e) h))
 
 -- ---- the number that digits spell
-pub decimal-turn : (s : List ℕ) (from v i : ℕ) → i < length s → decimal v (drop i s) ≡ decimal from s
-    → decimal (v * 10 + (getD s i 0 - 48)) (drop (i + 1) s) ≡ decimal from s
-unfolding decimal
-decimal-turn s from v i h e = rw add-one (sym (ap (decimal v) (drop-cons s i 0 h)) ∙ e)
+pub digits-value-turn : (s : List ℕ) (from v i : ℕ) → i < length s → digitsValue v (drop i s) ≡ digitsValue from s
+    → digitsValue (v * 10 + (getD s i 0 - 48)) (drop (i + 1) s) ≡ digitsValue from s
+unfolding digitsValue
+digits-value-turn s from v i h e = rw add-one (sym (ap (digitsValue v) (drop-cons s i 0 h)) ∙ e)
 
-pub decimal-end : (s : List ℕ) (from v i : ℕ) → length s ≤ i → decimal v (drop i s) ≡ decimal from s → v ≡ decimal from s
-unfolding decimal
-decimal-end s from v i h e = sym (ap (decimal v) (drop-of-length-le s h)) ∙ e
+pub digits-value-end : (s : List ℕ) (from v i : ℕ) → length s ≤ i → digitsValue v (drop i s) ≡ digitsValue from s → v ≡ digitsValue from s
+unfolding digitsValue
+digits-value-end s from v i h e = sym (ap (digitsValue v) (drop-of-length-le s h)) ∙ e
 
-pub decimal-append : (n : ℕ) (xs ys : List ℕ) → decimal n (xs ++ ys) ≡ decimal (decimal n xs) ys
-unfolding decimal
-decimal-append n [] ys = refl
-decimal-append n (x ∷ xs) ys = decimal-append (n * 10 + (x - 48)) xs ys
+pub digits-value-append : (n : ℕ) (xs ys : List ℕ) → digitsValue n (xs ++ ys) ≡ digitsValue (digitsValue n xs) ys
+unfolding digitsValue
+digits-value-append n [] ys = refl
+digits-value-append n (x ∷ xs) ys = digits-value-append (n * 10 + (x - 48)) xs ys
 
 -- room for k digits more
 pub room-turn : (v d k M : ℕ) → d ≤ 9 → (v + 1) * 10 ^ suc k ≤ M → (v * 10 + d + 1) * 10 ^ k ≤ M
@@ -101,12 +101,12 @@ digit-first true n m e = (refl, omega arith)
 digit-first false n m e = absurd (let z : 0 ≡ suc m = e in omega arith)
 
 -- what digits spell lies below the power of ten with as many zeros
-pub decimal-below : (s : List ℕ) → leading 48 57 s ≡ length s → (v n : ℕ) → v + 1 ≤ n → decimal v s + 1 ≤ n * 10 ^ length s
-unfolding decimal leading
-decimal-below [] e v n h = subst (λ (k : ℕ). v + 1 ≤ k) (sym (ap (λ (k : ℕ). n * k) (pow-zero 10) ∙ mul-one n)) h
-decimal-below (d ∷ ds) e v n h =
+pub digits-value-below : (s : List ℕ) → leading 48 57 s ≡ length s → (v n : ℕ) → v + 1 ≤ n → digitsValue v s + 1 ≤ n * 10 ^ length s
+unfolding digitsValue leading
+digits-value-below [] e v n h = subst (λ (k : ℕ). v + 1 ≤ k) (sym (ap (λ (k : ℕ). n * k) (pow-zero 10) ∙ mul-one n)) h
+digits-value-below (d ∷ ds) e v n h =
     let f = digit-first (within 48 57 d) (leading 48 57 ds) (length ds) e in
     let b = within-bounds 48 57 d (f .0) in
-    subst (λ (k : ℕ). decimal (v * 10 + (d - 48)) ds + 1 ≤ k)
+    subst (λ (k : ℕ). digitsValue (v * 10 + (d - 48)) ds + 1 ≤ k)
     (mul-assoc n 10 (10 ^ length ds) ∙ ap (λ (k : ℕ). n * k) (mul-comm 10 (10 ^ length ds) ∙ sym (pow-suc 10 (length ds))))
-    (decimal-below ds (f .1) (v * 10 + (d - 48)) (n * 10) (omega arith))
+    (digits-value-below ds (f .1) (v * 10 + (d - 48)) (n * 10) (omega arith))

@@ -11,9 +11,11 @@ use lib.IntN.{ℤ}
 use lib.ListN.{getD}
 use Rattle.deck.specs.Parts.{fieldIn}
 use Rattle.deck.specs.Numbers.{wordOf}
-use Rattle.deck.specs.Slots.{rulesOf, unused, inRange}
+use Rattle.deck.specs.Kinds.{rulesOf}
+use Rattle.deck.specs.Ranges.{inRange}
+use Rattle.slots.specs.Slots.{unused}
 use Rattle.deck.specs.Conditions.{Condition, first, upTo, fieldConditions, misspelled, misplaced, outOfRange, fieldAt}
-use Rattle.deck.specs.declared.Rule.{Rule}
+use Rattle.slots.specs.declared.Rule.{Rule}
 use Rattle.deck.specs.declared.Status.{Status}
 use Rattle.deck.specs.declared.Status.the-variants.{Read, Stopped}
 use Rattle.deck.specs.declared.Word.{Word}
@@ -87,13 +89,9 @@ module _ (rule : Rule) (w : Word) (n f : ℕ) where
 
   pub field-number : (d : ℕ) (p q : ℤ) → w ≡ Number d p → rule .used ≡ true → q ≡ p → (s : Status)
       → s ≡ cond (inRange rule d q) Read (Stopped 33 n f) → s ≡ first (fieldConditions rule w n f)
-  unfolding first fieldConditions misspelled misplaced outOfRange
+  unfolding first fieldConditions misspelled misplaced outOfRange inRange
   field-number d p q e u g s h =
-      rw e
-      (h
-      ∙ ap (λ (z : ℤ). cond (inRange rule d z) Read (Stopped 33 n f)) g
-      ∙ ranged (inRange rule d p)
-      ∙ sym (ap (λ (b : Bool). cond (not b) (Stopped 32 n f) (cond (not (inRange rule d p)) (Stopped 33 n f) Read)) u))
+      rw (e, u) (h ∙ ap (λ (z : ℤ). cond (inRange rule d z) Read (Stopped 33 n f)) g ∙ ranged (inRange rule d p))
 
   pub field-later : (d : ℕ) (p : ℤ) → w ≡ Number d p → rule .used ≡ false → Stopped 32 n f ≡ first (fieldConditions rule w n f)
   unfolding first fieldConditions misspelled misplaced outOfRange

@@ -8,8 +8,9 @@ use mathlib.Core.List.{List, [], _∷_}
 use borrow.Author.Tests.{eq-eqb, ne-eqb, not-true, not-false}
 use lib.Dec.{leb, eqb}
 use lib.ListN.{length, getD, take, drop}
-use Rattle.deck.specs.Parts.{leading, fieldsPerLine}
-use Rattle.deck.specs.Slots.{kindOf, S1, S2, C1, C2, C3, C4, R1, R2, R3, R4, EN, order, befores, among}
+use Rattle.deck.specs.Parts.{leading}
+use Rattle.deck.specs.Kinds.{kindOf, S1, S2, C1, C2, C3, C4, R1, R2, R3, R4, EN, kindOrder, befores, among}
+use Rattle.slots.specs.Slots.{fieldsPerLine}
 use Rattle.deck.specs.Conditions.{first, upTo, fieldAt, badBytes, badKind, begins, idOf, sameLetter, wrongId, badId, lineConditionsAfter}
 use Rattle.deck.specs.declared.Status.{Status}
 use Rattle.deck.specs.declared.Status.the-variants.{Stopped}
@@ -33,8 +34,8 @@ unfolding among
 among-later x a ks r n e = simp (ne-eqb x a n) e
 
 pub follows-none : (before k : ℕ) → (k ≡ S1 → ⊥) → (k ≡ S2 → ⊥) → (k ≡ C1 → ⊥) → (k ≡ C2 → ⊥) → (k ≡ C3 → ⊥) → (k ≡ C4 → ⊥)
-    → (k ≡ R1 → ⊥) → (k ≡ R2 → ⊥) → (k ≡ R3 → ⊥) → (k ≡ R4 → ⊥) → (k ≡ EN → ⊥) → false ≡ among before (befores order k)
-unfolding befores order among
+    → (k ≡ R1 → ⊥) → (k ≡ R2 → ⊥) → (k ≡ R3 → ⊥) → (k ≡ R4 → ⊥) → (k ≡ EN → ⊥) → false ≡ among before (befores kindOrder k)
+unfolding befores kindOrder among
 follows-none before k a b c d e f g h i j l =
     simp (ne-eqb k S1 a, ne-eqb k S2 b, ne-eqb k C1 c, ne-eqb k C2 d, ne-eqb k C3 e, ne-eqb k C4 f, ne-eqb k R1 g, ne-eqb k R2 h, ne-eqb k R3 i, ne-eqb k R4 j, ne-eqb k EN l)
 
@@ -48,7 +49,7 @@ unfolding badBytes
 bytes-feed line n e h = simp (sym e ∙ h)
 
 -- ---- 21
-module _ (before kind chemicals receptors : ℕ) (r : Bool) (e : r ≡ among before (befores order kind)) where
+module _ (before kind chemicals receptors : ℕ) (r : Bool) (e : r ≡ among before (befores kindOrder kind)) where
   pub kind-out : not r ≡ true → true ≡ badKind before kind chemicals receptors
   unfolding badKind
   kind-out h = simp (sym e ∙ not-true r h)

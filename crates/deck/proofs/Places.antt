@@ -10,7 +10,7 @@ use mathlib.Core.List.{List, [], _∷_, _++_}
 use borrow.Author.Tests.{eqb-true, not-false}
 use lib.Dec.{eqb, leb}
 use Rattle.deck.specs.Parts.{linesOf, lineOf, within}
-use Rattle.deck.specs.Slots.{Follows, _after_, kindOf, start, S1, S2, C1, C2, C3, C4, R1, R2, R3, R4, EN, order, befores, among}
+use Rattle.deck.specs.Kinds.{Follows, _after_, kindOf, start, S1, S2, C1, C2, C3, C4, R1, R2, R3, R4, EN, kindOrder, befores, among}
 use Rattle.deck.specs.Conditions.{Condition, at, first, upTo, badKind, badLength, noEnd, idOf, countOf, lineConditionsAfter, lineConditions, conditions}
 use Rattle.deck.specs.declared.Status.{Status}
 use Rattle.deck.specs.declared.Status.the-variants.{Read, Stopped}
@@ -105,8 +105,8 @@ record Known (a b : ℕ) : Type 0 where
   early : (n c r m : ℕ) → Shape n b c r → r ≡ 0 → c ≤ m → 3 + 4 * m ≤ n → ⊥
   receptor : (n c r i j : ℕ) → Shape n b c r → 1 ≤ r → n ≡ 3 + 4 * c + 4 * i + j → j < 4 → (b ≡ EN → ⊥) → b ≡ R1 + j
 
-known-rows : Rows Known order
-unfolding order
+known-rows : Rows Known kindOrder
+unfolding kindOrder
 known-rows = (
   (omega arith, tt),
   (
@@ -127,8 +127,8 @@ known-rows = (
   ),
 )
 
-known : (a b : ℕ) → among a (befores order b) ≡ true → Known a b
-known a b h = rows-hold Known order a b known-rows h
+known : (a b : ℕ) → among a (befores kindOrder b) ≡ true → Known a b
+known a b h = rows-hold Known kindOrder a b known-rows h
 
 -- ---- counts only grow
 grown : (t : Bool) (c : ℕ) → c ≤ cond t (suc c) c
@@ -142,12 +142,12 @@ count-grows deck k n (suc j) =
     rw add-suc
     (omega (arith, count-grows deck k n j, grown (eqb (kindOf (lineOf deck (suc (n + j)))) k) (countOf deck k (n + j))))
 
-pub may-follow : (before kind c r : ℕ) → badKind before kind c r ≡ false → among before (befores order kind) ≡ true
+pub may-follow : (before kind c r : ℕ) → badKind before kind c r ≡ false → among before (befores kindOrder kind) ≡ true
 unfolding badKind
 may-follow before kind c r e =
-    let a = neither (not (among before (befores order kind)) || eqb kind C1 && leb 16 c) (eqb kind R1 && leb 4 r) e in
-    let b = neither (not (among before (befores order kind))) (eqb kind C1 && leb 16 c) (a .0) in
-    not-false (among before (befores order kind)) (b .0)
+    let a = neither (not (among before (befores kindOrder kind)) || eqb kind C1 && leb 16 c) (eqb kind R1 && leb 4 r) e in
+    let b = neither (not (among before (befores kindOrder kind))) (eqb kind C1 && leb 16 c) (a .0) in
+    not-false (among before (befores kindOrder kind)) (b .0)
 
 phases : (p c : ℕ) (t u : Bool) → c ≤ cond t 0 (cond u p p) → c ≤ p
 phases p c true u h = omega arith

@@ -13,8 +13,8 @@ use mir.Val.{Fits}
 use borrow.Author.Tests.{eq-eqb, ne-eqb, le-leb, lt-leb, leb-true, leb-false, not-true, not-false}
 use lib.Dec.{leb, ltb, lit≤, lit<}
 use lib.IntN.{ℤ, pos, negsuc}
-use Rattle.deck.specs.Slots.{above, below, atMost, atLeast, inRange}
-use Rattle.deck.specs.declared.Rule.{Rule}
+use Rattle.deck.specs.Ranges.{above, below, valueAtMost, valueAtLeast, inRange}
+use Rattle.slots.specs.declared.Rule.{Rule}
 use Rattle.deck.proofs.Words.{tens}
 
 pub ten-more : (i v : ℕ) → v ≡ 10 ^ i → v * 10 ≡ 10 ^ (i + 1)
@@ -43,8 +43,8 @@ module _ (a b c d : ℕ) (f : a ≤ b → c ≤ d) (g : c ≤ d → a ≤ b) whe
   leb-same = agree (leb a b) (leb c d) refl refl
 
 module _ (most digits : ℕ) (z : ℤ) (some : 0 < digits) (fits : digits < 2 ^ 32) (fits′ : most < 2 ^ 32) where
-  pub above-all : 9 < above z → false ≡ atMost most digits z
-  unfolding atMost
+  pub above-all : 9 < above z → false ≡ valueAtMost most digits z
+  unfolding valueAtMost
   above-all h =
       let d : below z ≡ 0 = one-side z (omega arith) in
       let t : 10 ^ 10 ≤ 10 ^ above z = pow-le-pow-right (lit≤ tt) h in
@@ -52,8 +52,8 @@ module _ (most digits : ℕ) (z : ℤ) (some : 0 < digits) (fits : digits < 2 ^ 
       let b : most * 10 ^ below z ≡ most = ap (λ (n : ℕ). most * 10 ^ n) d ∙ mul-one most in
       sym (lt-leb (digits * 10 ^ above z) (most * 10 ^ below z) (omega arith))
 
-  pub below-all : 9 < below z → ltb 0 most ≡ atMost most digits z
-  unfolding atMost
+  pub below-all : 9 < below z → ltb 0 most ≡ valueAtMost most digits z
+  unfolding valueAtMost
   below-all h =
       let u : digits * 10 ^ above z ≡ digits = ap (λ (n : ℕ). digits * 10 ^ n) (other-side z (omega arith)) ∙ mul-one digits in
       let t : 10 ^ 10 ≤ 10 ^ below z = pow-le-pow-right (lit≤ tt) h in
@@ -62,8 +62,8 @@ module _ (most digits : ℕ) (z : ℤ) (some : 0 < digits) (fits : digits < 2 ^ 
       (λ q. ⊎-elim (λ e. absurd (let n : most * 10 ^ below z ≡ 0 = ap (λ (k : ℕ). k * 10 ^ below z) e ∙ zero-mul (10 ^ below z) in omega arith)) (λ p. p)
       (eq-zero-or-pos most))
 
-  pub within-nine : (u d : ℕ) → u ≡ 10 ^ above z → d ≡ 10 ^ below z → leb (digits * u) (most * d) ≡ atMost most digits z
-  unfolding atMost
+  pub within-nine : (u d : ℕ) → u ≡ 10 ^ above z → d ≡ 10 ^ below z → leb (digits * u) (most * d) ≡ valueAtMost most digits z
+  unfolding valueAtMost
   within-nine u d e f = rw (e, f)
 
 -- a product of a number of 32 bits and a power of ten up to the ninth
@@ -73,8 +73,8 @@ product-fits d n v h s e =
     record { fits = subst (λ (m : ℕ). d * m < 2 ^ 64) (sym e) (lt-of-le-of-lt p (lit< tt)) }
 
 module _ (digits : ℕ) (z : ℤ) (some : 0 < digits) (fits : digits < 2 ^ 32) where
-  pub least-small : below z ≤ 20 → true ≡ atLeast digits z
-  unfolding atLeast
+  pub least-small : below z ≤ 20 → true ≡ valueAtLeast digits z
+  unfolding valueAtLeast
   least-small h =
       let p : 10 ^ below z ≤ 10 ^ (above z + 20) = pow-le-pow-right (lit≤ tt) (omega arith) in
       let q : 1 * 10 ^ (above z + 20) ≤ digits * 10 ^ (above z + 20) = mul-le-mul-right (10 ^ (above z + 20)) some in
@@ -87,15 +87,15 @@ module _ (digits : ℕ) (z : ℤ) (some : 0 < digits) (fits : digits < 2 ^ 32) w
     split : 10 ^ below z ≡ 10 ^ (below z - 20) * 10 ^ 20
     split = let e : below z ≡ below z - 20 + 20 = omega arith in ap (λ (n : ℕ). 10 ^ n) e ∙ pow-add 10 (below z - 20) 20
 
-    pub least-far : 9 < below z - 20 → false ≡ atLeast digits z
-    unfolding atLeast
+    pub least-far : 9 < below z - 20 → false ≡ valueAtLeast digits z
+    unfolding valueAtLeast
     least-far h =
         let t : 10 ^ 10 ≤ 10 ^ (below z - 20) = pow-le-pow-right (lit≤ tt) h in
         let m : digits * 10 ^ 20 < 10 ^ (below z - 20) * 10 ^ 20 = mul-lt-mul-of-pos-right (lt-of-lt-of-le fits (le-trans (lit≤ tt) t)) (lit< tt) in
         sym (lt-leb (10 ^ below z) (digits * 10 ^ (above z + 20)) (rw (scaled, split) m))
 
-    pub least-near : (v : ℕ) → v ≡ 10 ^ (below z - 20) → leb v digits ≡ atLeast digits z
-    unfolding atLeast
+    pub least-near : (v : ℕ) → v ≡ 10 ^ (below z - 20) → leb v digits ≡ valueAtLeast digits z
+    unfolding valueAtLeast
     least-near v e =
         rw (scaled, split, e)
         (leb-same (10 ^ (below z - 20)) digits (10 ^ (below z - 20) * 10 ^ 20) (digits * 10 ^ 20)
@@ -106,11 +106,11 @@ module _ (rule : Rule) (digits : ℕ) (z : ℤ) where
   unfolding inRange
   range-zero h = simp (eq-eqb digits 0 h)
 
-  module _ (some : digits ≡ 0 → ⊥) (r : Bool) (e : r ≡ atLeast digits z) where
+  module _ (some : digits ≡ 0 → ⊥) (r : Bool) (e : r ≡ valueAtLeast digits z) where
     pub range-low : not r ≡ true → false ≡ inRange rule digits z
     unfolding inRange
     range-low h = simp (ne-eqb digits 0 some, sym e ∙ not-true r h)
 
-    pub range-high : not r ≡ false → (q : Bool) → q ≡ atMost (rule .most) digits z → q ≡ inRange rule digits z
+    pub range-high : not r ≡ false → (q : Bool) → q ≡ valueAtMost (rule .most) digits z → q ≡ inRange rule digits z
     unfolding inRange
     range-high h q f = simp (ne-eqb digits 0 some, sym e ∙ not-false r h) f

@@ -5,9 +5,9 @@ use mathlib.Core.Path.{_≡_, refl, sym, ap, _∙_}
 use mathlib.Core.Bool.{Bool, true, false}
 use mathlib.Core.List.{List, [], _∷_, _++_}
 use Rattle.deck.specs.Parts.{linesOf}
-use Rattle.deck.specs.Slots.{C1, R1}
+use Rattle.deck.specs.Kinds.{C1, R1}
 use Rattle.deck.specs.Conditions.{at, first, upTo, countOf, lineConditions, badLength, noEnd, conditions}
-use Rattle.deck.specs.Cases.{caseWith, caseOf, noCase, caseFor, readOf}
+use Rattle.deck.specs.Cases.{caseWith, caseOf, noCase, caseFor, readOf, toldOf}
 use Rattle.deck.specs.declared.Case.{Case}
 use Rattle.deck.specs.declared.Reading.{Reading}
 use Rattle.deck.specs.declared.Status.{Status}
@@ -45,3 +45,8 @@ module _ (deck : List ℕ) where
           ∙ ap (λ (m : ℕ). caseWith deck m d) (n .0)
           ∙ ap (caseWith deck (countOf deck C1 (linesOf deck))) (n .1)
           ∙ sym (ap (λ (u : Status). caseFor u deck) q))
+
+  -- and what is told of it
+  pub with-told : (r : Reading) → r ≡ readOf deck → (r ≡ readOf deck) × (toldOf (r .status) ≡ toldOf (first (conditions deck)))
+  unfolding readOf
+  with-told r e = (e, ap (λ (x : Reading). toldOf (x .status)) e)

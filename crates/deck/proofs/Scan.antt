@@ -10,9 +10,10 @@ use mathlib.Core.List.{List, [], _∷_, _++_}
 use borrow.Author.Tests.{eq-eqb, ne-eqb, lt-ltb, le-ltb, leb-false}
 use lib.Dec.{leb, eqb}
 use lib.ListN.{length, take, drop, length-take, length-drop}
-use Rattle.deck.specs.Parts.{leading, within, linesOf, lineOf, fieldsPerLine}
+use Rattle.deck.specs.Parts.{leading, within, linesOf, lineOf}
 use Rattle.deck.specs.Numbers.{idIn, idSpelled}
-use Rattle.deck.specs.Slots.{kindOf, C1, R1, EN, among, befores, order}
+use Rattle.deck.specs.Kinds.{kindOf, C1, R1, EN, among, befores, kindOrder}
+use Rattle.slots.specs.Slots.{fieldsPerLine}
 use Rattle.deck.specs.Conditions.{Condition, at, first, upTo, fieldAt, badBytes, badKind, badId, idOf, lineConditionsAfter, countOf, lineConditions, badLength, noEnd}
 use Rattle.deck.specs.declared.Status.{Status}
 use Rattle.deck.specs.declared.Status.the-variants.{Read, Stopped}
@@ -56,12 +57,12 @@ counted true n m h e = leb-false m n e
 counted false n m h e = h
 
 module _ (before kind chemicals receptors : ℕ) (e : badKind before kind chemicals receptors ≡ false) where
-  parts : ((not (among before (befores order kind)) || eqb kind C1 && leb 16 chemicals) ≡ false) × ((eqb kind R1 && leb 4 receptors) ≡ false)
+  parts : ((not (among before (befores kindOrder kind)) || eqb kind C1 && leb 16 chemicals) ≡ false) × ((eqb kind R1 && leb 4 receptors) ≡ false)
   unfolding badKind
-  parts = neither (not (among before (befores order kind)) || eqb kind C1 && leb 16 chemicals) (eqb kind R1 && leb 4 receptors) e
+  parts = neither (not (among before (befores kindOrder kind)) || eqb kind C1 && leb 16 chemicals) (eqb kind R1 && leb 4 receptors) e
 
   pub few-chemicals : chemicals ≤ 16 → cond (eqb kind C1) (suc chemicals) chemicals ≤ 16
-  few-chemicals h = counted (eqb kind C1) chemicals 16 h (neither (not (among before (befores order kind))) (eqb kind C1 && leb 16 chemicals) (parts .0) .1)
+  few-chemicals h = counted (eqb kind C1) chemicals 16 h (neither (not (among before (befores kindOrder kind))) (eqb kind C1 && leb 16 chemicals) (parts .0) .1)
 
   pub few-receptors : receptors ≤ 4 → cond (eqb kind R1) (suc receptors) receptors ≤ 4
   few-receptors h = counted (eqb kind R1) receptors 4 h (parts .1)

@@ -13,7 +13,7 @@ use mir.Syntax.{w32}
 use mir.Val.{Fits, SFits, toZ, ofZ}
 use mir.Facts.{toZ-ofZ, toZ-pos}
 use borrow.Author.Tests.{lt-ltb, le-ltb, ltb-true, ltb-false}
-use Rattle.deck.specs.Slots.{above, below}
+use Rattle.deck.specs.Ranges.{above, below}
 
 -- ---- a difference of small numbers
 minus : (a b : ℕ) → pos a -ℤ pos b ≡ subℕ a b

@@ -13,11 +13,11 @@ use lib.IntN.{ℤ, subℕ}
 use lib.ListN.{length, take, drop, getD, length-drop, length-take, List·getD-eq-default}
 use lib.Seq.{take-all}
 use Rattle.deck.specs.Parts.{leading}
-use Rattle.deck.specs.Numbers.{decimal, unspaced, idSpelled, idIn, signSpelled, exponentSpelled, powerOf, digitsRead, endedOf, pointedOf, spelledOf, loneDash, wordOf}
+use Rattle.deck.specs.Numbers.{digitsValue, unspaced, idSpelled, idIn, signSpelled, exponentSpelled, powerOf, digitsRead, endedOf, pointedOf, spelledOf, loneDash, wordOf}
 use Rattle.deck.specs.declared.Word.{Word}
 use Rattle.deck.specs.declared.Word.the-variants.{Blank, Dash, Number, Other}
 use Rattle.deck.proofs.Leading.{and-false}
-use Rattle.deck.proofs.Digits.{both, leading-le, leading-take, decimal-below, decimal-append}
+use Rattle.deck.proofs.Digits.{both, leading-le, leading-take, digits-value-below, digits-value-append}
 
 -- ---- the part from k to the end
 pub tail-part : (s : List ℕ) (k : ℕ) → take (length s - k) (drop k s) ≡ drop k s
@@ -85,18 +85,18 @@ module _ (tail : List ℕ) where
     exponent-ask =
         rw (tail-part tail 2) (spelled-facts s h .1 ∙ sym two, subst (λ (n : ℕ). (0 + 1) * 10 ^ n ≤ 1000000000) (sym two) (lit≤ tt))
 
-    pub exponent-small : (n : ℕ) → n ≡ decimal 0 (take (length tail - 2) (drop 2 tail)) → n < 100
+    pub exponent-small : (n : ℕ) → n ≡ digitsValue 0 (take (length tail - 2) (drop 2 tail)) → n < 100
     exponent-small n e =
-        let b : decimal 0 (drop 2 tail) + 1 ≤ 1 * 10 ^ length (drop 2 tail) = decimal-below (drop 2 tail) (spelled-facts s h .1 ∙ sym two) 0 1 (lit≤ tt) in
+        let b : digitsValue 0 (drop 2 tail) + 1 ≤ 1 * 10 ^ length (drop 2 tail) = digits-value-below (drop 2 tail) (spelled-facts s h .1 ∙ sym two) 0 1 (lit≤ tt) in
         let l : 1 * 10 ^ length (drop 2 tail) ≡ 100 = ap (λ (n : ℕ). 1 * 10 ^ n) two in
-        let q : n ≡ decimal 0 (drop 2 tail) = e ∙ ap (decimal 0) (tail-part tail 2) in
+        let q : n ≡ digitsValue 0 (drop 2 tail) = e ∙ ap (digitsValue 0) (tail-part tail 2) in
         omega arith
 
 getD-none : (s : List ℕ) (i : ℕ) → length s ≡ 0 → getD s i 0 ≡ 0
 getD-none s i h = List·getD-eq-default s 0 (omega arith)
 
-drop-none : (s : List ℕ) (v : ℕ) → length s ≡ 0 → decimal v (drop 2 s) ≡ v
-unfolding decimal
+drop-none : (s : List ℕ) (v : ℕ) → length s ≡ 0 → digitsValue v (drop 2 s) ≡ v
+unfolding digitsValue
 drop-none [] v h = refl
 drop-none (x ∷ xs) v h = absurd (omega arith)
 
@@ -105,15 +105,15 @@ module _ (tail : List ℕ) (places : ℕ) where
   unfolding powerOf
   power-plain h = simp (getD-none tail 1 h, drop-none tail 0 h)
 
-  pub power-minus : (r : Bool) → r ≡ eqb (getD tail 1 0) 45 → r ≡ true → (n : ℕ) → n ≡ decimal 0 (take (length tail - 2) (drop 2 tail))
+  pub power-minus : (r : Bool) → r ≡ eqb (getD tail 1 0) 45 → r ≡ true → (n : ℕ) → n ≡ digitsValue 0 (take (length tail - 2) (drop 2 tail))
       → subℕ 0 (places + n) ≡ powerOf tail places
   unfolding powerOf
-  power-minus r e h n d = simp (sym e ∙ h) (ap (λ (m : ℕ). subℕ 0 (places + m)) (d ∙ ap (decimal 0) (tail-part tail 2)))
+  power-minus r e h n d = simp (sym e ∙ h) (ap (λ (m : ℕ). subℕ 0 (places + m)) (d ∙ ap (digitsValue 0) (tail-part tail 2)))
 
-  pub power-plus : (r : Bool) → r ≡ eqb (getD tail 1 0) 45 → r ≡ false → (n : ℕ) → n ≡ decimal 0 (take (length tail - 2) (drop 2 tail))
+  pub power-plus : (r : Bool) → r ≡ eqb (getD tail 1 0) 45 → r ≡ false → (n : ℕ) → n ≡ digitsValue 0 (take (length tail - 2) (drop 2 tail))
       → subℕ n places ≡ powerOf tail places
   unfolding powerOf
-  power-plus r e h n d = simp (sym e ∙ h) (ap (λ (m : ℕ). subℕ m places) (d ∙ ap (decimal 0) (tail-part tail 2)))
+  power-plus r e h n d = simp (sym e ∙ h) (ap (λ (m : ℕ). subℕ m places) (d ∙ ap (digitsValue 0) (tail-part tail 2)))
 
 -- ---- a lone -
 pub dash-length : (text : List ℕ) → (length text ≡ 1 → ⊥) → false ≡ loneDash text
@@ -144,11 +144,11 @@ module _ (text : List ℕ) (whole places : ℕ) (before : leading 48 57 (take wh
       (before, subst (λ (n : ℕ). n ≤ 1000000000) (sym (one-mul (10 ^ length (take whole text)))) (tens (length (take whole text)) (omega (arith, take-short whole text))))
 
   pub digits-next : leading 48 57 (take places (drop (whole + 1) text)) ≡ length (take places (drop (whole + 1) text))
-      → (n : ℕ) → n ≡ decimal 0 (take whole text)
+      → (n : ℕ) → n ≡ digitsValue 0 (take whole text)
       → (leading 48 57 (take (whole + 1 + places - (whole + 1)) (drop (whole + 1) text)) ≡ length (take (whole + 1 + places - (whole + 1)) (drop (whole + 1) text)))
       × ((n + 1) * 10 ^ length (take (whole + 1 + places - (whole + 1)) (drop (whole + 1) text)) ≤ 1000000000)
   digits-next after n e =
-      let b : decimal 0 (take whole text) + 1 ≤ 1 * 10 ^ length (take whole text) = decimal-below (take whole text) before 0 1 (lit≤ tt) in
+      let b : digitsValue 0 (take whole text) + 1 ≤ 1 * 10 ^ length (take whole text) = digits-value-below (take whole text) before 0 1 (lit≤ tt) in
       let w : 10 ^ length (take whole text) ≤ 10 ^ whole = pow-le-pow-right (lit≤ tt) (take-short whole text) in
       let p : 10 ^ length (take places (drop (whole + 1) text)) ≤ 10 ^ places = pow-le-pow-right (lit≤ tt) (take-short places (drop (whole + 1) text)) in
       let s : n + 1 ≤ 10 ^ whole = omega (arith, one-mul (10 ^ length (take whole text))) in
@@ -156,18 +156,18 @@ module _ (text : List ℕ) (whole places : ℕ) (before : leading 48 57 (take wh
       le-trans (mul-le-mul s p) (subst (λ (m : ℕ). m ≤ 1000000000) (pow-add 10 whole places) (tens (whole + places) few)) in
       rw (add-sub-cancel-left (whole + 1) places) (after, t)
 
-pub digits-whole : (text : List ℕ) (whole places n : ℕ) → places ≡ 0 → n ≡ decimal 0 (take whole text) → n ≡ digitsRead text whole places
+pub digits-whole : (text : List ℕ) (whole places n : ℕ) → places ≡ 0 → n ≡ digitsValue 0 (take whole text) → n ≡ digitsRead text whole places
 unfolding digitsRead
-digits-whole text whole places n z e = rw z (e ∙ ap (decimal 0) (sym (append-none (take whole text))))
+digits-whole text whole places n z e = rw z (e ∙ ap (digitsValue 0) (sym (append-none (take whole text))))
 
-pub digits-both : (text : List ℕ) (whole places n r : ℕ) → n ≡ decimal 0 (take whole text)
-    → r ≡ decimal n (take (whole + 1 + places - (whole + 1)) (drop (whole + 1) text)) → r ≡ digitsRead text whole places
+pub digits-both : (text : List ℕ) (whole places n r : ℕ) → n ≡ digitsValue 0 (take whole text)
+    → r ≡ digitsValue n (take (whole + 1 + places - (whole + 1)) (drop (whole + 1) text)) → r ≡ digitsRead text whole places
 unfolding digitsRead
 digits-both text whole places n r e f =
     f
-    ∙ ap (λ (k : ℕ). decimal n (take k (drop (whole + 1) text))) (add-sub-cancel-left (whole + 1) places)
-    ∙ ap (λ (k : ℕ). decimal k (take places (drop (whole + 1) text))) e
-    ∙ sym (decimal-append 0 (take whole text) (take places (drop (whole + 1) text)))
+    ∙ ap (λ (k : ℕ). digitsValue n (take k (drop (whole + 1) text))) (add-sub-cancel-left (whole + 1) places)
+    ∙ ap (λ (k : ℕ). digitsValue k (take places (drop (whole + 1) text))) e
+    ∙ sym (digits-value-append 0 (take whole text) (take places (drop (whole + 1) text)))
 
 -- ---- a number
 module _ (text : List ℕ) (whole places end : ℕ) where
@@ -297,10 +297,10 @@ module _ (part : List ℕ) (k : ℕ) (e : k ≡ leading 32 32 part) where
     )
 
     pub id-digits : 48 < getD (take (length part - k) (drop k part)) 0 0 → n ≡ length (take (length part - k) (drop k part))
-        → (v : ℕ) → v ≡ decimal 0 (take (length part - k) (drop k part)) → v ≡ idIn part
+        → (v : ℕ) → v ≡ digitsValue 0 (take (length part - k) (drop k part)) → v ≡ idIn part
     unfolding idIn idSpelled
     id-digits first h v g =
         let a : ltb 48 (getD (unspaced part) 0 0) ≡ true = lt-ltb _ _ (subst (λ (l : List ℕ). 48 < getD l 0 0) text-is first) in
         let b : eqb (leading 48 57 (unspaced part)) (length (unspaced part)) ≡ true =
         subst (λ (l : List ℕ). eqb (leading 48 57 l) (length l) ≡ true) text-is (eq-eqb _ _ (sym f ∙ h)) in
-        simp (a, b) (g ∙ ap (decimal 0) text-is)
+        simp (a, b) (g ∙ ap (digitsValue 0) text-is)

@@ -2,16 +2,19 @@
 -- Assumes nothing.
 use Prim.Native.Nat.{ℕ, zero, suc, _+_, _*_, _-_, _/_, _%_}
 use mathlib.Core.List.{List, [], _∷_, _++_}
-use lib.ListN.{replicate}
-use Rattle.deck.specs.Parts.{fieldsPerLine, linesOf, lineOf, fieldOf}
+use lib.ListN.{getD, replicate}
+use Rattle.deck.specs.Parts.{linesOf, lineOf, fieldOf}
 use Rattle.deck.specs.Numbers.{wordOf}
-use Rattle.deck.specs.Slots.{C1, R1, maxChemicals, maxReceptors, siteLines, recordLines}
+use Rattle.deck.specs.Kinds.{C1, R1, maxChemicals, maxReceptors, siteLines, recordLines}
 use Rattle.deck.specs.Conditions.{first, conditions, countOf, idOf}
+use Rattle.slots.specs.Slots.{Slot, fieldsPerLine, ownerOf, placeOf}
+use Rattle.slots.specs.declared.Owner.{Owner}
+use Rattle.slots.specs.declared.Owner.the-variants.{Site, Chemical, Receptor}
 use Rattle.deck.specs.declared.Word.{Word}
 use Rattle.deck.specs.declared.Word.the-variants.{Blank, Dash, Number, Other}
 use Rattle.deck.specs.declared.Value.{Value}
 use Rattle.deck.specs.declared.Value.the-variants.{Absent, Printed}
-use Rattle.deck.specs.declared.Slot.{Slot}
+use Rattle.deck.specs.declared.Filled.{Filled}
 use Rattle.deck.specs.declared.Record.{Record}
 use Rattle.deck.specs.declared.Case.{Case}
 use Rattle.deck.specs.declared.Reading.{Reading}
@@ -20,7 +23,7 @@ use Rattle.deck.specs.declared.Status.{Status}
 use Rattle.deck.specs.declared.Status.the-variants.{Read, Stopped}
 
 abbrev pub slotsPerRecord : ℕ
-slotsPerRecord = 24
+slotsPerRecord = fieldsPerLine * recordLines
 
 -- f 0, f 1, .., f (n - 1)
 unfoldable pub tabulate : {A : Type 0} → ℕ → (ℕ → A) → List A
@@ -34,12 +37,13 @@ valueOf Dash = Absent
 valueOf (Number digits power) = Printed digits power
 valueOf Other = Absent
 
-abbrev pub noSlot : Slot
+-- a later slot of the site, or of a place that has no record
+abbrev pub noSlot : Filled
 noSlot = record { value = Absent }
 
 -- slot k, from 0, of the record that begins at line n
-unfoldable pub slotOf : List ℕ → ℕ → ℕ → Slot
-slotOf deck n k = record { value = valueOf (wordOf (fieldOf deck (n + k / fieldsPerLine) (k % fieldsPerLine + 1))) }
+unfoldable pub slotSpelled : List ℕ → ℕ → ℕ → Filled
+slotSpelled deck n k = record { value = valueOf (wordOf (fieldOf deck (n + k / fieldsPerLine) (k % fieldsPerLine + 1))) }
 
 abbrev pub noRecord : Record
 noRecord = record { id = 0; slots = replicate slotsPerRecord noSlot }
@@ -49,7 +53,7 @@ unfoldable pub recordOf : List ℕ → ℕ → ℕ → Record
 recordOf deck n lines =
     record {
       id = idOf (lineOf deck n);
-      slots = tabulate (lines * fieldsPerLine) (slotOf deck n) ++ replicate (slotsPerRecord - lines * fieldsPerLine) noSlot;
+      slots = tabulate (lines * fieldsPerLine) (slotSpelled deck n) ++ replicate (slotsPerRecord - lines * fieldsPerLine) noSlot;
     }
 
 -- count records of four lines from line n on, in room for so many
@@ -81,6 +85,28 @@ noCase =
       receptors = record { count = 0; records = replicate maxReceptors noRecord };
     }
 
+-- ---- what is printed, by name
+-- slot k of a record, from 0
+unfoldable pub valueAt : Record → ℕ → Value
+valueAt r k = getD (r .slots) k noSlot .value
+
+-- chemical i and receptor j, from 0
+unfoldable pub chemicalAt : Case → ℕ → Record
+chemicalAt case i = getD (case .chemicals .records) i noRecord
+
+unfoldable pub receptorAt : Case → ℕ → Record
+receptorAt case j = getD (case .receptors .records) j noRecord
+
+-- the record that a slot of this owner stands in, for receptor j and chemical i
+unfoldable pub ownersRecord : Owner → Case → ℕ → ℕ → Record
+ownersRecord Site case j i = case .site
+ownersRecord Chemical case j i = chemicalAt case i
+ownersRecord Receptor case j i = receptorAt case j
+
+unfoldable pub printed : Case → ℕ → ℕ → Slot → Value
+printed case j i s = valueAt (ownersRecord (ownerOf s) case j i) (placeOf s)
+
+-- ---- the reading
 unfoldable pub caseFor : Status → List ℕ → Case
 caseFor Read deck = caseOf deck
 caseFor (Stopped number line field) deck = noCase

@@ -7,10 +7,12 @@ use mathlib.Core.Bool.{Bool, true, false, cond, not, _&&_, _||_}
 use mathlib.Core.List.{List, [], _∷_, _++_}
 use lib.Dec.{leb, ltb, eqb}
 use lib.ListN.{length, getD, take, drop}
-use Rattle.deck.specs.Parts.{lineWidth, fieldsPerLine, linesOf, lineOf, fieldIn, leading}
+use Rattle.deck.specs.Parts.{deckLineWidth, linesOf, lineOf, fieldIn, leading}
 use Rattle.deck.specs.Numbers.{idIn, wordOf}
-use Rattle.deck.specs.Slots.{kindOf, S1, C1, R1, EN, maxChemicals, maxReceptors, siteLines, recordLines, order, befores, among, rulesOf, unused, inRange}
-use Rattle.deck.specs.declared.Rule.{Rule}
+use Rattle.deck.specs.Kinds.{kindOf, S1, C1, R1, EN, maxChemicals, maxReceptors, siteLines, recordLines, kindOrder, befores, among, rulesOf}
+use Rattle.deck.specs.Ranges.{inRange}
+use Rattle.slots.specs.Slots.{fieldsPerLine, unused}
+use Rattle.slots.specs.declared.Rule.{Rule}
 use Rattle.deck.specs.declared.Status.{Status}
 use Rattle.deck.specs.declared.Status.the-variants.{Read, Stopped}
 use Rattle.deck.specs.declared.Word.{Word}
@@ -76,7 +78,7 @@ badBytes line = not (eqb (leading 32 126 line) 80 && eqb (getD line 80 0) 10)
 -- a kind that cannot come next; chemicals and receptors are those that began before
 unfoldable pub badKind : ℕ → ℕ → ℕ → ℕ → Bool
 badKind before kind chemicals receptors =
-    not (among before (befores order kind))
+    not (among before (befores kindOrder kind))
     || eqb kind C1 && leb maxChemicals chemicals
     || eqb kind R1 && leb maxReceptors receptors
 
@@ -121,11 +123,11 @@ lineConditions deck n =
 
 -- the site, all chemicals and receptors, and EN: 6,723 bytes
 abbrev pub maxLength : ℕ
-maxLength = lineWidth * (siteLines + recordLines * (maxChemicals + maxReceptors) + 1)
+maxLength = deckLineWidth * (siteLines + recordLines * (maxChemicals + maxReceptors) + 1)
 
 -- length 0, above 6,723, or no multiple of 81
 unfoldable pub badLength : List ℕ → Bool
-badLength deck = eqb (length deck) 0 || ltb maxLength (length deck) || not (eqb (length deck % lineWidth) 0)
+badLength deck = eqb (length deck) 0 || ltb maxLength (length deck) || not (eqb (length deck % deckLineWidth) 0)
 
 -- no EN at the deck's end, told as the line past the last
 unfoldable pub noEnd : List ℕ → Bool

@@ -1,5 +1,7 @@
 pub mod Parts
 pub mod Numbers
-pub mod Slots
+pub mod Kinds
+pub mod Ranges
 pub mod Conditions
 pub mod Cases
+pub mod Ranged

@@ -13,9 +13,9 @@ use Rattle.deck.specs.declared.Word.{Word}
 use Rattle.deck.specs.declared.Word.the-variants.{Blank, Dash, Number, Other}
 
 -- the number that digits spell after n
-unfoldable pub decimal : ℕ → List ℕ → ℕ
-decimal n [] = n
-decimal n (d ∷ ds) = decimal (n * 10 + (d - 48)) ds
+unfoldable pub digitsValue : ℕ → List ℕ → ℕ
+digitsValue n [] = n
+digitsValue n (d ∷ ds) = digitsValue (n * 10 + (d - 48)) ds
 
 -- how many digits stand at the front
 abbrev pub digitsOf : List ℕ → ℕ
@@ -31,7 +31,7 @@ idSpelled text = ltb 48 (getD text 0 0) && eqb (digitsOf text) (length text)
 
 -- the id that six columns spell; 0, which is no id, where they are misspelled
 unfoldable pub idIn : List ℕ → ℕ
-idIn columns = cond (idSpelled (unspaced columns)) (decimal 0 (unspaced columns)) 0
+idIn columns = cond (idSpelled (unspaced columns)) (digitsValue 0 (unspaced columns)) 0
 
 -- + or -
 unfoldable pub signSpelled : List ℕ → Bool
@@ -46,12 +46,12 @@ exponentSpelled tail =
 unfoldable pub powerOf : List ℕ → ℕ → ℤ
 powerOf tail places =
     cond (eqb (getD tail 1 0) 45)
-    (subℕ 0 (places + decimal 0 (drop 2 tail)))
-    (subℕ (decimal 0 (drop 2 tail)) places)
+    (subℕ 0 (places + digitsValue 0 (drop 2 tail)))
+    (subℕ (digitsValue 0 (drop 2 tail)) places)
 
 -- the digits before and after the point, read as one number
 unfoldable pub digitsRead : List ℕ → ℕ → ℕ → ℕ
-digitsRead text whole places = decimal 0 (take whole text ++ take places (drop (whole + 1) text))
+digitsRead text whole places = digitsValue 0 (take whole text ++ take places (drop (whole + 1) text))
 
 -- digits of a number before and after its point
 abbrev pub maxDigits : ℕ
@@ -81,3 +81,17 @@ unfoldable pub wordOf : List ℕ → Word
 wordOf part =
     let text = unspaced part in
     cond (eqb (length text) 0) Blank (cond (loneDash text) Dash (spelledOf text))
+
+-- ---- a word in document 01's terms
+-- nothing, a lone -, the number digits × 10 ^ power, or the number of a refusal
+pub data Held : Type 0 where
+  nothingPrinted : Held
+  dashPrinted : Held
+  numberPrinted : ℕ → ℤ → Held
+  refusedBy : ℕ → Held
+
+unfoldable pub held : Word → Held
+held Blank = nothingPrinted
+held Dash = dashPrinted
+held (Number digits power) = numberPrinted digits power
+held Other = refusedBy 31

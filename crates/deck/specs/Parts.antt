@@ -5,6 +5,7 @@ use mathlib.Core.Bool.{Bool, cond, _&&_}
 use mathlib.Core.List.{List, [], _∷_}
 use lib.Dec.{leb}
 use lib.ListN.{length, take, drop}
+use Rattle.slots.specs.Slots.{fieldsPerLine}
 
 -- the byte b lies from lo to hi
 unfoldable pub within : ℕ → ℕ → ℕ → Bool
@@ -16,13 +17,10 @@ leading lo hi [] = 0
 leading lo hi (b ∷ bs) = cond (within lo hi b) (suc (leading lo hi bs)) 0
 
 -- 80 bytes and a line feed
-abbrev pub lineWidth : ℕ
-lineWidth = 81
+abbrev pub deckLineWidth : ℕ
+deckLineWidth = 81
 
--- fields of a line, and their columns
-abbrev pub fieldsPerLine : ℕ
-fieldsPerLine = 6
-
+-- columns of a field
 abbrev pub fieldWidth : ℕ
 fieldWidth = 12
 
@@ -32,11 +30,11 @@ fieldsStart = 8
 
 -- how many full lines the deck has
 unfoldable pub linesOf : List ℕ → ℕ
-linesOf deck = length deck / lineWidth
+linesOf deck = length deck / deckLineWidth
 
 -- line n, counted from 1; empty where the deck lacks it
 unfoldable pub lineOf : List ℕ → ℕ → List ℕ
-lineOf deck n = cond (within 1 (linesOf deck) n) (take lineWidth (drop (lineWidth * (n - 1)) deck)) []
+lineOf deck n = cond (within 1 (linesOf deck) n) (take deckLineWidth (drop (deckLineWidth * (n - 1)) deck)) []
 
 -- field f of a full line, counted from 1; empty where the line lacks it
 unfoldable pub fieldIn : List ℕ → ℕ → List ℕ

@@ -3,14 +3,14 @@ ghost use mathlib.Core.Path.{_≡_};
 ghost use mathlib.Core.Bool.{cond};
 ghost use Prim.Native.Nat.{_+_, _*_, _-_, _^_, _<_, _≤_};
 ghost use lib.ListN.{length, getD};
-ghost use Rattle.deck.specs.Parts.{fieldIn, fieldsPerLine};
+ghost use Rattle.deck.specs.Parts.{fieldIn};
 ghost use Rattle.deck.specs.Numbers.{wordOf};
-ghost use Rattle.deck.specs.Slots.{rulesOf, unused, atMost, atLeast, inRange};
+ghost use Rattle.deck.specs.Kinds.{rulesOf};
+ghost use Rattle.deck.specs.Ranges.{valueAtMost, valueAtLeast, inRange};
+ghost use Rattle.slots.specs.Slots.{fieldsPerLine, unused};
 ghost use Rattle.deck.specs.Conditions.{first, upTo, fieldConditions, fieldAt};
 use crate::FIELD_WIDTH;
-use crate::FIELDS;
 use crate::FIELDS_START;
-use crate::Rule;
 use crate::Status;
 use crate::Word;
 use crate::lines::C1;
@@ -26,71 +26,26 @@ use crate::lines::S2;
 use crate::spelling::lowered;
 use crate::spelling::raised;
 use crate::spelling::word;
-
-const PLAIN: Rule = Rule {
-    used: true,
-    dash: false,
-    zero: true,
-    most: 1000000000,
-};
-
-const POSITIVE: Rule = Rule {
-    used: true,
-    dash: false,
-    zero: false,
-    most: 1000000000,
-};
-
-const SHARE: Rule = Rule {
-    used: true,
-    dash: false,
-    zero: true,
-    most: 1,
-};
-
-const DAYS: Rule = Rule {
-    used: true,
-    dash: false,
-    zero: true,
-    most: 366,
-};
-
-const REFERENCE: Rule = Rule {
-    used: true,
-    dash: true,
-    zero: false,
-    most: 1000000000,
-};
-
-const SLOPE: Rule = Rule {
-    used: true,
-    dash: true,
-    zero: true,
-    most: 1000000000,
-};
-
-const UNUSED: Rule = Rule {
-    used: false,
-    dash: false,
-    zero: false,
-    most: 0,
-};
+use slots::FIELDS;
+use slots::Owner;
+use slots::Rule;
+use slots::UNUSED;
 
 // The rules of the six fields of a line, by its kind.
 fn rules(kind: u32) -> [Rule; FIELDS]
     ensures { λ r. ⌜ r ≡ rulesOf kind ⌝ }
 {
     match kind {
-        S1 => [POSITIVE, POSITIVE, POSITIVE, POSITIVE, PLAIN, PLAIN],
-        S2 => [PLAIN, PLAIN, PLAIN, SHARE, SHARE, UNUSED],
-        C1 => [PLAIN, SHARE, SHARE, SHARE, PLAIN, PLAIN],
-        C2 => [PLAIN, PLAIN, PLAIN, PLAIN, POSITIVE, PLAIN],
-        C3 => [PLAIN, PLAIN, PLAIN, SHARE, SHARE, SHARE],
-        C4 => [REFERENCE, REFERENCE, SLOPE, SLOPE, UNUSED, UNUSED],
-        R1 => [POSITIVE, POSITIVE, POSITIVE, PLAIN, SHARE, DAYS],
-        R2 => [PLAIN, SHARE, DAYS, DAYS, PLAIN, PLAIN],
-        R3 => [PLAIN, PLAIN, SHARE, PLAIN, SHARE, PLAIN],
-        R4 => [SHARE, SHARE, DAYS, UNUSED, UNUSED, UNUSED],
+        S1 => slots::rules(Owner::Site, 0),
+        S2 => slots::rules(Owner::Site, 1),
+        C1 => slots::rules(Owner::Chemical, 0),
+        C2 => slots::rules(Owner::Chemical, 1),
+        C3 => slots::rules(Owner::Chemical, 2),
+        C4 => slots::rules(Owner::Chemical, 3),
+        R1 => slots::rules(Owner::Receptor, 0),
+        R2 => slots::rules(Owner::Receptor, 1),
+        R3 => slots::rules(Owner::Receptor, 2),
+        R4 => slots::rules(Owner::Receptor, 3),
         _ => [UNUSED, UNUSED, UNUSED, UNUSED, UNUSED, UNUSED],
     }
 }
@@ -112,7 +67,7 @@ fn ten_to(n: u32) -> u64
 // digits × 10 ^ power is at most `most`. Past nine figures the digits, which fit 32 bits, do not count.
 fn at_most(most: u32, digits: u32, power: i32) -> bool
     requires { ⌜ 0 < digits ⌝ }
-    ensures { λ r. ⌜ r ≡ atMost most digits power ⌝ }
+    ensures { λ r. ⌜ r ≡ valueAtMost most digits power ⌝ }
 {
     let up = raised(power);
     let down = lowered(power);
@@ -128,7 +83,7 @@ fn at_most(most: u32, digits: u32, power: i32) -> bool
 // digits × 10 ^ power is at least 1E-20.
 fn at_least(digits: u32, power: i32) -> bool
     requires { ⌜ 0 < digits ⌝ }
-    ensures { λ r. ⌜ r ≡ atLeast digits power ⌝ }
+    ensures { λ r. ⌜ r ≡ valueAtLeast digits power ⌝ }
 {
     let down = lowered(power);
     if down <= 20 {

@@ -11,29 +11,27 @@ use records::case_with;
 use records::no_case;
 use scanning::bad_length;
 use scanning::scan_lines;
+use slots::SLOTS;
 pub use spelling::lowered;
 pub use spelling::raised;
 use spelling::word;
 ghost use mathlib.Core.Path.{_≡_};
 ghost use Rattle.deck.specs.Parts.{lineOf, fieldOf};
-ghost use Rattle.deck.specs.Numbers.{wordOf};
+ghost use Rattle.deck.specs.Numbers.{wordOf, held};
+ghost use Rattle.deck.specs.Conditions.{first, conditions};
 ghost use Rattle.deck.specs.Cases.{noCase, readOf, toldOf};
 
 // A line: 80 bytes and a line feed. Its fields start after the kind and the id.
 pub const LINE_WIDTH: usize = 81;
 
-pub const FIELDS: usize = 6;
-
 pub const FIELD_WIDTH: usize = 12;
 
 pub const FIELDS_START: usize = 8;
 
-// Lines of the site's record, and of a chemical's or a receptor's; slots of each record.
+// Lines of the site's record, and of a chemical's or a receptor's.
 pub const SITE_LINES: usize = 2;
 
 pub const RECORD_LINES: usize = 4;
-
-pub const SLOTS: usize = 24;
 
 pub const MAX_CHEMICALS: usize = 16;
 
@@ -63,14 +61,14 @@ pub enum Value {
     Printed { digits: u32, power: i32 },
 }
 
-// A slot, as document 01 calls a field's place in its record.
-pub struct Slot {
+// What a slot was filled with.
+pub struct Filled {
     pub value: Value,
 }
 
 pub struct Record {
     pub id: u32,
-    pub slots: [Slot; SLOTS],
+    pub slots: [Filled; SLOTS],
 }
 
 pub struct Chemicals {
@@ -108,14 +106,6 @@ pub struct Reading {
     pub case: Case,
 }
 
-// A slot's rule: whether it is used, whether - and 0 are allowed, and its largest value.
-pub struct Rule {
-    pub used: bool,
-    pub dash: bool,
-    pub zero: bool,
-    pub most: u32,
-}
-
 // Line n, counted from 1: 81 bytes, or nothing where the deck lacks it.
 pub fn line(deck: &[u8], n: usize) -> &[u8]
     ensures { λ r. ⌜ now r ≡ lineOf (now (deck .entry)) n ⌝ }
@@ -144,6 +134,7 @@ pub fn field(deck: &[u8], n: usize, f: usize) -> &[u8]
 // What a part holds: nothing but spaces, a lone -, a number, or none of these.
 pub fn number(part: &[u8]) -> Word
     ensures { λ r. ⌜ r ≡ wordOf (now (part .entry)) ⌝ }
+    ensures { λ r. ⌜ held r ≡ held (wordOf (now (part .entry))) ⌝ }
 {
     word(part)
 }
@@ -158,6 +149,7 @@ fn stopped(status: Status) -> Reading
 // The case that the deck spells, or the first condition that holds, in document 01's order.
 pub fn read(deck: &[u8]) -> Reading
     ensures { λ r. ⌜ r ≡ readOf (now (deck .entry)) ⌝ }
+    ensures { λ r. ⌜ toldOf (r .status) ≡ toldOf (first (conditions (now (deck .entry)))) ⌝ }
 {
     if bad_length(deck) {
         return stopped(Status::Stopped(11, 0, 0));

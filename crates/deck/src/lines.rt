@@ -5,7 +5,7 @@ ghost use mathlib.Core.List.{[], _∷_};
 ghost use Prim.Native.Nat.{suc, _+_, _<_, _≤_};
 ghost use lib.Dec.{eqb};
 ghost use lib.ListN.{length, drop};
-ghost use Rattle.deck.specs.Slots.{kindOf, order, befores, among, C1, R1, EN};
+ghost use Rattle.deck.specs.Kinds.{kindOf, kindOrder, befores, among, C1, R1, EN};
 ghost use Rattle.deck.specs.Conditions.{first, badBytes, badKind, begins, idOf, wrongId, badId, lineConditionsAfter};
 use crate::MAX_CHEMICALS;
 use crate::MAX_RECEPTORS;
@@ -83,7 +83,7 @@ fn bad_bytes(line: &[u8]) -> bool
 
 // The kind may stand after the kind before.
 fn may_follow(before: u32, kind: u32) -> bool
-    ensures { λ r. ⌜ r ≡ among before (befores order kind) ⌝ }
+    ensures { λ r. ⌜ r ≡ among before (befores kindOrder kind) ⌝ }
 {
     match kind {
         S1 => before == START,

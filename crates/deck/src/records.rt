@@ -2,26 +2,26 @@
 ghost use mathlib.Core.Path.{_≡_};
 ghost use Prim.Native.Nat.{_<_, _≤_};
 ghost use Rattle.deck.specs.Parts.{lineOf};
-ghost use Rattle.deck.specs.Slots.{maxChemicals, maxReceptors};
+ghost use Rattle.deck.specs.Kinds.{maxChemicals, maxReceptors};
 ghost use Rattle.deck.specs.Conditions.{idOf};
-ghost use Rattle.deck.specs.Cases.{valueOf, slotOf, recordOf, recordsOf, caseWith, noRecord, noCase, chemicalsStart};
+ghost use Rattle.deck.specs.Cases.{valueOf, slotSpelled, recordOf, recordsOf, caseWith, noRecord, noCase, chemicalsStart};
 use crate::Case;
 use crate::Chemicals;
-use crate::FIELDS;
+use crate::Filled;
 use crate::MAX_CHEMICALS;
 use crate::MAX_RECEPTORS;
 use crate::RECORD_LINES;
 use crate::Receptors;
 use crate::Record;
 use crate::SITE_LINES;
-use crate::SLOTS;
-use crate::Slot;
 use crate::Value;
 use crate::Word;
 use crate::field;
 use crate::line;
 use crate::lines::id_of;
 use crate::number;
+use slots::FIELDS;
+use slots::SLOTS;
 
 // The line after the site's.
 const CHEMICALS_START: usize = SITE_LINES + 1;
@@ -38,13 +38,13 @@ fn value_of(w: Word) -> Value
 }
 
 // Slot k, from 0, of the record that begins at line n.
-fn slot_at(deck: &[u8], n: usize, k: usize) -> Slot
+fn slot_at(deck: &[u8], n: usize, k: usize) -> Filled
     requires { ⌜ (n < 1000) × (k < 1000) ⌝ }
-    ensures { λ r. ⌜ r ≡ slotOf (now (deck .entry)) n k ⌝ }
+    ensures { λ r. ⌜ r ≡ slotSpelled (now (deck .entry)) n k ⌝ }
 {
     let part = field(deck, n + k / FIELDS, k % FIELDS + 1);
     let value = value_of(number(part));
-    Slot { value }
+    Filled { value }
 }
 
 fn id_at(deck: &[u8], n: usize) -> u32
@@ -62,7 +62,7 @@ fn record_at(deck: &[u8], n: usize, lines: usize) -> Record
     requires { ⌜ (n < 1000) × (lines ≤ 4) ⌝ }
     ensures { λ r. ⌜ r ≡ recordOf (now (deck .entry)) n lines ⌝ }
 {
-    let mut slots = [Slot {
+    let mut slots = [Filled {
         value: Value::Absent,
     }; SLOTS];
     let count = lines * FIELDS;
@@ -78,7 +78,7 @@ fn record_at(deck: &[u8], n: usize, lines: usize) -> Record
 fn no_record() -> Record
     ensures { λ r. ⌜ r ≡ noRecord ⌝ }
 {
-    let slots = [Slot {
+    let slots = [Filled {
         value: Value::Absent,
     }; SLOTS];
     Record { id: 0, slots }

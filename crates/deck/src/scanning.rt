@@ -5,7 +5,7 @@ ghost use lib.Dec.{eqb};
 ghost use mathlib.Core.List.{[], _∷_, _++_};
 ghost use Prim.Native.Nat.{_+_, _≤_, _<_};
 ghost use Rattle.deck.specs.Parts.{linesOf};
-ghost use Rattle.deck.specs.Slots.{C1, R1, EN};
+ghost use Rattle.deck.specs.Kinds.{C1, R1, EN};
 ghost use Rattle.deck.specs.Conditions.{at, first, upTo, lineConditions, noEnd, countOf, badLength};
 use crate::LINE_WIDTH;
 use crate::MAX_LENGTH;

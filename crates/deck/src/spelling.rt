@@ -6,8 +6,8 @@ ghost use lib.IntN.{subℕ};
 ghost use lib.Dec.{eqb};
 ghost use lib.ListN.{length, take, drop, getD};
 ghost use Rattle.deck.specs.Parts.{leading};
-ghost use Rattle.deck.specs.Numbers.{decimal, idIn, signSpelled, exponentSpelled, powerOf, digitsRead, endedOf, pointedOf, spelledOf, loneDash, wordOf};
-ghost use Rattle.deck.specs.Slots.{above, below};
+ghost use Rattle.deck.specs.Numbers.{digitsValue, idIn, signSpelled, exponentSpelled, powerOf, digitsRead, endedOf, pointedOf, spelledOf, loneDash, wordOf};
+ghost use Rattle.deck.specs.Ranges.{above, below};
 use crate::MAX_DIGITS;
 use crate::Word;
 
@@ -32,7 +32,7 @@ pub(crate) fn leading_bytes(s: &[u8], lo: u8, hi: u8) -> usize
 // The number that the digits of s spell after `from`.
 fn digits_value(from: u32, s: &[u8]) -> u32
     requires { ⌜ (leading 48 57 (now s) ≡ length (now s)) × ((from + 1) * 10 ^ length (now s) ≤ 1000000000) ⌝ }
-    ensures { λ r. ⌜ r ≡ decimal from (now (s .entry)) ⌝ }
+    ensures { λ r. ⌜ r ≡ digitsValue from (now (s .entry)) ⌝ }
 {
     let mut value = from;
     let mut i: usize = 0;

@@ -1,7 +1,7 @@
 -- `deck::read` meets its contract: the length first, then the lines in turn; the case only where no condition holds.
 -- Assumes nothing.
 use borrow.Author.Needs.{needs}
-use Rattle.deck.proofs.ReadLaws.{read-length, read-stopped, read-case}
+use Rattle.deck.proofs.ReadLaws.{read-length, read-stopped, read-case, with-told}
 use denote.Ref.{now}
 use Rattle.deck.proofs.read.Statement.{statement}
 use Rattle.deck.proofs.read.Tie as tie
@@ -13,7 +13,9 @@ stopped-requires : tie.Need-stopped-requires
 stopped-requires c κs = search needs
 
 returns : tie.Need-returns
-returns c = read-length (now (c .before .before .before .before .args .deck)) _ (c .before .before .bad-length .ensures) (c .before .if1 .taken) _ (c .stopped .ensures)
+returns c =
+    with-told (now (c .before .before .before .before .args .deck)) _
+    (read-length (now (c .before .before .before .before .args .deck)) _ (c .before .before .bad-length .ensures) (c .before .if1 .taken) _ (c .stopped .ensures))
 
 scan-lines-requires : tie.Need-scan-lines-requires
 scan-lines-requires c κs = search needs
@@ -28,13 +30,17 @@ stopped-requires-2 : tie.Need-stopped-requires-2
 stopped-requires-2 c κs = search needs
 
 returns-2 : tie.Need-returns-2
-returns-2 c = read-stopped (now (c .before .before .before .before .before .before .before .args .deck)) _ (c .before .before .before .before .before .bad-length .ensures) (c .before .before .before .before .if1 .left) _ (c .before .before .before .scan-lines .ensures .0) _ _ _ (c .before .enum-told2 .given .1) _ (c .stopped2 .ensures)
+returns-2 c =
+    with-told (now (c .before .before .before .before .before .before .before .args .deck)) _
+    (read-stopped (now (c .before .before .before .before .before .before .before .args .deck)) _ (c .before .before .before .before .before .bad-length .ensures) (c .before .before .before .before .if1 .left) _ (c .before .before .before .scan-lines .ensures .0) _ _ _ (c .before .enum-told2 .given .1) _ (c .stopped2 .ensures))
 
 case-with-requires : tie.Need-case-with-requires
 case-with-requires c κs = search needs
 
 returns-3 : tie.Need-returns-3
-returns-3 c = read-case (now (c .before .before .before .before .before .before .before .args .deck)) _ (c .before .before .before .before .before .bad-length .ensures) (c .before .before .before .before .if1 .left) _ (c .before .before .before .scan-lines .ensures .0) (c .before .enum-told .given .1) _ _ (c .before .before .before .scan-lines .ensures .1 .0 (c .before .enum-told .given .1)) _ (c .case-with .ensures)
+returns-3 c =
+    with-told (now (c .before .before .before .before .before .before .before .args .deck)) _
+    (read-case (now (c .before .before .before .before .before .before .before .args .deck)) _ (c .before .before .before .before .before .bad-length .ensures) (c .before .before .before .before .if1 .left) _ (c .before .before .before .scan-lines .ensures .0) (c .before .enum-told .given .1) _ _ (c .before .before .before .scan-lines .ensures .1 .0 (c .before .enum-told .given .1)) _ (c .case-with .ensures))
 
 pub read-spec : {M : Type 1} → statement M
 read-spec =

@@ -5,7 +5,7 @@ use native.Mathlib.Omega.{arith}
 use mathlib.Core.Path.{ap, _∙_}
 use Prim.Native.Nat.{ℕ, _^_, _-_}
 use mir.Facts.{toZ-ofZ}
-use Rattle.deck.specs.Slots.{below}
+use Rattle.deck.specs.Ranges.{below}
 use Rattle.deck.proofs.Ranges.{least-small, least-far, least-near}
 use Rattle.deck.proofs.fields.at_least.Statement.{statement}
 use Rattle.deck.proofs.fields.at_least.Tie as tie

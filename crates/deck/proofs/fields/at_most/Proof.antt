@@ -5,7 +5,7 @@ use native.Mathlib.Omega.{arith}
 use mathlib.Core.Path.{ap, _∙_}
 use Prim.Native.Nat.{ℕ, _^_}
 use mir.Facts.{toZ-ofZ}
-use Rattle.deck.specs.Slots.{above, below}
+use Rattle.deck.specs.Ranges.{above, below}
 use Rattle.deck.proofs.Ranges.{above-all, below-all, within-nine, product-fits}
 use Rattle.deck.proofs.fields.at_most.Statement.{statement}
 use Rattle.deck.proofs.fields.at_most.Tie as tie

@@ -2,7 +2,7 @@
 -- Assumes nothing.
 use borrow.Author.Needs.{needs}
 use native.Mathlib.Omega.{arith}
-use Rattle.deck.specs.Slots.{kindOf}
+use Rattle.deck.specs.Kinds.{kindOf}
 use Rattle.deck.proofs.lines.kind_of.Statement.{statement}
 use Rattle.deck.proofs.lines.kind_of.Tie as tie
 

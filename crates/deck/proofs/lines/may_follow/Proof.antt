@@ -3,7 +3,7 @@
 use borrow.Author.Needs.{needs}
 use mathlib.Core.Path.{sym, ap, _∙_}
 use Prim.Native.Nat.{ℕ}
-use Rattle.deck.specs.Slots.{befores, order, among}
+use Rattle.deck.specs.Kinds.{befores, kindOrder, among}
 use Rattle.deck.proofs.LineLaws.{among-one, follows-none}
 use Rattle.deck.proofs.lines.may_follow.Statement.{statement}
 use Rattle.deck.proofs.lines.may_follow.Tie as tie
@@ -15,48 +15,48 @@ either-requires-2 : tie.Need-either-requires-2
 either-requires-2 c κs = search needs
 
 returns : tie.Need-returns
-unfolding befores order
-returns c = among-one _ _ ∙ ap (λ (k : ℕ). among (c .before .args .before) (befores order k)) (sym (c .match .keys1))
+unfolding befores kindOrder
+returns c = among-one _ _ ∙ ap (λ (k : ℕ). among (c .before .args .before) (befores kindOrder k)) (sym (c .match .keys1))
 
 returns-2 : tie.Need-returns-2
-unfolding befores order
-returns-2 c = among-one _ _ ∙ ap (λ (k : ℕ). among (c .before .args .before) (befores order k)) (sym (c .match .keys2))
+unfolding befores kindOrder
+returns-2 c = among-one _ _ ∙ ap (λ (k : ℕ). among (c .before .args .before) (befores kindOrder k)) (sym (c .match .keys2))
 
 returns-3 : tie.Need-returns-3
-unfolding befores order
-returns-3 c = c .either .ensures ∙ ap (λ (k : ℕ). among (c .before .before .args .before) (befores order k)) (sym (c .before .match .keys3))
+unfolding befores kindOrder
+returns-3 c = c .either .ensures ∙ ap (λ (k : ℕ). among (c .before .before .args .before) (befores kindOrder k)) (sym (c .before .match .keys3))
 
 returns-4 : tie.Need-returns-4
-unfolding befores order
-returns-4 c = among-one _ _ ∙ ap (λ (k : ℕ). among (c .before .args .before) (befores order k)) (sym (c .match .keys4))
+unfolding befores kindOrder
+returns-4 c = among-one _ _ ∙ ap (λ (k : ℕ). among (c .before .args .before) (befores kindOrder k)) (sym (c .match .keys4))
 
 returns-5 : tie.Need-returns-5
-unfolding befores order
-returns-5 c = among-one _ _ ∙ ap (λ (k : ℕ). among (c .before .args .before) (befores order k)) (sym (c .match .keys5))
+unfolding befores kindOrder
+returns-5 c = among-one _ _ ∙ ap (λ (k : ℕ). among (c .before .args .before) (befores kindOrder k)) (sym (c .match .keys5))
 
 returns-6 : tie.Need-returns-6
-unfolding befores order
-returns-6 c = among-one _ _ ∙ ap (λ (k : ℕ). among (c .before .args .before) (befores order k)) (sym (c .match .keys6))
+unfolding befores kindOrder
+returns-6 c = among-one _ _ ∙ ap (λ (k : ℕ). among (c .before .args .before) (befores kindOrder k)) (sym (c .match .keys6))
 
 returns-7 : tie.Need-returns-7
-unfolding befores order
-returns-7 c = c .either2 .ensures ∙ ap (λ (k : ℕ). among (c .before .before .args .before) (befores order k)) (sym (c .before .match .keys7))
+unfolding befores kindOrder
+returns-7 c = c .either2 .ensures ∙ ap (λ (k : ℕ). among (c .before .before .args .before) (befores kindOrder k)) (sym (c .before .match .keys7))
 
 returns-8 : tie.Need-returns-8
-unfolding befores order
-returns-8 c = among-one _ _ ∙ ap (λ (k : ℕ). among (c .before .args .before) (befores order k)) (sym (c .match .keys8))
+unfolding befores kindOrder
+returns-8 c = among-one _ _ ∙ ap (λ (k : ℕ). among (c .before .args .before) (befores kindOrder k)) (sym (c .match .keys8))
 
 returns-9 : tie.Need-returns-9
-unfolding befores order
-returns-9 c = among-one _ _ ∙ ap (λ (k : ℕ). among (c .before .args .before) (befores order k)) (sym (c .match .keys9))
+unfolding befores kindOrder
+returns-9 c = among-one _ _ ∙ ap (λ (k : ℕ). among (c .before .args .before) (befores kindOrder k)) (sym (c .match .keys9))
 
 returns-10 : tie.Need-returns-10
-unfolding befores order
-returns-10 c = among-one _ _ ∙ ap (λ (k : ℕ). among (c .before .args .before) (befores order k)) (sym (c .match .keys10))
+unfolding befores kindOrder
+returns-10 c = among-one _ _ ∙ ap (λ (k : ℕ). among (c .before .args .before) (befores kindOrder k)) (sym (c .match .keys10))
 
 returns-11 : tie.Need-returns-11
-unfolding befores order
-returns-11 c = among-one _ _ ∙ ap (λ (k : ℕ). among (c .before .args .before) (befores order k)) (sym (c .match .keys11))
+unfolding befores kindOrder
+returns-11 c = among-one _ _ ∙ ap (λ (k : ℕ). among (c .before .args .before) (befores kindOrder k)) (sym (c .match .keys11))
 
 returns-12 : tie.Need-returns-12
 returns-12 c =

@@ -8,12 +8,12 @@ use mathlib.Core.Path.{_≡_}
 use Prim.Native.Nat.{_-_, _≤_, _*_}
 use mathlib.Core.List.{_++_}
 use lib.ListN.{replicate}
-use Rattle.deck.specs.Cases.{tabulate, slotOf, noSlot}
+use Rattle.deck.specs.Cases.{tabulate, slotSpelled, noSlot}
 use Rattle.deck.proofs.records.record_at.Statement.{statement}
 use Rattle.deck.proofs.records.record_at.Tie as tie
 
 abbrev Inv-loop : tie.InvT-loop
-Inv-loop deck n lines slots₀ count k₀ slots k = (k ≤ lines * 6) × (slots ≡ tabulate k (slotOf deck n) ++ replicate (24 - k) noSlot)
+Inv-loop deck n lines slots₀ count k₀ slots k = (k ≤ lines * 6) × (slots ≡ tabulate k (slotSpelled deck n) ++ replicate (24 - k) noSlot)
 
 abbrev μ-loop : tie.MeasureT-loop
 μ-loop deck n lines slots₀ count k₀ slots k = lines * 6 - k
@@ -22,7 +22,7 @@ mul-count : tie.Need-mul-count Inv-loop μ-loop
 mul-count c = omega (arith, c .before .pre)
 
 loop-holds : tie.Need-loop-holds Inv-loop μ-loop
-loop-holds c = (search needs, filled-start (slotOf (now (c .before .args .deck)) (c .before .args .n)) noSlot 24)
+loop-holds c = (search needs, filled-start (slotSpelled (now (c .before .args .deck)) (c .before .args .n)) noSlot 24)
 
 slot-at-requires : tie.Need-slot-at-requires Inv-loop μ-loop
 slot-at-requires c κs = omega (arith, c .before .before .before .pre)
@@ -42,7 +42,7 @@ loop-less c = omega arith
 loop-again : tie.Need-loop-again Inv-loop μ-loop
 loop-again c = (
   omega arith,
-  filled-more (slotOf (now (c .before .before .before .before .args .deck)) (c .before .before .before .before .args .n)) noSlot 24 (c .before .before .loop .k) (omega (arith, c .before .before .before .before .pre)) _ (c .before .before .loop .inv .1) _ (c .slot-at .ensures),
+  filled-more (slotSpelled (now (c .before .before .before .before .args .deck)) (c .before .before .before .before .args .n)) noSlot 24 (c .before .before .loop .k) (omega (arith, c .before .before .before .before .pre)) _ (c .before .before .loop .inv .1) _ (c .slot-at .ensures),
 )
 
 id-at-requires : tie.Need-id-at-requires Inv-loop μ-loop

@@ -22,7 +22,7 @@ value-of-requires : tie.Need-value-of-requires
 value-of-requires c κs = search needs
 
 returns : tie.Need-returns
-returns c = slot-is (now (c .before .before .before .before .args .deck)) _ (c .before .before .before .before .args .n) (c .before .before .before .before .args .k) _ _ (c .value-of .ensures) (c .before .number .ensures) (c .before .before .field .ensures)
+returns c = slot-is (now (c .before .before .before .before .args .deck)) _ (c .before .before .before .before .args .n) (c .before .before .before .before .args .k) _ _ (c .value-of .ensures) (c .before .number .ensures .0) (c .before .before .field .ensures)
 
 pub slot-at-spec : {M : Type 1} → statement M
 slot-at-spec =

@@ -6,14 +6,14 @@ use mathlib.Core.Path.{_≡_, refl}
 use lib.ListN.{length, drop, getD}
 use borrow.Author.Needs.{needs}
 use denote.Ref.{now}
-use Rattle.deck.specs.Numbers.{decimal}
-use Rattle.deck.proofs.Digits.{digit-at, decimal-turn, decimal-end, room-loop, room-now, room-start}
+use Rattle.deck.specs.Numbers.{digitsValue}
+use Rattle.deck.proofs.Digits.{digit-at, digits-value-turn, digits-value-end, room-loop, room-now, room-start}
 use Rattle.deck.proofs.spelling.digits_value.Statement.{statement}
 use Rattle.deck.proofs.spelling.digits_value.Tie as tie
 
 abbrev Inv-loop : tie.InvT-loop
 Inv-loop from s value₀ i₀ value i =
-    (i ≤ length s) × (decimal value (drop i s) ≡ decimal from s) × ((value + 1) * 10 ^ (length s - i) ≤ 1000000000)
+    (i ≤ length s) × (digitsValue value (drop i s) ≡ digitsValue from s) × ((value + 1) * 10 ^ (length s - i) ≤ 1000000000)
 
 abbrev μ-loop : tie.MeasureT-loop
 μ-loop from s value₀ i₀ value i = length s - i
@@ -58,12 +58,12 @@ loop-again : tie.Need-loop-again Inv-loop μ-loop
 loop-again c =
     let s = now (c .before .before .before .args .s) in (
       omega arith,
-      decimal-turn s _ _ _ (c .before .loop-test .taken) (c .before .before .loop .inv .1),
+      digits-value-turn s _ _ _ (c .before .loop-test .taken) (c .before .before .loop .inv .1),
       next c,
     )
 
 returns : tie.Need-returns Inv-loop μ-loop
-returns c = decimal-end _ _ _ _ (c .loop-test .left) (c .before .loop .inv .1)
+returns c = digits-value-end _ _ _ _ (c .loop-test .left) (c .before .loop .inv .1)
 
 pub digits-value-spec : {M : Type 1} → statement M
 digits-value-spec =

@@ -1,0 +1,33 @@
+-- A case in range (document 01, "Deck"): one to sixteen chemicals, one to four receptors, and each slot, by its name, as its rule asks.
+-- Assumes nothing.
+use mathlib.Core.Path.{_≡_}
+use Prim.Native.Nat.{ℕ, _≤_, _<_}
+use mathlib.Core.Bool.{true, not, _||_}
+use lib.IntN.{ℤ}
+use Rattle.slots.specs.Slots.{Slot, ruleOf}
+use Rattle.slots.specs.declared.Rule.{Rule}
+use Rattle.deck.specs.Kinds.{maxChemicals, maxReceptors}
+use Rattle.deck.specs.Ranges.{above, below, inRange}
+use Rattle.deck.specs.Cases.{printed}
+use Rattle.deck.specs.declared.Case.{Case}
+use Rattle.deck.specs.declared.Value.{Value}
+use Rattle.deck.specs.declared.Value.the-variants.{Absent, Printed}
+
+-- what a field may spell: nine digits, and a power of ten from -108 to 99
+pub record Spelled (digits : ℕ) (power : ℤ) : Type 0 where
+  pub nine : digits < 1000000000
+  pub high : above power ≤ 99
+  pub low : below power ≤ 108
+
+-- what a slot's rule asks of its value; no value is right where - is allowed, and in a later slot
+abbrev pub Fits : Rule → Value → Type 0
+Fits rule Absent = (rule .dash || not (rule .used)) ≡ true
+Fits rule (Printed digits power) = (rule .used ≡ true) × (inRange rule digits power ≡ true) × Spelled digits power
+
+-- for each receptor j and chemical i, from 0
+pub record Ranged (case : Case) : Type 0 where
+  pub some-chemicals : 1 ≤ case .chemicals .count
+  pub few-chemicals : case .chemicals .count ≤ maxChemicals
+  pub some-receptors : 1 ≤ case .receptors .count
+  pub few-receptors : case .receptors .count ≤ maxReceptors
+  pub fits : (j i : ℕ) → j < case .receptors .count → i < case .chemicals .count → (s : Slot) → Fits (ruleOf s) (printed case j i s)
