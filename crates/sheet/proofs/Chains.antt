@@ -1,16 +1,17 @@
 -- Lists chained from parts: f 0 ++ f 1 ++ .. by index, in one loop or in two, and the first condition that holds in such a list.
 -- Assumes nothing.
 use mathlib.Core.Path.{_≡_, refl, sym, ap, _∙_}
-use mathlib.Core.List.{List, [], _∷_, _++_, append-assoc, append-nil}
+use mathlib.Core.List.{List, _++_, append-assoc, append-nil}
 use Prim.Native.Nat.{ℕ, zero, suc, _+_, _-_, _*_, _/_, _%_, _<_}
-use native.Mathlib.Nat.{add-zero, add-suc, le-of-suc-le-suc, not-suc-le-zero}
+use native.Mathlib.Nat.{add-zero, add-suc}
 use native.Mathlib.Numerals.{add-one}
 use native.Mathlib.Omega.{arith}
-use lib.ListN.{length, getD, length-append}
+use lib.ListN.{length, length-append}
 use Rattle.deck.specs.declared.Status.{Status}
 use Rattle.deck.specs.declared.Status.the-variants.{Read, Stopped}
-use Rattle.deck.specs.Conditions.{Condition, first, upTo}
-use Rattle.deck.proofs.First.{turn-on, turn-out}
+use Rattle.deck.specs.Conditions.{Condition, first}
+use Rattle.deck.proofs.First.{orElse, first-append}
+use Rattle.deck.proofs.Places.{append-read}
 use Rattle.sheet.specs.Sheet.{chained}
 
 module _ {A : Type 0} where
@@ -66,32 +67,27 @@ module _ {A : Type 0} where
       ∙ sym (chained-add (λ q. f (q / 6) (q % 6)) (n * 6) 6)
       ∙ ap (chained (λ q. f (q / 6) (q % 6))) (sym more)
 
-  -- an element that is there, whatever would stand for a missing one
-  pub any-default : (l : List A) (i : ℕ) (d e : A) → i < length l → getD l i d ≡ getD l i e
-  any-default [] i d e h = absurd (not-suc-le-zero h)
-  any-default (x ∷ xs) zero d e h = refl
-  any-default (x ∷ xs) (suc i) d e h = any-default xs i d e (le-of-suc-le-suc h)
+-- where none of the parts stops
+pub chained-each : (f : ℕ → List Condition) (n : ℕ) → first (chained f n) ≡ Read → (k : ℕ) → k < n → first (f k) ≡ Read
+chained-each f n none k h =
+    let rest : List Condition = chained (λ j. f (k + 1 + j)) (n - (k + 1)) in
+    append-read (f k) rest (append-read (chained f k) (f k ++ rest) (sym (ap first (chained-split f n k h)) ∙ none) .1) .0
 
--- f 1, f 2, .. as a chain
-pub upTo-chained : (f : ℕ → List Condition) (n : ℕ) → upTo f n ≡ chained (λ p. f (suc p)) n
-unfolding chained upTo
-upTo-chained f zero = refl
-upTo-chained f (suc n) = ap (λ (l : List Condition). l ++ f (suc n)) (upTo-chained f n)
+-- the next part goes on, or stops the whole
+module _ (f : ℕ → List Condition) (k : ℕ) (none : first (chained f k) ≡ Read) (s : Status) (is-first : s ≡ first (f k)) where
+  pub goes-on : s ≡ Read → first (chained f (k + 1)) ≡ Read
+  unfolding orElse
+  goes-on read =
+      ap first (chained-more f k) ∙ first-append (chained f k) (f k) ∙ ap (λ (t : Status). orElse t (first (f k))) none ∙ sym is-first ∙ read
 
-as-upTo : (f : ℕ → List Condition) (n : ℕ) → chained f n ≡ upTo (λ k. f (k - 1)) n
-as-upTo f n =
-    chained-same f (λ p. f (suc p - 1)) n (λ k h. let e : k ≡ suc k - 1 = omega arith in ap f e) ∙ sym (upTo-chained (λ k. f (k - 1)) n)
-
-module _ (f : ℕ → List Condition) where
-  part : (k : ℕ) (s : Status) → s ≡ first (f k) → s ≡ first (f (k + 1 - 1))
-  part k s e = let c : k ≡ k + 1 - 1 = omega arith in e ∙ ap (λ (m : ℕ). first (f m)) c
-
-  -- the next part goes on, or stops the whole
-  pub goes-on : (k : ℕ) → first (chained f k) ≡ Read → (s : Status) → s ≡ first (f k) → s ≡ Read → first (chained f (k + 1)) ≡ Read
-  goes-on k e s p q =
-      ap first (as-upTo f (k + 1)) ∙ turn-on (λ k. f (k - 1)) k (sym (ap first (as-upTo f k)) ∙ e) s (part k s p) q
-
-  pub stops : (k m : ℕ) → k < m → first (chained f k) ≡ Read → (s : Status) → s ≡ first (f k) → (number line field : ℕ) → s ≡ Stopped number line field
-      → s ≡ first (chained f m)
-  stops k m h e s p number line field q =
-      turn-out (λ k. f (k - 1)) k m h (sym (ap first (as-upTo f k)) ∙ e) s (part k s p) number line field q ∙ sym (ap first (as-upTo f m))
+  pub stops : (m : ℕ) → k < m → (number line field : ℕ) → s ≡ Stopped number line field → s ≡ first (chained f m)
+  unfolding orElse
+  stops m h number line field stop =
+      let rest : List Condition = chained (λ j. f (k + 1 + j)) (m - (k + 1)) in
+      stop
+      ∙ sym
+      (ap first (chained-split f m k h)
+      ∙ first-append (chained f k) (f k ++ rest)
+      ∙ ap (λ (t : Status). orElse t (first (f k ++ rest))) none
+      ∙ first-append (f k) rest
+      ∙ ap (λ (t : Status). orElse t (first rest)) (sym is-first ∙ stop))

@@ -4,59 +4,64 @@ use mathlib.Core.Path.{_≡_, refl, sym, ap, _∙_}
 use mathlib.Core.Bool.{Bool, true, false}
 use mathlib.Core.List.{List}
 use Prim.Native.Nat.{ℕ, _+_, _-_, _<_}
-use native.Mathlib.Omega.{arith}
-use lib.ListN.{length, getD}
-use Rattle.deck.specs.declared.Record.{Record}
-use Rattle.deck.specs.declared.Status.{Status}
-use Rattle.deck.specs.declared.Status.the-variants.{Read, Stopped}
-use Rattle.deck.specs.Conditions.{first, upTo}
-use Rattle.deck.specs.Cases.{noRecord}
-use Rattle.deck.proofs.First.{turn-on, turn-out}
-use Rattle.media.specs.declared.Site.{Site}
-use Rattle.media.specs.declared.Chemical.{Chemical}
+use native.Mathlib.Numerals.{add-one}
+use lib.ListN.{length, getD, replicate}
+use Rattle.equations.specs.declared.Values.{Values}
+use Rattle.equations.specs.Readings.{inputs, noValues}
+use Rattle.equations.proofs.ValueLaws.{read-any}
 use Rattle.media.specs.declared.Media.{Media}
 use Rattle.media.specs.declared.Found.{Found}
 use Rattle.media.specs.declared.Found.the-variants as Founds
 use Rattle.media.specs.Media.{found, mediaOf}
-use Rattle.media.specs.Slots.{mediaSlots}
+use Rattle.deck.specs.declared.Chemicals.{Chemicals}
+use Rattle.deck.specs.declared.Record.{Record}
+use Rattle.deck.specs.declared.Status.{Status}
+use Rattle.deck.specs.declared.Status.the-variants.{Read, Stopped}
+use Rattle.deck.specs.Kinds.{maxChemicals}
+use Rattle.deck.specs.Conditions.{first}
+use Rattle.deck.specs.Cases.{noRecord}
+use Rattle.deck.proofs.Accepted.{filled-at}
 use Rattle.sheet.specs.declared.Source.{Source}
-use Rattle.sheet.specs.Values.{siteFrom, chemicalFrom}
-use Rattle.sheet.specs.Worked.{mediaFrom, notFound, mediaFor, sourceWith, sourceOf, fastSource}
-use Rattle.sheet.proofs.Chains.{any-default}
+use Rattle.sheet.specs.Values.{valuesOf}
+use Rattle.sheet.specs.Sheet.{chained}
+use Rattle.sheet.specs.Counts.{isRefused}
+use Rattle.sheet.specs.Inner.{mediaFrom, mediaWith, sourceWith, sourceOf, noSource, sourcesOf, sourceAt, refusedSource}
+use Rattle.sheet.proofs.Chains as chains
 
-module _ (site′ : Record) (records : List Record) (blank : Record) (i : ℕ) (here : i < length records) (place : Site) (chemical′ : Chemical) (r : Found) (at-site : place ≡ siteFrom site′) (of-chemical : chemical′ ≡ chemicalFrom (getD records i blank)) (worked : found r ≡ mediaOf (mediaSlots place chemical′)) where
+module _ (site′ : Values) (records : List Record) (blank : Record) (i : ℕ) (here : i < length records) (values′ : Values) (r : Found)
+    (of-chemical : values′ ≡ valuesOf (getD records i blank)) (worked : found r ≡ mediaOf (inputs site′ values′ noValues)) where
   record-is : getD records i blank ≡ getD records i noRecord
-  record-is = any-default records i blank noRecord here
+  record-is = read-any records i here blank noRecord
 
-  media-is : found r ≡ mediaFor site′ (getD records i noRecord)
-  unfolding mediaFor
+  media-is : found r ≡ mediaWith site′ (getD records i noRecord)
+  unfolding mediaWith
   media-is =
-      worked
-      ∙ ap (λ (s : Site). mediaOf (mediaSlots s chemical′)) at-site
-      ∙ ap (λ (c : Chemical). mediaOf (mediaSlots (siteFrom site′) c)) of-chemical
-      ∙ ap (λ (c : Record). mediaOf (mediaSlots (siteFrom site′) (chemicalFrom c))) record-is
+      worked ∙ ap (λ (v : Values). mediaOf (inputs site′ v noValues)) (of-chemical ∙ ap valuesOf record-is)
 
-  pub source-is : (m : Media) → r ≡ Founds.Is m → (s : Source) → s ≡ sourceWith site′ (getD records i blank) m → s ≡ sourceOf site′ (getD records i noRecord)
+  pub source-is : (m : Media) → r ≡ Founds.Is m → (s : Source) → s ≡ sourceWith (getD records i blank) m → s ≡ sourceOf site′ (getD records i noRecord)
   unfolding sourceOf mediaFrom found
   source-is m e s g =
-      let f : mediaFrom (mediaFor site′ (getD records i noRecord)) ≡ m = sym (ap mediaFrom media-is) ∙ ap (λ (x : Found). mediaFrom (found x)) e in
-      g
-      ∙ ap (λ (c : Record). sourceWith site′ c m) record-is
-      ∙ ap (sourceWith site′ (getD records i noRecord)) (sym f)
+      let f : mediaFrom (mediaWith site′ (getD records i noRecord)) ≡ m = sym (ap mediaFrom media-is) ∙ ap (λ (x : Found). mediaFrom (found x)) e in
+      g ∙ ap (λ (c : Record). sourceWith c m) record-is ∙ ap (sourceWith (getD records i noRecord)) (sym f)
 
-  condition-is : (b : Bool) → notFound (found r) ≡ b → notFound (mediaFor site′ (getD records (i + 1 - 1) noRecord)) ≡ b
-  condition-is b e =
-      let same : i + 1 - 1 ≡ i = omega arith in
-      ap (λ (k : ℕ). notFound (mediaFor site′ (getD records k noRecord))) same ∙ sym (ap notFound media-is) ∙ e
+  condition-is : (b : Bool) → isRefused (found r) ≡ b → isRefused (mediaWith site′ (getD records i noRecord)) ≡ b
+  condition-is b e = sym (ap isRefused media-is) ∙ e
 
-  pub goes-on : (m : Media) → r ≡ Founds.Is m → first (upTo (fastSource site′ records) i) ≡ Read → first (upTo (fastSource site′ records) (i + 1)) ≡ Read
-  unfolding fastSource first found notFound
-  goes-on m e h =
-      let c = condition-is false (ap (λ (x : Found). notFound (found x)) e) in
-      turn-on (fastSource site′ records) i h Read (rw c refl) refl
+  module _ (none : first (chained (refusedSource site′ records) i) ≡ Read) where
+    pub goes-on : (m : Media) → r ≡ Founds.Is m → first (chained (refusedSource site′ records) (i + 1)) ≡ Read
+    unfolding refusedSource first found isRefused
+    goes-on m e =
+        let c = condition-is false (ap (λ (x : Found). isRefused (found x)) e) in
+        chains.goes-on (refusedSource site′ records) i none Read (rw c refl) refl
 
-  pub stops : notFound (found r) ≡ true → (count : ℕ) → i < count → first (upTo (fastSource site′ records) i) ≡ Read → (s : Status) → s ≡ Stopped 41 (i + 1) 0 → s ≡ first (upTo (fastSource site′ records) count)
-  unfolding fastSource first
-  stops n count l h s e =
-      let c = condition-is true n in
-      turn-out (fastSource site′ records) i count l h s (e ∙ (rw c refl)) 41 (i + 1) 0 e
+    pub stops : isRefused (found r) ≡ true → (count : ℕ) → i < count → (s : Status) → s ≡ Stopped 41 (i + 1) 0 → s ≡ first (chained (refusedSource site′ records) count)
+    unfolding refusedSource first
+    stops n count l s e =
+        let c = condition-is true n in
+        chains.stops (refusedSource site′ records) i none s (e ∙ rw (c, add-one) refl) count l 41 (i + 1) 0 e
+
+pub source-at : (site′ : Values) (chemicals′ : Chemicals) (i : ℕ) → i < chemicals′ .count
+    → sourceAt (sourcesOf site′ chemicals′) i ≡ sourceOf site′ (getD (chemicals′ .records) i noRecord)
+unfolding sourceAt sourcesOf
+source-at site′ chemicals′ i h =
+    filled-at (λ k. sourceOf site′ (getD (chemicals′ .records) k noRecord)) noSource (chemicals′ .count) (replicate (maxChemicals - chemicals′ .count) noSource) i h

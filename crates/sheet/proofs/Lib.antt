@@ -1,23 +1,15 @@
--- The crate's laws: the text of a report, what is worked against what is defined, and demands 1 to 3 of document 01 (`DemandTwo`, `DemandThree`).
--- Assumes nothing.
-mod Sums
-mod Columns
-mod Places
-mod Spelling
-mod Inputs
-mod Ranges
-mod Clear
-mod TotalLaws
-mod LineTotals
-mod Chains
+-- The crate's laws: what is worked against what is defined, what cells hold, and demand 3 of a case (`DemandThree`). Assumes nothing.
+mod ValueLaws
+pub mod Chains
+pub mod Inputs
+mod SourceLaws
 mod ChemicalLaws
 mod ReceptorLaws
 mod CellLaws
-mod Written
-mod SourceLaws
-mod ReportLaws
-mod TotalRows
-mod CallLaws
-mod Agreement
-pub mod DemandTwo
+mod CountLaws
+pub mod Held
+mod Clear
+mod TotalLaws
+mod LineTotals
+pub mod CaseLaws
 pub mod DemandThree

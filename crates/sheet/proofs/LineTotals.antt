@@ -3,7 +3,7 @@
 use mathlib.Core.Path.{_≡_, refl, sym, _∙_, ap, subst}
 use mathlib.Core.Bool.{Bool, true, false, cond, _&&_}
 use Prim.Native.Nat.{ℕ, suc, _+_, _*_, _^_, _≤_, _<_}
-use native.Mathlib.Nat.{mul-le-mul-right, le-of-mul-le-mul-right, lt-of-mul-lt-mul-right}
+use native.Mathlib.Nat.{le-trans, mul-le-mul-right, le-of-mul-le-mul-right, lt-of-mul-lt-mul-right}
 use native.Mathlib.Omega.{arith}
 use lib.Dec.{lit<, lit≤}
 use lib.IntN.{negsuc}
@@ -12,36 +12,34 @@ use Rattle.pair.specs.declared.Number.{Number}
 use Rattle.pair.specs.declared.Pair.{Pair}
 use Rattle.pair.specs.declared.Units as pairUnits
 use Rattle.pair.specs.Fraction.{Fraction, _≤ᶠ_, plus}
-use Rattle.pair.specs.Number.{isZero, zeroExponent, nineFigures, inReach, isNumber, isPair, atMost, value, place, depth}
+use Rattle.pair.specs.Number.{inReach, isNumber, isPair, atMost, value, place, depth}
 use Rattle.pair.specs.Calls.{Outcome, is, inUnits}
 use Rattle.pair.specs.Promises as promises
 use Rattle.pair.specs.Promises.{scaled}
-use Rattle.pair.proofs.Promises.{through, at-most, value-proper, compared-answered, Counted, units-right, units-hold, units-answered}
+use Rattle.pair.proofs.Promises.{through, ordered, number-written, size-reach, at-most, value-proper, compared-answered, Counted, units-right, units-hold, units-answered}
 use Rattle.equations.specs.declared.Pathway.{Pathway}
 use Rattle.equations.specs.declared.Effect.{Effect}
 use Rattle.equations.specs.declared.Effect.the-variants.{Hazard, Cancer}
 use Rattle.equations.specs.Formula.{read, pairs}
 use Rattle.equations.specs.Page as page
 use Rattle.equations.specs.Page.{x, line}
-use Rattle.equations.specs.Readings.{letters, plain, exactly}
-use Rattle.equations.specs.Ranges as ranges
+use Rattle.equations.specs.Readings.{letters, plain, exactly, inputs, byOwner, valueIn}
+use Rattle.equations.specs.Ranges.{sixtyFour}
 use Rattle.equations.proofs.LineLaws.{Works, x-answered, line-works, line-narrow}
 use Rattle.deck.specs.declared.Case.{Case}
-use Rattle.deck.specs.Slots.{above, below}
-use Rattle.deck.proofs.Digits.{both}
-use Rattle.sheet.specs.declared.Units.the-variants as Columns
-use Rattle.sheet.specs.Values.{printed, pairsAt, exactAt}
-use Rattle.media.specs.Media.{sixtyFour}
+use Rattle.deck.specs.Ranges.{above, below}
+use Rattle.deck.specs.Ranged.{Ranged}
+use Rattle.slots.specs.Slots.{table, same, isIn, placeIn, ownerOf, placeOf}
+use Rattle.totals.specs.declared.Columns.the-variants as Cols
+use Rattle.sheet.specs.Values.{pairsAt, exactAt}
 use Rattle.sheet.specs.Sheet.{hasReference, figureAt, unitOf, capOf, counted, countedIn, columnsAt, isAbove, highAbove, exponentAt, overCap}
-use Rattle.sheet.specs.DemandThree.{Enclosed, unitsPerOne, inUnitsOf, nothing, exactLine, counts}
-use Rattle.sheet.proofs.Inputs.{Ranged, inputs, ten-above, place-power}
+use Rattle.sheet.specs.DemandThree.{Enclosed, unitsPerOne, inUnitsOf, nothing, exactLine, lineCounts}
+use Rattle.sheet.proofs.Inputs.{inputs-ranged, ten-above, place-power}
 use Rattle.sheet.proofs.TotalLaws.{Totals, totals-none}
 
 -- ---- bounds
 pub high-number : (p : Pair) → isPair p ≡ true → isNumber (p .high) ≡ true
-unfolding isPair
-high-number p h =
-    both (isNumber (p .high)) (atMost (p .low) (p .high)) (both (isNumber (p .low)) (isNumber (p .high) && atMost (p .low) (p .high)) h .1) .0
+high-number p h = ordered p h .high
 
 not-above : (b : Number) (p : Pair) → isNumber b ≡ true → isPair p ≡ true → highAbove b (is p) ≡ false → value (p .high) ≤ᶠ value b
 unfolding highAbove isAbove
@@ -59,18 +57,14 @@ unfolding unitOf unitsPerOne
 unit-power Hazard = power 11 (lit≤ tt)
 unit-power Cancer = power 14 (lit≤ tt)
 
-sixty-four : (p : Pair) → value (p .high) ≤ᶠ value sixtyFour → value (p .high) ≤ᶠ ranges.sixtyFour
-unfolding value sixtyFour ranges.sixtyFour
-sixty-four p h = record { across = omega (arith, le-of-mul-le-mul-right {k = 10 ^ depth} (h .across) (ten-above depth), power 6 (lit≤ tt)) }
-
 pub sixty-four-number : isNumber sixtyFour ≡ true
-unfolding isNumber isZero zeroExponent nineFigures inReach sixtyFour
-sixty-four-number = refl
+unfolding sixtyFour
+sixty-four-number = number-written 640000000 (negsuc 6) (lit≤ tt) (lit≤ tt) (lit< tt)
 
 cap-number : (e : Effect) → isNumber (capOf e) ≡ true
-unfolding isNumber isZero zeroExponent nineFigures inReach capOf
-cap-number Hazard = refl
-cap-number Cancer = refl
+unfolding capOf
+cap-number Hazard = number-written 100000000 (negsuc 3) (lit≤ tt) (lit≤ tt) (lit< tt)
+cap-number Cancer = number-written 100000000 (negsuc 7) (lit≤ tt) (lit≤ tt) (lit< tt)
 
 -- 10,000 and 1 are no more than 10^16 units
 pub cap-units : (e : Effect) (m : ℕ) → 10 ^ 16 ≤ m → value (capOf e) ≤ᶠ scaled m (unitOf e)
@@ -81,9 +75,9 @@ cap-units Cancer m h =
     record { across = mul-le-mul-right (10 ^ depth) (omega (arith, power 7 (lit≤ tt), power 14 (lit≤ tt), mul-le-mul-right (10 ^ place (negsuc 14)) h)) }
 
 unit-reach : (e : Effect) → inReach (unitOf e) ≡ true
-unfolding inReach unitOf
-unit-reach Hazard = refl
-unit-reach Cancer = refl
+unfolding unitOf
+unit-reach Hazard = size-reach (negsuc 11) (lit< tt)
+unit-reach Cancer = size-reach (negsuc 14) (lit< tt)
 
 -- ---- counts
 -- where k units u make d, what is said of n units over d is said of n over 1
@@ -115,53 +109,94 @@ line-enclosed e r n y t h c =
       close = close-units (n .low) (n .high) u (10 ^ depth) (value (r .low) .num) (value (r .high) .num) (ten-above depth) (s .low-most .across) (s .high-most .across) c;
     }
 
+-- ---- a line at most its cap is counted by small numbers
+low-small : (l h u d : ℕ) → 0 < u → 0 < d → l * u * d ≤ h * u * d → l ≤ h
+low-small l h u d y z c = le-of-mul-le-mul-right {k = u} (le-of-mul-le-mul-right {k = d} c z) y
+
+high-small : (h u d v m : ℕ) → 0 < d → h * u * (d * d) < (v * d + 1 * u * d) * d → v * d ≤ m * u * d → h ≤ m
+high-small h u d v m z a b =
+    let p : h * u < v + u = lt-of-mul-lt-mul-right (d * d) (omega (arith, a)) in
+    let q : v ≤ m * u = le-of-mul-le-mul-right {k = d} b z in
+    let r : h < m + 1 = lt-of-mul-lt-mul-right u (omega arith) in
+    omega arith
+
+pub count-small : (e : Effect) (r : Pair) (n : pairUnits.Units) (y : Fraction) → inUnits r (unitOf e) ≡ is n → promises.Holds r y → value (r .high) ≤ᶠ value (capOf e)
+    → (n .low ≤ 10 ^ 16) × (n .high ≤ 10 ^ 16)
+unfolding value scaled plus
+count-small e r n y t h c =
+    let u : ℕ = 10 ^ place (unitOf e) in
+    let d : ℕ = 10 ^ depth in
+    let held = units-hold r (unitOf e) n y t h in
+    let counted : Counted r (unitOf e) n = units-right r (unitOf e) n t in
+    let most : value (r .high) ≤ᶠ scaled (10 ^ 16) (unitOf e) = through (value-proper (capOf e)) c (cap-units e (10 ^ 16) (lit≤ tt)) in
+    let rising : scaled (n .low) (unitOf e) ≤ᶠ scaled (n .high) (unitOf e) = through (h .proper) (held .0) (held .1) in
+    let high : n .high ≤ 10 ^ 16 = high-small (n .high) u d (value (r .high) .num) (10 ^ 16) (ten-above depth) (counted .high-most .across) (most .across) in
+    let low : n .low ≤ n .high = low-small (n .low) (n .high) u d (ten-above (place (unitOf e))) (ten-above depth) (rising .across) in
+    (le-trans low high, high)
+
+-- Ends outside a line's counts enclose what these enclose, if they are close.
+enclosed-from : (l h : ℕ) (n : pairUnits.Units) (x : Fraction) → Enclosed (n .low) (n .high) 1 x → l ≤ n .low → n .high ≤ h → 5000 * h ≤ 5001 * l + 15000 * 1 → Enclosed l h 1 x
+enclosed-from l h n x q a b c =
+    record {
+      some = q .some;
+      proper = q .proper;
+      least = le-trans (mul-le-mul-right (x .den) a) (q .least);
+      most = le-trans (q .most) (mul-le-mul-right (x .den) b);
+      close = c;
+    }
+
 -- ---- a line of a case
 -- the line's pair, at most the cap, and its counts
-pub record Figure (case : Case) (i j : ℕ) (e : Effect) (w : Pathway) : Type 0 where
+pub record Figure (case : Case) (j i : ℕ) (e : Effect) (w : Pathway) : Type 0 where
   pub pair : Pair
-  pub works : Works (pairsAt case i j) (exactAt case i j) (line e w) pair
+  pub works : Works (pairsAt case j i) (exactAt case j i) (line e w) pair
   pub capped : value (pair .high) ≤ᶠ value (capOf e)
   pub units : pairUnits.Units
   pub told : inUnits pair (unitOf e) ≡ is units
 
-module _ (case : Case) (ranged : Ranged case) (i j : ℕ) (i-small : i < case .chemicals .count) (j-small : j < case .receptors .count) (slow : highAbove sixtyFour (exponentAt case i) ≡ false) where
+module _ (case : Case) (ranged : Ranged case) (j i : ℕ) (j-small : j < case .receptors .count) (i-small : i < case .chemicals .count) (slow : highAbove sixtyFour (exponentAt case i) ≡ false) where
   -- x names no receptor's slot
-  x-same : plain pairs (λ s. is (pairsAt case i j s)) x ≡ exponentAt case i
-  unfolding exponentAt plain read letters x page.k page.u page.kse page.ksr page.ksl pairs pairsAt printed
+  x-same : plain pairs (λ s. is (pairsAt case j i s)) x ≡ exponentAt case i
+  unfolding exponentAt plain read letters x page.k page.u page.kse page.ksr page.ksl pairs pairsAt inputs byOwner ownerOf placeOf table same isIn placeIn
   x-same = refl
 
-  pub x-most : (p : Pair) × (plain pairs (λ s. is (pairsAt case i j s)) x ≡ is p) × (value (p .high) ≤ᶠ ranges.sixtyFour)
+  pub x-most : (p : Pair) × (plain pairs (λ s. is (pairsAt case j i s)) x ≡ is p) × (value (p .high) ≤ᶠ value sixtyFour)
   x-most =
-      let a = x-answered (pairsAt case i j) (exactAt case i j) (inputs case ranged i j i-small j-small) in
+      let a = x-answered (pairsAt case j i) (exactAt case j i) (inputs-ranged case ranged j i j-small i-small) in
       let t : highAbove sixtyFour (is (a .0)) ≡ false = subst (λ (o : Outcome Pair). highAbove sixtyFour o ≡ false) (sym x-same ∙ a .1) slow in
-      (a .0, a .1, sixty-four (a .0) (not-above sixtyFour (a .0) sixty-four-number (a .2) t))
+      (a .0, a .1, not-above sixtyFour (a .0) sixty-four-number (a .2) t)
 
-  figure-works : (e : Effect) (w : Pathway) → (r : Pair) × Works (pairsAt case i j) (exactAt case i j) (line e w) r
-  figure-works e w = line-works (pairsAt case i j) (exactAt case i j) (inputs case ranged i j i-small j-small) (x-most .0) (x-most .1) (x-most .2) e w
+  figure-works : (e : Effect) (w : Pathway) → (r : Pair) × Works (pairsAt case j i) (exactAt case j i) (line e w) r
+  figure-works e w = line-works (pairsAt case j i) (exactAt case j i) (inputs-ranged case ranged j i j-small i-small) (x-most .0) (x-most .1) (x-most .2) e w
 
-  pub figure-counted : (e : Effect) (w : Pathway) → highAbove (capOf e) (figureAt e case j i w) ≡ false → Figure case i j e w
+  pub figure-counted : (e : Effect) (w : Pathway) → highAbove (capOf e) (figureAt e case j i w) ≡ false → Figure case j i e w
   unfolding figureAt
   figure-counted e w c =
       let r : Pair = figure-works e w .0 in
-      let k : Works (pairsAt case i j) (exactAt case i j) (line e w) r = figure-works e w .1 in
+      let k : Works (pairsAt case j i) (exactAt case j i) (line e w) r = figure-works e w .1 in
       let b : value (r .high) ≤ᶠ value (capOf e) = not-above (capOf e) r (cap-number e) (k .pair) (subst (λ (o : Outcome Pair). highAbove (capOf e) o ≡ false) (k .told) c) in
       let a = units-answered r (unitOf e) (k .pair) (unit-reach e) (through (value-proper (capOf e)) b (cap-units e 9999999999999999999 (lit≤ tt))) in
       record { pair = r; works = k; capped = b; units = a .0; told = a .1 }
 
   figure-totals : (e : Effect) (w : Pathway) → highAbove (capOf e) (figureAt e case j i w) ≡ false → (N : ℕ) → 256 ≤ N →
-      Totals (countedIn (unitOf e) (figureAt e case j i w)) 1 (inUnitsOf e (exactly N (exactAt case i j) (line e w)))
+      Totals (countedIn (unitOf e) (figureAt e case j i w)) 1 (inUnitsOf e (exactly N (exactAt case j i) (line e w)))
   unfolding figureAt countedIn counted Totals
   figure-totals e w c N n =
-      let f : Figure case i j e w = figure-counted e w c in
-      rw (f .works .told, f .told) (line-enclosed e (f .pair) (f .units) (exactly N (exactAt case i j) (line e w)) (f .told) (f .works .held N n) (line-narrow (pairsAt case i j) (exactAt case i j) e w (f .pair) (f .works)))
+      let f : Figure case j i e w = figure-counted e w c in
+      let x : Fraction = exactly N (exactAt case j i) (line e w) in
+      let q : Enclosed (f .units .low) (f .units .high) 1 (inUnitsOf e x) =
+      line-enclosed e (f .pair) (f .units) x (f .told) (f .works .held N n) (line-narrow (pairsAt case j i) (exactAt case j i) e w (f .pair) (f .works))
+      in
+      let s = count-small e (f .pair) (f .units) x (f .told) (f .works .held N n) (f .capped) in
+      rw (f .works .told, f .told) (enclosed-from _ _ (f .units) (inUnitsOf e x) q (omega arith) (omega (arith, s)) (omega (arith, q .close)))
 
   by-reference : (t : Bool) (e : Effect) (w : Pathway) → (t && highAbove (capOf e) (figureAt e case j i w)) ≡ false → (N : ℕ) → 256 ≤ N →
-      Totals (cond t (countedIn (unitOf e) (figureAt e case j i w)) Columns.Absent) (cond t 1 0) (cond t (inUnitsOf e (exactly N (exactAt case i j) (line e w))) nothing)
+      Totals (cond t (countedIn (unitOf e) (figureAt e case j i w)) Cols.Absent) (cond t 1 0) (cond t (inUnitsOf e (exactly N (exactAt case j i) (line e w))) nothing)
   by-reference true e w c N n = figure-totals e w c N n
   by-reference false e w c N n = totals-none
 
   -- A line's columns and its exact fraction; without the reference value it counts nothing.
   pub line-totals : (e : Effect) (w : Pathway) → overCap e case j i w ≡ false → (N : ℕ) → 256 ≤ N →
-      Totals (columnsAt e case j i w) (counts e case i w) (exactLine e case N j i w)
-  unfolding overCap columnsAt counts exactLine
+      Totals (columnsAt e case j i w) (lineCounts e case i w) (exactLine e case N j i w)
+  unfolding overCap columnsAt lineCounts exactLine
   line-totals e w c N n = by-reference (hasReference e case i w) e w c N n

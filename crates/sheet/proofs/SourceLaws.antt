@@ -1,270 +1,246 @@
--- What the crates below work for a chemical, and for its lines, is the report's: a chemical without media is one whose x is above 64, and
--- for every other the media, figures and rows agree. Assumes nothing.
-use mathlib.Core.Path.{_≡_, refl, sym, _∙_, ap, ap₂}
-use mathlib.Core.Bool.{Bool, true, false, cond, not, _&&_, _||_, true≢false}
-use mathlib.Core.List.{List}
-use Prim.Native.Nat.{ℕ, _-_, _≤_, _<_}
-use lib.ListN.{replicate}
+-- What the crates below work for a chemical and for its lines is the page read from the case's slots: for every case in which the chemical's
+-- media are worked, each line's columns and its cap are those of the definitions. Assumes nothing.
+use mathlib.Core.Path.{_≡_, refl, sym, _∙_, ap}
+use mathlib.Core.Bool.{Bool, true, false, cond, _&&_, true≢false}
+use Prim.Native.Nat.{ℕ, _<_}
 use Rattle.pair.specs.declared.Pair.{Pair}
-use Rattle.pair.specs.Number.{atMost}
-use Rattle.pair.specs.Calls.{Outcome, is, refused, after, product, quotient, compared}
-use Rattle.pair.proofs.Promises.{compared-answered}
+use Rattle.pair.specs.Calls.{Outcome, is, refused, mapped, checked, after, afterOne, product, quotient}
+use Rattle.slots.specs.Slots.{Slot, table, same, isIn, placeIn, ownerOf, placeOf}
 use Rattle.equations.specs.declared.Pathway.{Pathway}
 use Rattle.equations.specs.declared.Pathway.the-variants.{Air, SoilSummer, SoilWinter, Skin, AboveGround, BelowGround}
 use Rattle.equations.specs.declared.Effect.{Effect}
 use Rattle.equations.specs.declared.Effect.the-variants.{Hazard, Cancer}
-use Rattle.equations.specs.Formula.{Slot, read, pairs}
-use Rattle.equations.specs.Series.{pairSeries}
+use Rattle.equations.specs.declared.Values.{Values}
+use Rattle.equations.specs.Formula.{read, pairs}
 use Rattle.equations.specs.Page as page
-use Rattle.equations.specs.Readings.{letters, plain, worked}
-use Rattle.equations.proofs.LineLaws.{x-answered, medium-works}
+use Rattle.equations.specs.Page.{byRoute, byMedium, figureBy, intakeBy, referenceSlot}
+use Rattle.equations.specs.Readings.{letters, plain, worked, valueIn, byOwner, inputs, noValues}
+use Rattle.media.specs.declared.Conc.{Conc}
 use Rattle.media.specs.declared.Media.{Media}
-use Rattle.media.specs.Media.{sixtyFour, bounded, slow, exponentOf, four, given, mediaOf}
-use Rattle.media.specs.Slots.{mediaSlots}
-use Rattle.pathway.specs.declared.Receptor.{Receptor}
-use Rattle.pathway.specs.declared.Reference.{Reference}
-use Rattle.pathway.specs.declared.Reference.the-variants as References
-use Rattle.pathway.specs.Lines.{present, hazardOf, cancerOf, intakeOf, lineOf}
+use Rattle.media.specs.Media.{exponentOf, four, given, mediaOf}
+use Rattle.pathway.specs.declared.Factor.{Factor}
+use Rattle.pathway.specs.declared.Dose.{Dose}
+use Rattle.pathway.specs.declared.References.{References}
+use Rattle.pathway.specs.Lines.{Optional, some, none, workedFor, factorOf, concentrationFor, doseOf, figureOf, rfdGiven, csfGiven, rfdValue, csfValue, quotientOf, riskOf, figuresOf}
 use Rattle.deck.specs.declared.Case.{Case}
-use Rattle.deck.specs.declared.Status.the-variants.{Read}
+use Rattle.deck.specs.declared.Record.{Record}
 use Rattle.deck.specs.declared.Value.{Value}
 use Rattle.deck.specs.declared.Value.the-variants.{Absent, Printed}
-use Rattle.deck.specs.Slots.{maxChemicals}
-use Rattle.deck.specs.Conditions.{first, conditions}
-use Rattle.deck.specs.Cases.{caseWith, caseOf}
-use Rattle.deck.proofs.Places.{counts}
-use Rattle.deck.proofs.Accepted.{filled-at}
-use Rattle.sheet.specs.declared.Units.the-variants as Columns
-use Rattle.sheet.specs.declared.Source.{Source}
-use Rattle.sheet.specs.Values.{chemicalIndex, chemicalAt, receptorAt, printed, pairOf, pairsAt, exactAt, siteFrom, chemicalFrom, receptorFrom, uptakeFrom, referenceOf}
-use Rattle.sheet.specs.Sheet.{pathwayAt, referenceSlot, isPrinted, hasReference, figureAt, unitOf, capOf, countedIn, columnsAt, rowAt, isAbove, highAbove, exponentAt, overCap}
-use Rattle.sheet.specs.Worked.{columnsOf, aboveCap, mediaFrom, notFound, mediaFor, sourceWith, sourceOf, noSource, sourcesOf, sourceAt, mediumFrom, inhaledOr, figuresFrom, figureFor, rowFrom, isLarge, largeFrom}
-use Rattle.sheet.proofs.Inputs.{Ranged, inputs}
-use Rattle.sheet.proofs.LineTotals.{high-number, sixty-four-number, x-most}
-use Rattle.sheet.proofs.Agreement.{reference-agrees, x-agrees, factor-agrees, medium-agrees}
+use Rattle.deck.specs.Cases.{valueAt, chemicalAt, receptorAt, ownersRecord, printed}
+use Rattle.totals.specs.declared.Columns.the-variants as Cols
+use Rattle.sheet.specs.Values.{pairOf, valuesOf, pairsAt}
+use Rattle.sheet.specs.Sheet.{isPrinted, hasReference, figureAt, unitOf, capOf, countedIn, columnsAt, highAbove, overCap}
+use Rattle.sheet.specs.Counts.{isRefused, mediaFor}
+use Rattle.sheet.specs.Inner.{columnsOf, aboveCap, mediaFrom, mediaWith, rfdOf, csfOf, referencesOf, sourceWith, sourceOf, figuresFrom, figureFor}
+use Rattle.sheet.proofs.Inputs.{pair-printed}
 
--- ---- a chemical
--- the comparison with 64 decides whether the media are told
-told-if-slow : (b : Bool) (p : Pair) (m : Outcome Media) → not b ≡ false → given (bounded (is b) p) m ≡ m
-unfolding given bounded
-told-if-slow true p m h = refl
-told-if-slow false p m h = absurd (true≢false h)
+-- ---- the media
+-- media that are told hold the four concentrations
+record Told (a c f r : Outcome Pair) (m : Media) : Type 0 where
+  air : a ≡ is (m .air .0)
+  soil : c ≡ is (m .soil .0)
+  above : f ≡ is (m .«above_ground» .0)
+  below : r ≡ is (m .«below_ground» .0)
 
-none-if-fast : (b : Bool) (p : Pair) (m : Outcome Media) → not b ≡ true → notFound (given (bounded (is b) p) m) ≡ true
-unfolding given bounded notFound
-none-if-fast true p m h = absurd (true≢false (sym h))
-none-if-fast false p m h = refl
+four-told : (a c f r : Outcome Pair) (m : Media) → isRefused (four a c f r) ≡ false → m ≡ mediaFrom (four a c f r) → Told a c f r m
+unfolding four isRefused mediaFrom
+four-told (is a) (is c) (is f) (is r) m h e = rw e (record { air = refl; soil = refl; above = refl; below = refl })
+four-told (is a) (is c) (is f) (refused n) m h e = absurd (true≢false h)
+four-told (is a) (is c) (refused n) r m h e = absurd (true≢false h)
+four-told (is a) (refused n) f r m h e = absurd (true≢false h)
+four-told (refused n) c f r m h e = absurd (true≢false h)
 
--- the media with this concentration for each pathway
-abbrev mediaWith : (Pathway → Pair) → Media
-mediaWith f = record { air = record { 0 = f Air }; soil = record { 0 = f SoilSummer }; «above_ground» = record { 0 = f AboveGround }; «below_ground» = record { 0 = f BelowGround } }
+given-told : (o : Outcome Pair) (a c f r : Outcome Pair) (m : Media) → isRefused (given o (four a c f r)) ≡ false → m ≡ mediaFrom (given o (four a c f r)) → Told a c f r m
+unfolding given isRefused
+given-told (is p) a c f r m h e = four-told a c f r m h e
+given-told (refused n) a c f r m h e = absurd (true≢false h)
 
-four-told : (o : Pathway → Outcome Pair) (f : Pathway → Pair) → ((p : Pathway) → o p ≡ is (f p)) → four (o Air) (o SoilSummer) (o AboveGround) (o BelowGround) ≡ is (mediaWith f)
-unfolding four
-four-told o f h = rw (h Air, h SoilSummer, h AboveGround, h BelowGround)
+pub medium-read : (p : Pathway) (s c r : Values) → worked (inputs s c noValues) (page.medium p) ≡ worked (inputs s c r) (page.medium p)
+unfolding worked plain read letters pairs inputs byOwner ownerOf placeOf table same isIn placeIn page.medium byMedium page.A page.D page.C page.aboveGround page.belowGround page.g page.x page.k page.u page.kse page.ksr page.ksl
+medium-read Air s c r = refl
+medium-read SoilSummer s c r = refl
+medium-read SoilWinter s c r = refl
+medium-read Skin s c r = refl
+medium-read AboveGround s c r = refl
+medium-read BelowGround s c r = refl
 
-module _ (case : Case) (ranged : Ranged case) (i j : ℕ) (i-small : i < case .chemicals .count) (j-small : j < case .receptors .count) where
-  -- x, and whether it is at most 64
-  x-told : (p : Pair) × (plain pairs (λ s. is (pairsAt case i j s)) page.x ≡ is p) × (compared (p .high) sixtyFour ≡ is (atMost (p .high) sixtyFour))
-  x-told =
-      let a = x-answered (pairsAt case i j) (exactAt case i j) (inputs case ranged i j i-small j-small) in
-      (a .0, a .1, compared-answered (a .0 .high) sixtyFour (high-number (a .0) (a .2)) sixty-four-number)
+module _ (s c : Values) (told : isRefused (mediaOf (inputs s c noValues)) ≡ false) where
+  env : Slot → Pair
+  env = inputs s c noValues
 
-  is-slow : Bool
-  is-slow = atMost (x-told .0 .high) sixtyFour
+  parts : Told (worked env page.A) (worked env page.C) (worked env page.aboveGround) (worked env page.belowGround) (mediaFrom (mediaOf env))
+  unfolding mediaOf env
+  parts = given-told (exponentOf env) (worked env page.A) (worked env page.C) (worked env page.aboveGround) (worked env page.belowGround) (mediaFrom (mediaOf env)) told refl
 
-  media-x : exponentOf (mediaSlots (siteFrom (case .site)) (chemicalFrom (chemicalAt case i))) ≡ bounded (is is-slow) (x-told .0)
-  unfolding exponentOf slow is-slow
-  media-x = ap slow (x-agrees case i j ∙ x-told .1) ∙ ap (λ (o : Outcome Bool). bounded o (x-told .0)) (x-told .2)
+  medium-told : (p : Pathway) → worked env (page.medium p) ≡ is (concentrationFor p (mediaFrom (mediaOf env)) .0)
+  unfolding page.medium byMedium concentrationFor
+  medium-told Air = parts .air
+  medium-told SoilSummer = parts .soil
+  medium-told SoilWinter = parts .soil
+  medium-told Skin = parts .soil
+  medium-told AboveGround = parts .above
+  medium-told BelowGround = parts .below
 
-  case-x : highAbove sixtyFour (exponentAt case i) ≡ not is-slow
-  unfolding exponentAt highAbove isAbove is-slow
-  case-x = ap (highAbove sixtyFour) (sym (x-agrees case i 0) ∙ x-agrees case i j ∙ x-told .1) ∙ ap isAbove (x-told .2)
+-- ---- a dose
+factor-again : (o : Outcome Pair) → mapped (λ (g : Factor). g .0) (mapped (λ (q : Pair). record { 0 = q }) o) ≡ o
+unfolding mapped
+factor-again (is p) = refl
+factor-again (refused n) = refl
 
-  -- the media if x is at most 64
-  fourOf : Outcome Media
-  fourOf =
-      let env = mediaSlots (siteFrom (case .site)) (chemicalFrom (chemicalAt case i)) in
-      four (worked env page.A) (worked env page.C) (worked env page.aboveGround) (worked env page.belowGround)
+dose-again : (o : Outcome Pair) → mapped (λ (g : Dose). g .0) (mapped (λ (q : Pair). record { 0 = q }) o) ≡ o
+unfolding mapped
+dose-again (is p) = refl
+dose-again (refused n) = refl
 
-  media-is : mediaFor (case .site) (chemicalAt case i) ≡ given (bounded (is is-slow) (x-told .0)) fourOf
-  unfolding mediaFor mediaOf fourOf
-  media-is = ap (λ (o : Outcome Pair). given o fourOf) media-x
+-- the dose as a pair is the page's intake
+module _ (s c r : Values) (e : Effect) (p : Pathway) (m : Conc) (medium-is : worked (inputs s c r) (page.medium p) ≡ is (m .0)) where
+  dose-is : mapped (λ (g : Dose). g .0) (doseOf (factorOf e p s c r) m) ≡ worked (inputs s c r) (page.intake e p)
+  unfolding doseOf factorOf workedFor page.intake intakeBy worked read pairs
+  dose-is =
+      dose-again (after product (mapped (λ (g : Factor). g .0) (factorOf e p s c r)) (is (m .0)))
+      ∙ ap (λ (o : Outcome Pair). after product o (is (m .0))) (factor-again (worked (inputs s c r) (page.factor e p)))
+      ∙ ap (λ (o : Outcome Pair). after product (worked (inputs s c r) (page.factor e p)) o) (sym medium-is)
 
-  module _ (at-most-64 : highAbove sixtyFour (exponentAt case i) ≡ false) where
-    medium-told : (p : Pathway) → (r : Pair) × (worked (pairsAt case i j) (page.medium p) ≡ is r)
-    medium-told p =
-        let x = x-most case ranged i j i-small j-small at-most-64 in
-        let w = medium-works (pairsAt case i j) (exactAt case i j) (inputs case ranged i j i-small j-small) (x .0) (x .1) (x .2) p in
-        (w .0, w .1 .told)
+-- ---- a figure
+line-by : (e : Effect) (p : Pathway) (v : Slot → Pair) → worked v (page.line e p) ≡ figureBy (after product) (after quotient) e (worked v (page.intake e p)) (is (v (referenceSlot e p)))
+unfolding worked read pairs letters page.line figureBy page.reference
+line-by Hazard p v = refl
+line-by Cancer p v = refl
 
-    media-told : mediaFor (case .site) (chemicalAt case i) ≡ is (mediaWith (λ p. medium-told p .0))
-    unfolding fourOf page.medium
-    media-told =
-        let env = mediaSlots (siteFrom (case .site)) (chemicalFrom (chemicalAt case i)) in
-        media-is
-        ∙ told-if-slow is-slow (x-told .0) fourOf (sym case-x ∙ at-most-64)
-        ∙ four-told (λ p. worked env (page.medium p)) (λ p. medium-told p .0) (λ p. medium-agrees case i j p ∙ medium-told p .1)
+optional : Value → Optional Pair
+optional Absent = none
+optional (Printed digits power) = some (pairOf (Printed digits power))
 
-    medium-is : (p : Pathway) → worked (pairsAt case i j) (page.medium p) ≡ is (mediumFrom p (mediaFrom (is (mediaWith (λ p. medium-told p .0)))))
-    unfolding page.medium mediumFrom mediaFrom
-    medium-is Air = medium-told Air .1
-    medium-is SoilSummer = medium-told SoilSummer .1
-    medium-is SoilWinter = medium-told SoilSummer .1
-    medium-is Skin = medium-told SoilSummer .1
-    medium-is AboveGround = medium-told AboveGround .1
-    medium-is BelowGround = medium-told BelowGround .1
+-- a value chosen by route, and what is made of it
+routed : {A B : Type 0} (f : A → B) (p : Pathway) (x y : A) → f (byRoute p x y) ≡ byRoute p (f x) (f y)
+unfolding byRoute
+routed f Air x y = refl
+routed f SoilSummer x y = refl
+routed f SoilWinter x y = refl
+routed f Skin x y = refl
+routed f AboveGround x y = refl
+routed f BelowGround x y = refl
 
-    -- each pathway's medium
-    pub media-agree : (p : Pathway) → worked (pairsAt case i j) (page.medium p) ≡ is (mediumFrom p (mediaFrom (mediaFor (case .site) (chemicalAt case i))))
-    media-agree p = medium-is p ∙ ap (λ (o : Outcome Media). is (mediumFrom p (mediaFrom o))) (sym media-told)
+rfd-optional : (v : Value) → rfdValue (rfdGiven (rfdOf v)) ≡ optional v
+unfolding rfdValue rfdGiven rfdOf optional
+rfd-optional Absent = refl
+rfd-optional (Printed digits power) = refl
 
-  found-if : (t : Bool) → highAbove sixtyFour (exponentAt case i) ≡ t → notFound (mediaFor (case .site) (chemicalAt case i)) ≡ t
-  unfolding notFound
-  found-if true h = ap notFound media-is ∙ none-if-fast is-slow (x-told .0) fourOf (sym case-x ∙ h)
-  found-if false h = ap notFound (media-told h)
+csf-optional : (v : Value) → csfValue (csfGiven (csfOf v)) ≡ optional v
+unfolding csfValue csfGiven csfOf optional
+csf-optional Absent = refl
+csf-optional (Printed digits power) = refl
 
--- a chemical has no media exactly where its x is above 64
-pub fast-agrees : (case : Case) → Ranged case → (i : ℕ) → i < case .chemicals .count → 0 < case .receptors .count → notFound (mediaFor (case .site) (chemicalAt case i)) ≡ highAbove sixtyFour (exponentAt case i)
-fast-agrees case ranged i h l = found-if case ranged i 0 h l (highAbove sixtyFour (exponentAt case i)) refl
+-- the slot of a line's reference value, as the chemical's record has it
+referenceAt : Effect → Pathway → Record → Value
+referenceAt Hazard p r = byRoute p (valueAt r (placeOf "RfDi")) (valueAt r (placeOf "RfDo"))
+referenceAt Cancer p r = byRoute p (valueAt r (placeOf "CSFi")) (valueAt r (placeOf "CSFo"))
 
--- ---- a line
--- from the intake and the reference value
-onReference : Effect → Outcome Pair → Outcome Pair → Outcome Pair
-onReference Hazard intake value = after quotient intake value
-onReference Cancer intake value = after product intake value
+reference-printed : (case : Case) (j i : ℕ) (e : Effect) (p : Pathway) → printed case j i (referenceSlot e p) ≡ referenceAt e p (chemicalAt case i)
+unfolding referenceAt referenceSlot printed ownersRecord ownerOf placeOf table same isIn placeIn
+reference-printed case j i Hazard p = routed (printed case j i) p "RfDi" "RfDo"
+reference-printed case j i Cancer p = routed (printed case j i) p "CSFi" "CSFo"
 
-figureOf : Effect → Outcome Pair → Reference → Outcome Reference
-figureOf Hazard intake value = hazardOf intake value
-figureOf Cancer intake value = cancerOf intake value
-
-figure-by : (e : Effect) (intake : Outcome Pair) (v : Value) → figureOf e intake (referenceOf v) ≡ cond (isPrinted v) (present (onReference e intake (is (pairOf v)))) (is References.Absent)
-unfolding figureOf onReference hazardOf cancerOf referenceOf isPrinted
-figure-by Hazard intake Absent = refl
-figure-by Hazard intake (Printed digits power) = refl
-figure-by Cancer intake Absent = refl
-figure-by Cancer intake (Printed digits power) = refl
-
-line-by : (e : Effect) (p : Pathway) (env : Slot → Pair) → worked env (page.line e p) ≡ onReference e (worked env (page.intake e p)) (worked env (page.reference e p))
-unfolding worked read pairs page.line onReference
-line-by Hazard p env = refl
-line-by Cancer p env = refl
-
--- the reference value of a line, from the case and from the chemical's source
-reference-read : (case : Case) (i j : ℕ) (e : Effect) (p : Pathway) → worked (pairsAt case i j) (page.reference e p) ≡ is (pairOf (printed case i j (referenceSlot e p)))
-unfolding worked read letters pairsAt
-reference-read case i j e p = rw reference-agrees
-
-referenceFrom : Effect → Source → Pathway → Reference
-referenceFrom Hazard s p = inhaledOr p (s .«rfd_i») (s .«rfd_o»)
-referenceFrom Cancer s p = inhaledOr p (s .«csf_i») (s .«csf_o»)
-
-reference-from : (case : Case) (i j : ℕ) (e : Effect) (p : Pathway) → referenceFrom e (sourceOf (case .site) (chemicalAt case i)) p ≡ referenceOf (printed case i j (referenceSlot e p))
-unfolding referenceFrom inhaledOr sourceOf sourceWith printed referenceSlot chemicalIndex
-reference-from case i j Hazard Air = refl
-reference-from case i j Hazard SoilSummer = refl
-reference-from case i j Hazard SoilWinter = refl
-reference-from case i j Hazard Skin = refl
-reference-from case i j Hazard AboveGround = refl
-reference-from case i j Hazard BelowGround = refl
-reference-from case i j Cancer Air = refl
-reference-from case i j Cancer SoilSummer = refl
-reference-from case i j Cancer SoilWinter = refl
-reference-from case i j Cancer Skin = refl
-reference-from case i j Cancer AboveGround = refl
-reference-from case i j Cancer BelowGround = refl
-
-isGiven : Reference → Bool
-isGiven References.Absent = false
-isGiven (References.Is p) = true
-
-given-if-printed : (v : Value) → isGiven (referenceOf v) ≡ isPrinted v
-unfolding isGiven referenceOf isPrinted
-given-if-printed Absent = refl
-given-if-printed (Printed digits power) = refl
-
-has-reference : (case : Case) (i j : ℕ) (e : Effect) (p : Pathway) → isPrinted (printed case i j (referenceSlot e p)) ≡ hasReference e case i p
+has-reference : (case : Case) (j i : ℕ) (e : Effect) (p : Pathway) → isPrinted (printed case j i (referenceSlot e p)) ≡ hasReference e case i p
 unfolding hasReference
-has-reference case i j e p =
-    sym (given-if-printed (printed case i j (referenceSlot e p)))
-    ∙ ap isGiven (sym (reference-from case i j e p) ∙ reference-from case i 0 e p)
-    ∙ given-if-printed (printed case i 0 (referenceSlot e p))
+has-reference case j i e p = ap isPrinted (reference-printed case j i e p ∙ sym (reference-printed case 0 i e p))
 
-figures-by : (e : Effect) (r : Receptor) (s : Source) (p : Pathway) → figureFor e (figuresFrom r s p) ≡ figureOf e (intakeOf e p r (s .uptake) (mediumFrom p (s .media))) (referenceFrom e s p)
-unfolding figureFor figuresFrom lineOf figureOf referenceFrom
-figures-by Hazard r s p = refl
-figures-by Cancer r s p = refl
+-- a line's figure from its dose and what is printed for its reference value
+figure-for : (e : Effect) (p : Pathway) (s c r : Values) (m : Media) (chemical : Record) →
+    figureFor e (figuresOf p s c r m (referencesOf chemical)) ≡ figureOf e (doseOf (factorOf e p s c r) (concentrationFor p m)) (optional (referenceAt e p chemical))
+unfolding figureFor figuresOf quotientOf riskOf referencesOf referenceAt
+figure-for Hazard p s c r m chemical =
+    ap (figureOf Hazard (doseOf (factorOf Hazard p s c r) (concentrationFor p m)))
+    (ap (λ x. rfdValue (rfdGiven x)) (sym (routed rfdOf p (valueAt chemical (placeOf "RfDi")) (valueAt chemical (placeOf "RfDo")))) ∙ rfd-optional (referenceAt Hazard p chemical))
+figure-for Cancer p s c r m chemical =
+    ap (figureOf Cancer (doseOf (factorOf Cancer p s c r) (concentrationFor p m)))
+    (ap (λ x. csfValue (csfGiven x)) (sym (routed csfOf p (valueAt chemical (placeOf "CSFi")) (valueAt chemical (placeOf "CSFo")))) ∙ csf-optional (referenceAt Cancer p chemical))
 
--- a figure's two columns and its cap
-columns-by : (e : Effect) (t : Bool) (o : Outcome Pair) → columnsOf e (cond t (present o) (is References.Absent)) ≡ cond t (countedIn (unitOf e) o) Columns.Absent
-unfolding columnsOf present countedIn
-columns-by e true (is p) = refl
-columns-by e true (refused n) = refl
-columns-by e false o = refl
+-- its columns and its cap
+columns-some : (e : Effect) (o : Outcome Pair) → columnsOf e (mapped (λ (q : Pair). some q) o) ≡ countedIn (unitOf e) o
+unfolding columnsOf mapped countedIn
+columns-some e (is p) = refl
+columns-some e (refused n) = refl
 
-cap-by : (e : Effect) (t : Bool) (o : Outcome Pair) → aboveCap e (cond t (present o) (is References.Absent)) ≡ (t && highAbove (capOf e) o)
-unfolding aboveCap present highAbove
-cap-by e true (is p) = refl
-cap-by e true (refused n) = refl
-cap-by e false o = refl
+columns-none : (e : Effect) (o : Outcome Pair) → columnsOf e (mapped (λ (q : Pair). none) o) ≡ Cols.Absent
+unfolding columnsOf mapped
+columns-none e (is p) = refl
+columns-none e (refused n) = refl
 
-module _ (case : Case) (ranged : Ranged case) (i j : ℕ) (i-small : i < case .chemicals .count) (j-small : j < case .receptors .count) (at-most-64 : highAbove sixtyFour (exponentAt case i) ≡ false) where
-  intake-agrees : (e : Effect) (p : Pathway) →
-      intakeOf e p (receptorFrom (receptorAt case j)) (uptakeFrom (case .site) (chemicalAt case i)) (mediumFrom p (mediaFrom (mediaFor (case .site) (chemicalAt case i))))
-      ≡ worked (pairsAt case i j) (page.intake e p)
-  unfolding intakeOf page.intake worked read pairs
-  intake-agrees e p =
-      let env = pairsAt case i j in
-      let m = mediumFrom p (mediaFrom (mediaFor (case .site) (chemicalAt case i))) in
-      ap (λ (o : Outcome Pair). after product o (is m)) (factor-agrees case i j e p (pairSeries (plain pairs (λ s. is (env s)) page.x)))
-      ∙ ap (λ (o : Outcome Pair). after product (worked env (page.factor e p)) o) (sym (media-agree case ranged i j i-small j-small at-most-64 p))
+cap-some : (e : Effect) (o : Outcome Pair) → aboveCap e (mapped (λ (q : Pair). some q) o) ≡ highAbove (capOf e) o
+unfolding aboveCap mapped highAbove
+cap-some e (is p) = refl
+cap-some e (refused n) = refl
 
-  -- each figure, for both effects and every pathway
-  pub figures-agree : (e : Effect) (p : Pathway) →
-      figureFor e (figuresFrom (receptorFrom (receptorAt case j)) (sourceOf (case .site) (chemicalAt case i)) p)
-      ≡ cond (hasReference e case i p) (present (figureAt e case j i p)) (is References.Absent)
-  unfolding figureAt sourceOf sourceWith
-  figures-agree e p =
-      let env = pairsAt case i j in
-      let v = printed case i j (referenceSlot e p) in
-      figures-by e (receptorFrom (receptorAt case j)) (sourceOf (case .site) (chemicalAt case i)) p
-      ∙ ap (λ (o : Outcome Pair). figureOf e o (referenceFrom e (sourceOf (case .site) (chemicalAt case i)) p)) (intake-agrees e p)
-      ∙ ap (figureOf e (worked env (page.intake e p))) (reference-from case i j e p)
-      ∙ figure-by e (worked env (page.intake e p)) v
-      ∙ ap (λ (t : Bool). cond t (present (onReference e (worked env (page.intake e p)) (is (pairOf v)))) (is References.Absent)) (has-reference case i j e p)
-      ∙ ap (λ (o : Outcome Pair). cond (hasReference e case i p) (present o) (is References.Absent))
-      (sym (line-by e p env ∙ ap (onReference e (worked env (page.intake e p))) (reference-read case i j e p)))
+cap-none : (e : Effect) (o : Outcome Pair) → aboveCap e (mapped (λ (q : Pair). none) o) ≡ false
+unfolding aboveCap mapped
+cap-none e (is p) = refl
+cap-none e (refused n) = refl
 
-  columns-agree : (e : Effect) (p : Pathway) → columnsOf e (figureFor e (figuresFrom (receptorFrom (receptorAt case j)) (sourceOf (case .site) (chemicalAt case i)) p)) ≡ columnsAt e case j i p
-  unfolding columnsAt
-  columns-agree e p = ap (columnsOf e) (figures-agree e p) ∙ columns-by e (hasReference e case i p) (figureAt e case j i p)
+figure-columns : (e : Effect) (d : Outcome Dose) (v : Value) →
+    (columnsOf e (figureOf e d (optional v)) ≡ cond (isPrinted v) (countedIn (unitOf e) (figureBy (after product) (after quotient) e (mapped (λ (g : Dose). g .0) d) (is (pairOf v)))) Cols.Absent)
+    × (aboveCap e (figureOf e d (optional v)) ≡ (isPrinted v && highAbove (capOf e) (figureBy (after product) (after quotient) e (mapped (λ (g : Dose). g .0) d) (is (pairOf v)))))
+unfolding figureOf optional isPrinted
+figure-columns e d Absent =
+    let o : Outcome Pair = afterOne checked (mapped (λ (g : Dose). g .0) d) in
+    (columns-none e o, cap-none e o)
+figure-columns e d (Printed digits power) =
+    let o : Outcome Pair = figureBy (after product) (after quotient) e (mapped (λ (g : Dose). g .0) d) (is (pairOf (Printed digits power))) in
+    (columns-some e o, cap-some e o)
 
-  cap-agrees : (e : Effect) (p : Pathway) → aboveCap e (figureFor e (figuresFrom (receptorFrom (receptorAt case j)) (sourceOf (case .site) (chemicalAt case i)) p)) ≡ overCap e case j i p
-  unfolding overCap
-  cap-agrees e p = ap (aboveCap e) (figures-agree e p) ∙ cap-by e (hasReference e case i p) (figureAt e case j i p)
+-- ---- a line of a case whose chemical has media
+module _ (case : Case) (j i : ℕ) (p : Pathway) (told : isRefused (mediaFor case i) ≡ false) (e : Effect) where
+  S : Values
+  S = valuesOf (case .site)
 
-  -- line p, counted from 1
-  pub row-agrees : (p : ℕ) → rowFrom (receptorAt case j .id) (receptorFrom (receptorAt case j)) (sourceOf (case .site) (chemicalAt case i)) p ≡ rowAt case j i p
-  unfolding rowFrom rowAt figureFor sourceOf sourceWith
-  row-agrees p =
-      let h = columns-agree Hazard (pathwayAt p) in
-      let c = columns-agree Cancer (pathwayAt p) in
-      λ k. record { receptor = receptorAt case j .id; chemical = chemicalAt case i .id; pathway = p; hazard = h k; cancer = c k }
+  C : Values
+  C = valuesOf (chemicalAt case i)
 
-  pub large-agrees : (p : ℕ) → largeFrom (receptorFrom (receptorAt case j)) (sourceOf (case .site) (chemicalAt case i)) p ≡ (overCap Hazard case j i (pathwayAt p) || overCap Cancer case j i (pathwayAt p))
-  unfolding largeFrom isLarge figureFor
-  large-agrees p = ap₂ _||_ (cap-agrees Hazard (pathwayAt p)) (cap-agrees Cancer (pathwayAt p))
+  R : Values
+  R = valuesOf (receptorAt case j)
 
--- ---- the chemicals
-pub source-at : (case : Case) (i : ℕ) → i < case .chemicals .count → sourceAt (sourcesOf (case .site) (case .chemicals)) i ≡ sourceOf (case .site) (chemicalAt case i)
-unfolding sourceAt sourcesOf chemicalAt
-source-at case i h = filled-at (λ k. sourceOf (case .site) (chemicalAt case k)) noSource (case .chemicals .count) (replicate (maxChemicals - case .chemicals .count) noSource) i h
+  media : Media
+  media = mediaFrom (mediaFor case i)
 
--- ---- an accepted deck
-pub some-receptor : (deck : List ℕ) → first (conditions deck) ≡ Read → 0 < caseOf deck .receptors .count
-unfolding caseOf caseWith
-some-receptor deck e = counts deck e .1 .0
+  value : Value
+  value = printed case j i (referenceSlot e p)
 
-pub counts-small : (deck : List ℕ) → first (conditions deck) ≡ Read → (caseOf deck .chemicals .count ≤ 16) × (caseOf deck .receptors .count ≤ 4)
-unfolding caseOf caseWith
-counts-small deck e = (counts deck e .0 .1, counts deck e .1 .1)
+  dose : Outcome Dose
+  dose = doseOf (factorOf e p S C R) (concentrationFor p media)
+
+  figured : figureFor e (figuresFrom S R (sourceOf S (chemicalAt case i)) p) ≡ figureOf e dose (optional value)
+  unfolding figuresFrom sourceOf sourceWith mediaWith mediaFor S C R media value dose
+  figured = figure-for e p S C R media (chemicalAt case i) ∙ ap (λ (v : Value). figureOf e dose (optional v)) (sym (reference-printed case j i e p))
+
+  intake-is : mapped (λ (g : Dose). g .0) dose ≡ worked (pairsAt case j i) (page.intake e p)
+  unfolding mediaFor S C R media dose pairsAt env
+  intake-is = dose-is S C R e p (concentrationFor p media) (sym (medium-read p S C R) ∙ medium-told S C told p)
+
+  figure-is : figureBy (after product) (after quotient) e (mapped (λ (g : Dose). g .0) dose) (is (pairOf value)) ≡ figureAt e case j i p
+  unfolding figureAt value
+  figure-is =
+      ap (λ (o : Outcome Pair). figureBy (after product) (after quotient) e o (is (pairOf value))) intake-is
+      ∙ ap (λ (q : Pair). figureBy (after product) (after quotient) e (worked (pairsAt case j i) (page.intake e p)) (is q)) (sym (pair-printed case j i (referenceSlot e p)))
+      ∙ sym (line-by e p (pairsAt case j i))
+
+  columns-agree : columnsOf e (figureFor e (figuresFrom S R (sourceOf S (chemicalAt case i)) p)) ≡ columnsAt e case j i p
+  unfolding columnsAt value
+  columns-agree =
+      ap (columnsOf e) figured
+      ∙ figure-columns e dose value .0
+      ∙ ap (λ (o : Outcome Pair). cond (isPrinted value) (countedIn (unitOf e) o) Cols.Absent) figure-is
+      ∙ ap (λ (t : Bool). cond t (countedIn (unitOf e) (figureAt e case j i p)) Cols.Absent) (has-reference case j i e p)
+
+  cap-agrees : aboveCap e (figureFor e (figuresFrom S R (sourceOf S (chemicalAt case i)) p)) ≡ overCap e case j i p
+  unfolding overCap value
+  cap-agrees =
+      ap (aboveCap e) figured
+      ∙ figure-columns e dose value .1
+      ∙ ap (λ (o : Outcome Pair). isPrinted value && highAbove (capOf e) o) figure-is
+      ∙ ap (λ (t : Bool). t && highAbove (capOf e) (figureAt e case j i p)) (has-reference case j i e p)
+
+pub line-figures : (case : Case) (j i : ℕ) (p : Pathway) → i < case .chemicals .count → isRefused (mediaFor case i) ≡ false → (e : Effect) →
+    (columnsOf e (figureFor e (figuresFrom (valuesOf (case .site)) (valuesOf (receptorAt case j)) (sourceOf (valuesOf (case .site)) (chemicalAt case i)) p)) ≡ columnsAt e case j i p)
+    × (aboveCap e (figureFor e (figuresFrom (valuesOf (case .site)) (valuesOf (receptorAt case j)) (sourceOf (valuesOf (case .site)) (chemicalAt case i)) p)) ≡ overCap e case j i p)
+unfolding S R
+line-figures case j i p h told e = (columns-agree case j i p told e, cap-agrees case j i p told e)

@@ -5,10 +5,11 @@ use native.Mathlib.Nat.{mul-le-mul-right, mul-pos}
 use native.Mathlib.Omega.{arith}
 use lib.Dec.{lit<}
 use Rattle.pair.specs.Fraction.{Fraction, plus}
-use Rattle.sheet.specs.declared.Units.{Units}
-use Rattle.sheet.specs.declared.Units.the-variants as Columns
-use Rattle.sheet.specs.Sheet.{_added_, addedPathways, addedChemicals, pathwaysPerChemical}
-use Rattle.sheet.specs.DemandThree.{Enclosed, Holds, nothing, sumPathways, sumChemicals, countPathways, countChemicals}
+use Rattle.totals.specs.declared.Columns.{Columns}
+use Rattle.totals.specs.declared.Columns.the-variants as Cols
+use Rattle.totals.specs.Totals.{_added_}
+use Rattle.sheet.specs.Sheet.{addedOver}
+use Rattle.sheet.specs.DemandThree.{nothing, sumOver, countOver, Enclosed, TotalHolds}
 
 -- no line, and so 0
 pub record None (n : ℕ) (x : Fraction) : Type 0 where
@@ -17,14 +18,14 @@ pub record None (n : ℕ) (x : Fraction) : Type 0 where
   pub proper : 0 < x .den
 
 -- a total of n lines, whose exact sum is x
-unfoldable pub Totals : Units → ℕ → Fraction → Type 0
-Totals Columns.Absent n x = None n x
-Totals (Columns.Counted low high) n x = Enclosed low high n x
+unfoldable pub Totals : Columns → ℕ → Fraction → Type 0
+Totals Cols.Absent n x = None n x
+Totals (Cols.Counted low high) n x = Enclosed low high n x
 
-pub totals-hold : (u : Units) (n : ℕ) (x : Fraction) → Totals u n x → Holds u n x
-unfolding Totals Holds
-totals-hold Columns.Absent n x h = h .none
-totals-hold (Columns.Counted low high) n x h = h
+pub totals-hold : (u : Columns) (n : ℕ) (x : Fraction) → Totals u n x → TotalHolds u n x
+unfolding Totals TotalHolds
+totals-hold Cols.Absent n x h = h .none
+totals-hold (Cols.Counted low high) n x h = h
 
 -- sums by multiplying across
 sum-least : (l k a b c d : ℕ) → l * b ≤ a → k * d ≤ c → (l + k) * (b * d) ≤ a * d + c * b
@@ -34,11 +35,11 @@ sum-most : (l k a b c d : ℕ) → a ≤ l * b → c ≤ k * d → a * d + c * b
 sum-most l k a b c d p q = omega (arith, mul-le-mul-right d p, mul-le-mul-right b q)
 
 -- two totals added
-pub totals-added : (u v : Units) (m n : ℕ) (x y : Fraction) → Totals u m x → Totals v n y → Totals (u added v) (m + n) (plus x y)
+pub totals-added : (u v : Columns) (m n : ℕ) (x y : Fraction) → Totals u m x → Totals v n y → Totals (u added v) (m + n) (plus x y)
 unfolding Totals _added_ plus
-totals-added Columns.Absent Columns.Absent m n x y h k =
+totals-added Cols.Absent Cols.Absent m n x y h k =
     record { none = omega arith; zero = rw (h .zero, k .zero) (omega arith); proper = mul-pos (h .proper) (k .proper) }
-totals-added Columns.Absent (Columns.Counted l g) m n x y h k =
+totals-added Cols.Absent (Cols.Counted l g) m n x y h k =
     record {
       some = omega arith;
       proper = mul-pos (h .proper) (k .proper);
@@ -46,7 +47,7 @@ totals-added Columns.Absent (Columns.Counted l g) m n x y h k =
       most = omega (arith, sum-most 0 g (x .num) (x .den) (y .num) (y .den) (omega (arith, h .zero)) (k .most));
       close = omega (arith, h .none, k .close);
     }
-totals-added (Columns.Counted l g) Columns.Absent m n x y h k =
+totals-added (Cols.Counted l g) Cols.Absent m n x y h k =
     record {
       some = omega arith;
       proper = mul-pos (h .proper) (k .proper);
@@ -54,7 +55,7 @@ totals-added (Columns.Counted l g) Columns.Absent m n x y h k =
       most = omega (arith, sum-most g 0 (x .num) (x .den) (y .num) (y .den) (h .most) (omega (arith, k .zero)));
       close = omega (arith, k .none, h .close);
     }
-totals-added (Columns.Counted l g) (Columns.Counted l' g') m n x y h k =
+totals-added (Cols.Counted l g) (Cols.Counted l' g') m n x y h k =
     record {
       some = omega arith;
       proper = mul-pos (h .proper) (k .proper);
@@ -63,25 +64,13 @@ totals-added (Columns.Counted l g) (Columns.Counted l' g') m n x y h k =
       close = omega (arith, h .close, k .close);
     }
 
-pub totals-none : Totals Columns.Absent 0 nothing
+pub totals-none : Totals Cols.Absent 0 nothing
 unfolding Totals nothing
 totals-none = record { none = refl; zero = refl; proper = lit< tt }
 
--- the pathways of one chemical, then the chemicals
-pub totals-pathways : (f : ℕ → Units) (c : ℕ → ℕ) (x : ℕ → Fraction) (n : ℕ) → ((p : ℕ) → p < n → Totals (f (suc p)) (c (suc p)) (x (suc p))) →
-    Totals (addedPathways f n) (countPathways c n) (sumPathways x n)
-unfolding addedPathways countPathways sumPathways
-totals-pathways f c x zero h = totals-none
-totals-pathways f c x (suc n) h =
-    totals-added (addedPathways f n) (f (suc n)) (countPathways c n) (c (suc n)) (sumPathways x n) (x (suc n))
-    (totals-pathways f c x n (λ p l. h p (omega arith))) (h n (omega arith))
-
-pub totals-chemicals : (f : ℕ → ℕ → Units) (c : ℕ → ℕ → ℕ) (x : ℕ → ℕ → Fraction) (n : ℕ) →
-    ((i : ℕ) → i < n → (p : ℕ) → p < pathwaysPerChemical → Totals (f i (suc p)) (c i (suc p)) (x i (suc p))) →
-    Totals (addedChemicals f n) (countChemicals c n) (sumChemicals x n)
-unfolding addedChemicals countChemicals sumChemicals
-totals-chemicals f c x zero h = totals-none
-totals-chemicals f c x (suc n) h =
-    totals-added (addedChemicals f n) (addedPathways (f n) pathwaysPerChemical) (countChemicals c n) (countPathways (c n) pathwaysPerChemical)
-    (sumChemicals x n) (sumPathways (x n) pathwaysPerChemical)
-    (totals-chemicals f c x n (λ i l. h i (omega arith))) (totals-pathways (f n) (c n) (x n) pathwaysPerChemical (h n (omega arith)))
+-- f 0 added f 1 .. added f (n − 1)
+pub totals-over : (f : ℕ → Columns) (c : ℕ → ℕ) (x : ℕ → Fraction) (n : ℕ) → ((k : ℕ) → k < n → Totals (f k) (c k) (x k)) → Totals (addedOver f n) (countOver c n) (sumOver x n)
+unfolding addedOver countOver sumOver
+totals-over f c x zero h = totals-none
+totals-over f c x (suc n) h =
+    totals-added (addedOver f n) (f n) (countOver c n) (c n) (sumOver x n) (x n) (totals-over f c x n (λ k l. h k (omega arith))) (h n (omega arith))

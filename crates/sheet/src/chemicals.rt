@@ -3,65 +3,55 @@ use deck::Chemicals;
 use deck::MAX_CHEMICALS;
 use deck::Record;
 use deck::Status;
-use media::Conc;
+use equations::Values;
 use media::Found;
 use media::Media;
 use media::concentrations;
 use pair::Pair;
-use pathway::Reference;
-use pathway::Uptake;
+use pathway::GivenCsf;
+use pathway::GivenRfd;
+use pathway::References;
+use slots::SLOTS;
 ghost use mathlib.Core.Path.{_≡_};
 ghost use Prim.Native.Nat.{_≤_};
 ghost use Rattle.deck.specs.declared.Status.the-variants as Statuses;
-ghost use Rattle.deck.specs.Conditions.{first, upTo};
-ghost use Rattle.sheet.specs.Worked.{noSource, sourceWith, sourcesOf, fastSource};
+ghost use Rattle.deck.specs.Conditions.{first};
+ghost use Rattle.sheet.specs.Values.{valuesOf};
+ghost use Rattle.sheet.specs.Sheet.{chained};
+ghost use Rattle.sheet.specs.Inner.{noSource, sourceWith, sourcesOf, refusedSource};
 use crate::Prepared;
 use crate::Source;
 use crate::Sources;
-use crate::values::chemical_of;
-use crate::values::reference;
-use crate::values::site_of;
-use crate::values::uptake_of;
+use crate::values::references_of;
+use crate::values::values_of;
 
 const TOO_FAST: u32 = 41;
 
 fn no_source() -> Source
     ensures { λ r. ⌜ r ≡ noSource ⌝ }
 {
-    let media = Media {
-        air: Conc(Pair::ZERO),
-        soil: Conc(Pair::ZERO),
-        above_ground: Conc(Pair::ZERO),
-        below_ground: Conc(Pair::ZERO),
-    };
-    let uptake = Uptake {
-        af_inh: Pair::ZERO,
-        af_oral: Pair::ZERO,
-        af_derm: Pair::ZERO,
-        fr_snow: Pair::ZERO,
+    let list = [Pair::ONE; SLOTS];
+    let references = References {
+        rfd_o: GivenRfd::Absent,
+        rfd_i: GivenRfd::Absent,
+        csf_o: GivenCsf::Absent,
+        csf_i: GivenCsf::Absent,
     };
     Source {
-        id: 0,
-        uptake,
-        media,
-        rfd_o: Reference::Absent,
-        rfd_i: Reference::Absent,
-        csf_o: Reference::Absent,
-        csf_i: Reference::Absent,
+        values: Values { list },
+        media: Media::none(),
+        references,
     }
 }
 
-fn source_with(site: Record, chemical: Record, media: Media) -> Source
-    ensures { λ r. ⌜ r ≡ sourceWith site chemical media ⌝ }
+fn source_with(chemical: Record, values: Values, media: Media) -> Source
+    requires { ⌜ values ≡ valuesOf chemical ⌝ }
+    ensures { λ r. ⌜ r ≡ sourceWith chemical media ⌝ }
 {
     Source {
-        id: chemical.id,
-        uptake: uptake_of(site, chemical),
+        values,
         media,
-        rfd_o: reference(chemical, 18),
-        rfd_i: reference(chemical, 19),
-        csf_o: reference(chemical, 20),
-        csf_i: reference(chemical, 21),
+        references: references_of(chemical),
     }
 }
 
@@ -76,13 +66,12 @@ fn stopped_at(i: usize) -> Prepared
     }
 }
 
-// The source of each chemical, or the first whose x is above 64.
-pub(crate) fn sources_of(site: Record, chemicals: Chemicals) -> Prepared
+// The source of each chemical, or the first whose media are refused: its x is above 64.
+pub(crate) fn sources_of(site: Values, chemicals: Chemicals) -> Prepared
     requires { ⌜ chemicals .count ≤ 16 ⌝ }
-    ensures { λ r. ⌜ r .status ≡ first (upTo (fastSource site (chemicals .records)) (chemicals .count)) ⌝ }
+    ensures { λ r. ⌜ r .status ≡ first (chained (refusedSource site (chemicals .records)) (chemicals .count)) ⌝ }
     ensures { λ r. ⌜ (r .status ≡ Statuses.Read → r .sources ≡ sourcesOf site chemicals) ⌝ }
 {
-    let place = site_of(site);
     let count = chemicals.count;
     let records = chemicals.records;
     let mut list = [no_source(); MAX_CHEMICALS];
@@ -90,8 +79,9 @@ pub(crate) fn sources_of(site: Record, chemicals: Chemicals) -> Prepared
     while i < count {
         let next = i + 1;
         let chemical = records[i];
-        match concentrations(place, chemical_of(chemical)) {
-            Found::Is(media) => list[i] = source_with(site, chemical, media),
+        let values = values_of(chemical);
+        match concentrations(site, values) {
+            Found::Is(media) => list[i] = source_with(chemical, values, media),
             Found::TooFast => return stopped_at(next),
             Found::Refused => return stopped_at(next),
         }

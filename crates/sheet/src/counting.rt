@@ -5,12 +5,12 @@ use pair::Number;
 use pair::Order;
 use pair::Pair;
 use pathway::Figure;
+use totals::Columns;
 ghost use mathlib.Core.Path.{_≡_};
 ghost use Rattle.pair.specs.Calls.{is};
 ghost use Rattle.pathway.specs.Lines as lines;
 ghost use Rattle.sheet.specs.Sheet.{unitOf, capOf, countedIn, highAbove};
-ghost use Rattle.sheet.specs.Worked.{columnsOf, aboveCap};
-use crate::Units;
+ghost use Rattle.sheet.specs.Inner.{columnsOf, aboveCap};
 
 // A quotient's high end is at most 10,000, a risk's at most 1.
 const HAZARD_CAP: Number = Number {
@@ -56,26 +56,26 @@ fn is_above(p: Pair, bound: Number) -> bool
     }
 }
 
-fn counted(p: Pair, unit: i32) -> Units
+fn counted(p: Pair, unit: i32) -> Columns
     ensures { λ r. ⌜ r ≡ countedIn unit (is p) ⌝ }
 {
     match p.in_units(unit) {
-        Count::Is(n) => Units::Counted {
+        Count::Is(n) => Columns::Counted {
             low: n.low,
             high: n.high,
         },
-        Count::Refused => Units::Absent,
+        Count::Refused => Columns::Absent,
     }
 }
 
 // The two columns of a figure.
-pub(crate) fn columns_of(figure: Figure, effect: Effect) -> Units
+pub(crate) fn columns_of(figure: Figure, effect: Effect) -> Columns
     ensures { λ r. ⌜ r ≡ columnsOf effect (lines.figure figure) ⌝ }
 {
     match figure {
         Figure::Is(p) => counted(p, unit_of(effect)),
-        Figure::Absent => Units::Absent,
-        Figure::Refused => Units::Absent,
+        Figure::Absent => Columns::Absent,
+        Figure::Refused => Columns::Absent,
     }
 }
 

@@ -1,85 +1,52 @@
-//! The report (document 01, "Report"): from a deck to its lines and totals, written into a lent buffer, and the totals call.
+//! The sheet of a case (document 01, "Units and totals"): each line's quotient and risk counted in units, 41 and 42, and a receptor's totals.
 mod chemicals;
 mod counting;
-mod lines;
+mod reading;
 mod receptors;
-mod rows;
-pub mod totals;
 mod values;
 
 use crate::chemicals::sources_of;
-use crate::lines::LINE_WIDTH;
+use crate::reading::columns_found;
+use crate::reading::total_found;
 use crate::receptors::put_receptors;
-use crate::rows::write_rows;
+use crate::values::values_of;
 use deck::Case;
+use deck::MAX_CHEMICALS;
+use deck::MAX_RECEPTORS;
 use deck::Status;
-use deck::Told;
+use equations::Effect;
+use equations::Values;
 use media::Media;
-use pathway::Reference;
-use pathway::Uptake;
+use pathway::References;
+use totals::Columns;
 ghost use mathlib.Core.Path.{_≡_};
-ghost use Prim.Native.Nat.{_*_, _≤_};
-ghost use lib.ListN.{length};
-ghost use Rattle.deck.specs.declared.Status.the-variants as Statuses;
-ghost use Rattle.deck.specs.Conditions.{first};
-ghost use Rattle.sheet.specs.Worked.{allCells, sourcesOf, perReceptor, HoldsAll, workedConditions};
-ghost use Rattle.sheet.specs.Report.{outcomeOf, bufferOf};
-
-// Two columns of a report line: - in both, or two counts.
-pub enum Units {
-    Absent,
-    Counted { low: u64, high: u64 },
-}
-
-// A report line. A total line has chemical 0 and pathway 0.
-pub struct Row {
-    pub receptor: u32,
-    pub chemical: u32,
-    pub pathway: u32,
-    pub hazard: Units,
-    pub cancer: Units,
-}
+ghost use Rattle.sheet.specs.Counts.{noCells, countsOf, sideOf, columnsIn, totalIn};
 
 // Pathways of a chemical.
 pub const PATHWAYS: usize = 6;
 
-// The longest report: 388 lines.
-pub const MAX_REPORT: usize = LINE_WIDTH
-    * deck::MAX_RECEPTORS
-    * (deck::MAX_CHEMICALS * PATHWAYS + 1);
-
 // A receptor's lines but its total line, at most: 96.
-pub const MOST_LINES: usize = deck::MAX_CHEMICALS * PATHWAYS;
+pub const MOST_LINES: usize = MAX_CHEMICALS * PATHWAYS;
 
-// The counts of a report's lines stand in cells. An effect has three columns of 96 cells: 1 for each line that has counts, the low and the
-// high counts; all three are 0 where the line has -. A receptor has a cell in each of hazard's and cancer's columns for each of its lines.
+// The counts of a case's lines stand in cells. An effect has three columns of 96 cells: 1 for each line that has counts, the low and the
+// high counts; all three are 0 where the line has -, and where there is none. A receptor has hazard's columns, then cancer's.
 pub const EFFECT_CELLS: usize = 3 * MOST_LINES;
 
 pub const RECEPTOR_CELLS: usize = 2 * EFFECT_CELLS;
 
-pub const CELLS: usize = deck::MAX_RECEPTORS * RECEPTOR_CELLS;
+pub const CELLS: usize = MAX_RECEPTORS * RECEPTOR_CELLS;
 
-// What the totals call answers. Refused is document 01's 52.
-pub enum Total {
-    Is(u64),
-    Refused,
-}
-
-// What a chemical's lines take, for every receptor: its uptake factors, what it leaves in the media and its reference values.
+// What a chemical's lines take, for every receptor: its values, what it leaves in the media and its reference values.
 pub struct Source {
-    pub id: u32,
-    pub uptake: Uptake,
+    pub values: Values,
     pub media: Media,
-    pub rfd_o: Reference,
-    pub rfd_i: Reference,
-    pub csf_o: Reference,
-    pub csf_i: Reference,
+    pub references: References,
 }
 
 // The first count sources of the list, in deck order.
 pub struct Sources {
     pub count: usize,
-    pub list: [Source; deck::MAX_CHEMICALS],
+    pub list: [Source; MAX_CHEMICALS],
 }
 
 // The sources, or where a chemical stopped.
@@ -88,62 +55,86 @@ pub struct Prepared {
     pub sources: Sources,
 }
 
-const TOO_SHORT: u32 = 51;
-
-// How many lines a report has for so many chemicals and receptors.
-fn lines_of(chemicals: usize, receptors: usize) -> usize
-    requires { ⌜ (chemicals ≤ 16) × (receptors ≤ 4) ⌝ }
-    ensures { λ r. ⌜ r ≡ receptors * perReceptor chemicals ⌝ }
-{
-    receptors * (chemicals * PATHWAYS + 1)
+// Every line's counts; or the first condition that holds, and no counts.
+pub struct Counts {
+    pub status: Status,
+    pub cells: [u64; CELLS],
 }
 
-// The counts of a case's report into the cells, for a buffer of so many bytes, or where it stops.
-fn worked(cells: &mut [u64], case: Case, room: usize) -> Status
-    requires { ⌜ (length (now cells) ≡ allCells) × (case .chemicals .count ≤ 16) × (case .receptors .count ≤ 4) ⌝ }
-    ensures { λ r. ⌜ r ≡ first (workedConditions case room) ⌝ }
-    ensures { λ r. ⌜ (r ≡ Statuses.Read → HoldsAll (sourcesOf (case .site) (case .chemicals)) (case .receptors .records) (case .receptors .count) (now (cells .exit))) ⌝ }
+const TOO_MANY: u32 = 21;
+
+fn stopped(status: Status) -> Counts
+    ensures { λ r. ⌜ (r .status ≡ status) × (r .cells ≡ noCells) ⌝ }
+{
+    let cells = [0u64; CELLS];
+    Counts { status, cells }
+}
+
+// The counts of a case's lines, or where it stops: more records than a deck holds, a chemical whose x is above 64, a line above its cap.
+pub fn counts_of(case: Case) -> Counts
+    ensures { λ r. ⌜ r ≡ countsOf case ⌝ }
 {
     let chemicals = case.chemicals;
     let receptors = case.receptors;
-    if room < LINE_WIDTH * lines_of(chemicals.count, receptors.count) {
-        return Status::Stopped(TOO_SHORT, 0, 0);
+    if MAX_CHEMICALS < chemicals.count {
+        return stopped(Status::Stopped(TOO_MANY, 0, 0));
     }
-    let site = case.site;
+    if MAX_RECEPTORS < receptors.count {
+        return stopped(Status::Stopped(TOO_MANY, 0, 0));
+    }
+    let site = values_of(case.site);
     let prepared = sources_of(site, chemicals);
-    let status = prepared.status;
-    match status {
-        Status::Read => {
-            let sources = prepared.sources;
-            put_receptors(cells, receptors, sources)
-        }
-        Status::Stopped(_, _, _) => status,
+    let ready = prepared.status;
+    let Status::Read = ready else {
+        return stopped(ready);
+    };
+    let mut cells = [0u64; CELLS];
+    let status = put_receptors(&mut cells, site, receptors, prepared.sources);
+    let Status::Read = status else {
+        return stopped(status);
+    };
+    Counts { status, cells }
+}
+
+fn side_of(effect: Effect) -> usize
+    ensures { λ r. ⌜ r ≡ sideOf effect ⌝ }
+{
+    match effect {
+        Effect::Hazard => 0,
+        Effect::Cancer => 1,
     }
 }
 
-// The report of a deck into the buffer: 0, the report's length, 0; or the number, line and field of the first condition that stops it, and
-// the buffer as it was.
-pub fn report(deck: &[u8], out: &mut [u8]) -> Told
-    ensures { λ r. ⌜ r ≡ outcomeOf (now (deck .entry)) (length (now (out .entry))) ⌝ }
-    ensures { λ _. ⌜ now (out .exit) ≡ bufferOf (now (deck .entry)) (now (out .entry)) ⌝ }
+// The columns of a receptor's line, both counted from 0; - where the cells have none.
+pub fn columns(cells: &[u64], receptor: usize, effect: Effect, line: usize) -> Columns
+    ensures { λ r. ⌜ r ≡ columnsIn (now (cells .entry)) receptor effect line ⌝ }
 {
-    let reading = deck::read(deck);
-    let status = reading.status;
-    let Status::Read = status else {
-        return deck::tell(status);
-    };
-    let case = reading.case;
-    let mut cells = [0u64; CELLS];
-    let told = worked(&mut cells, case, out.len());
-    let Status::Read = told else {
-        return deck::tell(told);
-    };
-    let chemicals = case.chemicals;
-    let receptors = case.receptors;
-    write_rows(out, &cells, chemicals, receptors);
-    Told {
-        number: 0,
-        line: LINE_WIDTH * lines_of(chemicals.count, receptors.count),
-        field: 0,
+    if cells.len() != CELLS {
+        return Columns::Absent;
     }
+    if MAX_RECEPTORS <= receptor {
+        return Columns::Absent;
+    }
+    if MOST_LINES <= line {
+        return Columns::Absent;
+    }
+    let at = RECEPTOR_CELLS * receptor + EFFECT_CELLS * side_of(effect) + line;
+    columns_found(cells, at)
+}
+
+// The total of a receptor's first lines; - where none of them has counts.
+pub fn total(cells: &[u64], receptor: usize, effect: Effect, lines: usize) -> Columns
+    ensures { λ r. ⌜ r ≡ totalIn (now (cells .entry)) receptor effect lines ⌝ }
+{
+    if cells.len() != CELLS {
+        return Columns::Absent;
+    }
+    if MAX_RECEPTORS <= receptor {
+        return Columns::Absent;
+    }
+    if MOST_LINES < lines {
+        return Columns::Absent;
+    }
+    let at = RECEPTOR_CELLS * receptor + EFFECT_CELLS * side_of(effect);
+    total_found(cells, at, lines)
 }

@@ -1,14 +1,21 @@
--- Every value is zero and every reference value absent. Assumes nothing.
+-- Every value is 1, every medium 0 and every reference value absent. Assumes nothing.
 use mathlib.Core.Path.{refl}
-use Rattle.pair.specs.Number.{zero}
-use Rattle.pair.specs.Calls.{zeroPair}
-use Rattle.sheet.specs.Worked.{noMedia, noSource}
+use borrow.Author.Needs.{needs}
+use Rattle.pair.specs.Number.{one}
+use Rattle.pair.specs.Calls.{onePair}
+use Rattle.slots.specs.Slots.{table, same, isIn, placeIn, ownerOf, placeOf}
+use Rattle.deck.specs.Cases.{valueAt}
+use Rattle.sheet.specs.Values.{pairOf, valuesOf}
+use Rattle.sheet.specs.Inner.{rfdOf, csfOf, referencesOf, sourceWith, noSource}
 use Rattle.sheet.proofs.chemicals.no_source.Statement.{statement}
 use Rattle.sheet.proofs.chemicals.no_source.Tie as tie
 
+none-requires : tie.Need-none-requires
+none-requires c κs = search needs
+
 returns : tie.Need-returns
-unfolding zero zeroPair noMedia noSource
-returns c = refl
+unfolding one onePair table same isIn placeIn ownerOf placeOf valueAt pairOf valuesOf rfdOf csfOf referencesOf sourceWith noSource
+returns c = rw (c .none .ensures) refl
 
 pub no-source-spec : {M : Type 1} → statement M
-no-source-spec = tie.close (tie.spec returns)
+no-source-spec = tie.close (tie.spec none-requires returns)

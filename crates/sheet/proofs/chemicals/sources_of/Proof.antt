@@ -8,35 +8,34 @@ use native.Mathlib.Omega.{arith}
 use borrow.Author.Needs.{needs}
 use lib.ListN.{length, getD, replicate, length-map}
 use Rattle.deck.specs.declared.Status.the-variants.{Read}
-use Rattle.deck.specs.Conditions.{first, upTo}
+use Rattle.deck.specs.Conditions.{first}
 use Rattle.deck.specs.Cases.{tabulate, noRecord}
 use Rattle.deck.proofs.Scan.{never}
 use Rattle.deck.proofs.CaseLaws.{filled-start, filled-more}
 use Rattle.media.specs.Media.{found}
-use Rattle.sheet.specs.Worked.{notFound, noSource, sourceOf, sourcesOf, fastSource}
+use Rattle.sheet.specs.Sheet.{chained}
+use Rattle.sheet.specs.Counts.{isRefused}
+use Rattle.sheet.specs.Inner.{noSource, sourceOf, sourcesOf, refusedSource}
 use Rattle.sheet.proofs.ChemicalLaws.{source-is, goes-on, stops}
 use Rattle.sheet.proofs.chemicals.sources_of.Statement.{statement}
 use Rattle.sheet.proofs.chemicals.sources_of.Tie as tie
 
 abbrev Inv-loop : tie.InvT-loop
-Inv-loop site place count records list₀ i₀ list i =
+Inv-loop site count records list₀ i₀ list i =
     (i ≤ count)
     × (list ≡ tabulate i (λ k. sourceOf site (getD records k noRecord)) ++ replicate (16 - i) noSource)
-    × (first (upTo (fastSource site records) i) ≡ Read)
+    × (first (chained (refusedSource site records) i) ≡ Read)
 
 abbrev μ-loop : tie.MeasureT-loop
-μ-loop site place count records list₀ i₀ list i = count - i
-
-site-of-requires : tie.Need-site-of-requires Inv-loop μ-loop
-site-of-requires c κs = search needs
+μ-loop site count records list₀ i₀ list i = count - i
 
 no-source-requires : tie.Need-no-source-requires Inv-loop μ-loop
 no-source-requires c κs = search needs
 
 loop-holds : tie.Need-loop-holds Inv-loop μ-loop
-unfolding upTo first
+unfolding chained first
 loop-holds c =
-    let s = c .before .before .before in
+    let s = c .before .before in
     (omega arith, ap (replicate 16) (c .no-source .ensures) ∙ filled-start (λ k. sourceOf (s .args .site) (getD (s .args .chemicals .records) k noRecord)) noSource 16, refl)
 
 add-next : tie.Need-add-next Inv-loop μ-loop
@@ -48,8 +47,8 @@ mul-chemical c = search needs
 array-copy-out-chemical : tie.Need-array-copy-out-chemical Inv-loop μ-loop
 array-copy-out-chemical c = search needs
 
-chemical-of-requires : tie.Need-chemical-of-requires Inv-loop μ-loop
-chemical-of-requires c κs = search needs
+values-of-requires : tie.Need-values-of-requires Inv-loop μ-loop
+values-of-requires c κs = search needs
 
 concentrations-requires : tie.Need-concentrations-requires Inv-loop μ-loop
 concentrations-requires c κs = search needs
@@ -58,13 +57,13 @@ enum-known-media : tie.Need-enum-known-media Inv-loop μ-loop
 enum-known-media c = search needs
 
 source-with-requires : tie.Need-source-with-requires Inv-loop μ-loop
-source-with-requires c κs = search needs
+source-with-requires c κs = c .before .before .before .before .values-of .ensures
 
 mul-list : tie.Need-mul-list Inv-loop μ-loop
-mul-list c = record { fits = omega (arith, c .before .before .before .before .before .before .before .loop-test .taken, c .before .before .before .before .before .before .before .before .before .before .before .before .pre) }
+mul-list c = record { fits = omega (arith, c .before .before .before .before .before .before .before .loop-test .taken, c .before .before .before .before .before .before .before .before .before .before .before .pre) }
 
 array-set-from-list : tie.Need-array-set-from-list Inv-loop μ-loop
-array-set-from-list c = omega (arith, c .before .before .before .before .before .before .before .loop-test .taken, c .before .before .before .before .before .before .before .before .before .before .before .before .pre)
+array-set-from-list c = omega (arith, c .before .before .before .before .before .before .before .loop-test .taken, c .before .before .before .before .before .before .before .before .before .before .before .pre)
 
 enum-told : tie.Need-enum-told Inv-loop μ-loop
 enum-told c = search needs
@@ -73,15 +72,18 @@ stopped-at-requires : tie.Need-stopped-at-requires Inv-loop μ-loop
 stopped-at-requires c κs = search needs
 
 returns : tie.Need-returns Inv-loop μ-loop
-unfolding found notFound
+unfolding found isRefused
 returns c =
-    let s = c .before .before .before .before .before .before .before .before .before .before .before in
+    let s = c .before .before .before .before .before .before .before .before .before .before in
     let l = c .before .before .before .before .before .before .before .loop in
+    let test = c .before .before .before .before .before .before .loop-test .taken in
     let long : length (s .args .chemicals .records) ≡ 16 = sym (length-map (s .args .chemicals .records) _) ∙ s .good .1 .0 .1 .1 .1 .0 .1 .0 .1 in
-    let here : l .i < length (s .args .chemicals .records) = omega (arith, c .before .before .before .before .before .before .loop-test .taken, s .pre) in
-    let none : notFound (found (c .before .before .before .concentrations .result)) ≡ true = rw (c .before .enum-told .given .1) refl in (
-      stops (s .args .site) (s .args .chemicals .records) _ (l .i) here _ _ (c .before .before .before .concentrations .result) (c .before .before .before .before .before .before .before .before .before .before .site-of .ensures) (c .before .before .before .before .chemical-of .ensures) (c .before .before .before .concentrations .ensures) none (s .args .chemicals .count) (c .before .before .before .before .before .before .loop-test .taken) (l .inv .2) _ (c .stopped-at .ensures),
-      λ e. absurd (never _ 41 _ 0 (c .stopped-at .ensures) e),
+    let here : l .i < length (s .args .chemicals .records) = omega (arith, test, s .pre) in
+    let media = c .before .before .before .concentrations in
+    let none : isRefused (found (media .result)) ≡ true = rw (c .before .enum-told .given .1) refl in
+    let stop = c .stopped-at .ensures in (
+      stops (s .args .site) (s .args .chemicals .records) _ (l .i) here _ (media .result) (c .before .before .before .before .values-of .ensures) (media .ensures) (l .inv .2) none (s .args .chemicals .count) test _ stop,
+      λ e. absurd (never _ 41 _ 0 stop e),
     )
 
 enum-told-2 : tie.Need-enum-told-2 Inv-loop μ-loop
@@ -91,15 +93,18 @@ stopped-at-requires-2 : tie.Need-stopped-at-requires-2 Inv-loop μ-loop
 stopped-at-requires-2 c κs = search needs
 
 returns-2 : tie.Need-returns-2 Inv-loop μ-loop
-unfolding found notFound
+unfolding found isRefused
 returns-2 c =
-    let s = c .before .before .before .before .before .before .before .before .before .before .before in
+    let s = c .before .before .before .before .before .before .before .before .before .before in
     let l = c .before .before .before .before .before .before .before .loop in
+    let test = c .before .before .before .before .before .before .loop-test .taken in
     let long : length (s .args .chemicals .records) ≡ 16 = sym (length-map (s .args .chemicals .records) _) ∙ s .good .1 .0 .1 .1 .1 .0 .1 .0 .1 in
-    let here : l .i < length (s .args .chemicals .records) = omega (arith, c .before .before .before .before .before .before .loop-test .taken, s .pre) in
-    let none : notFound (found (c .before .before .before .concentrations .result)) ≡ true = rw (c .before .enum-told2 .given .1) refl in (
-      stops (s .args .site) (s .args .chemicals .records) _ (l .i) here _ _ (c .before .before .before .concentrations .result) (c .before .before .before .before .before .before .before .before .before .before .site-of .ensures) (c .before .before .before .before .chemical-of .ensures) (c .before .before .before .concentrations .ensures) none (s .args .chemicals .count) (c .before .before .before .before .before .before .loop-test .taken) (l .inv .2) _ (c .stopped-at2 .ensures),
-      λ e. absurd (never _ 41 _ 0 (c .stopped-at2 .ensures) e),
+    let here : l .i < length (s .args .chemicals .records) = omega (arith, test, s .pre) in
+    let media = c .before .before .before .concentrations in
+    let none : isRefused (found (media .result)) ≡ true = rw (c .before .enum-told2 .given .1) refl in
+    let stop = c .stopped-at2 .ensures in (
+      stops (s .args .site) (s .args .chemicals .records) _ (l .i) here _ (media .result) (c .before .before .before .before .values-of .ensures) (media .ensures) (l .inv .2) none (s .args .chemicals .count) test _ stop,
+      λ e. absurd (never _ 41 _ 0 stop e),
     )
 
 loop-less : tie.Need-loop-less Inv-loop μ-loop
@@ -107,21 +112,24 @@ loop-less c = search needs
 
 loop-again : tie.Need-loop-again Inv-loop μ-loop
 loop-again c =
-    let s = c .before .before .before .before .before .before .before .before .before .before .before .before in
+    let s = c .before .before .before .before .before .before .before .before .before .before .before in
     let l = c .before .before .before .before .before .before .before .before .loop in
+    let test = c .before .before .before .before .before .before .before .loop-test .taken in
     let long : length (s .args .chemicals .records) ≡ 16 = sym (length-map (s .args .chemicals .records) _) ∙ s .good .1 .0 .1 .1 .1 .0 .1 .0 .1 in
-    let here : l .i < length (s .args .chemicals .records) = omega (arith, c .before .before .before .before .before .before .before .loop-test .taken, s .pre) in
+    let here : l .i < length (s .args .chemicals .records) = omega (arith, test, s .pre) in
+    let values = c .before .before .before .before .before .values-of .ensures in
+    let media = c .before .before .before .before .concentrations in
     let is = c .before .before .media .given .1 in (
-      omega (arith, c .before .before .before .before .before .before .before .loop-test .taken),
-      filled-more (λ k. sourceOf (s .args .site) (getD (s .args .chemicals .records) k noRecord)) noSource 16 (l .i) (omega (arith, c .before .before .before .before .before .before .before .loop-test .taken, s .pre)) (l .list) (l .inv .1) _
-          (source-is (s .args .site) (s .args .chemicals .records) _ (l .i) here _ _ (c .before .before .before .before .concentrations .result) (c .before .before .before .before .before .before .before .before .before .before .before .site-of .ensures) (c .before .before .before .before .before .chemical-of .ensures) (c .before .before .before .before .concentrations .ensures) _ is _ (c .source-with .ensures)),
-      goes-on (s .args .site) (s .args .chemicals .records) _ (l .i) here _ _ (c .before .before .before .before .concentrations .result) (c .before .before .before .before .before .before .before .before .before .before .before .site-of .ensures) (c .before .before .before .before .before .chemical-of .ensures) (c .before .before .before .before .concentrations .ensures) _ is (l .inv .2),
+      omega (arith, test),
+      filled-more (λ k. sourceOf (s .args .site) (getD (s .args .chemicals .records) k noRecord)) noSource 16 (l .i) (omega (arith, test, s .pre)) (l .list) (l .inv .1) _
+          (source-is (s .args .site) (s .args .chemicals .records) _ (l .i) here _ (media .result) values (media .ensures) _ is _ (c .source-with .ensures)),
+      goes-on (s .args .site) (s .args .chemicals .records) _ (l .i) here _ (media .result) values (media .ensures) (l .inv .2) _ is,
     )
 
 returns-3 : tie.Need-returns-3 Inv-loop μ-loop
 unfolding sourcesOf
 returns-3 c =
-    let s = c .before .before .before .before .before in
+    let s = c .before .before .before .before in
     let l = c .before .loop in
     let all : l .i ≡ s .args .chemicals .count = omega (arith, c .loop-test .left) in
     (sym (rw all at (l .inv .2)), λ _. ap (λ x. record { count = s .args .chemicals .count; list = x }) (rw all at (l .inv .1)))
@@ -132,13 +140,12 @@ sources-of-spec =
     (tie.spec
     Inv-loop
     μ-loop
-    site-of-requires
     no-source-requires
     loop-holds
     add-next
     mul-chemical
     array-copy-out-chemical
-    chemical-of-requires
+    values-of-requires
     concentrations-requires
     enum-known-media
     source-with-requires

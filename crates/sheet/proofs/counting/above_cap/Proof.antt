@@ -2,7 +2,7 @@
 use mathlib.Core.Path.{refl}
 use borrow.Author.Needs.{needs}
 use Rattle.pathway.specs.Lines.{figure}
-use Rattle.sheet.specs.Worked.{aboveCap}
+use Rattle.sheet.specs.Inner.{aboveCap}
 use Rattle.sheet.proofs.counting.above_cap.Statement.{statement}
 use Rattle.sheet.proofs.counting.above_cap.Tie as tie
 

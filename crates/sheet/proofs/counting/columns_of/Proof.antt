@@ -5,7 +5,7 @@ use mir.Facts.{toZ-ofZ}
 use mir.Syntax.{w32}
 use mir.Val.{SFits}
 use Rattle.pathway.specs.Lines.{figure}
-use Rattle.sheet.specs.Worked.{columnsOf}
+use Rattle.sheet.specs.Inner.{columnsOf}
 use Rattle.sheet.proofs.counting.columns_of.Statement.{statement}
 use Rattle.sheet.proofs.counting.columns_of.Tie as tie
 

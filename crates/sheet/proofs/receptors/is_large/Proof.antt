@@ -1,8 +1,8 @@
 -- One figure or the other is above its cap. Assumes nothing.
 use mathlib.Core.Path.{refl}
 use borrow.Author.Needs.{needs}
-use Rattle.pathway.specs.Lines.{told}
-use Rattle.sheet.specs.Worked.{isLarge}
+use Rattle.pathway.specs.Lines.{figured}
+use Rattle.sheet.specs.Inner.{isLarge}
 use Rattle.sheet.proofs.receptors.is_large.Statement.{statement}
 use Rattle.sheet.proofs.receptors.is_large.Tie as tie
 
@@ -10,14 +10,14 @@ above-cap-requires : tie.Need-above-cap-requires
 above-cap-requires c κs = search needs
 
 returns : tie.Need-returns
-unfolding told isLarge
+unfolding figured isLarge
 returns c = rw (← c .before .above-cap .ensures, c .if1 .taken) refl
 
 above-cap-requires-2 : tie.Need-above-cap-requires-2
 above-cap-requires-2 c κs = search needs
 
 returns-2 : tie.Need-returns-2
-unfolding told isLarge
+unfolding figured isLarge
 returns-2 c = rw (← c .before .before .above-cap .ensures, c .before .if1 .left, c .above-cap2 .ensures) refl
 
 pub is-large-spec : {M : Type 1} → statement M

@@ -2,26 +2,19 @@
 use mathlib.Core.Path.{_≡_, refl}
 use Prim.Native.Nat.{ℕ, zero, suc, _<_}
 use native.Mathlib.Omega.{arith}
-use Rattle.equations.specs.declared.Pathway.the-variants.{Air, BelowGround}
+use Rattle.equations.specs.declared.Pathway.the-variants.{BelowGround}
 use Rattle.sheet.specs.Sheet.{pathwayAt}
 use Rattle.sheet.proofs.receptors.pathway_at.Statement.{statement}
 use Rattle.sheet.proofs.receptors.pathway_at.Tie as tie
 
-first : (n : ℕ) → n < 2 → Air ≡ pathwayAt n
-unfolding pathwayAt
-first zero h = refl
-first (suc zero) h = refl
-first (suc (suc n)) h = absurd (omega arith)
-
-last : (n : ℕ) → 5 < n → BelowGround ≡ pathwayAt n
+last : (n : ℕ) → 4 < n → BelowGround ≡ pathwayAt n
 unfolding pathwayAt
 last zero h = absurd (omega arith)
 last (suc zero) h = absurd (omega arith)
 last (suc (suc zero)) h = absurd (omega arith)
 last (suc (suc (suc zero))) h = absurd (omega arith)
 last (suc (suc (suc (suc zero)))) h = absurd (omega arith)
-last (suc (suc (suc (suc (suc zero))))) h = absurd (omega arith)
-last (suc (suc (suc (suc (suc (suc n)))))) h = refl
+last (suc (suc (suc (suc (suc n))))) h = refl
 
 returns : tie.Need-returns
 unfolding pathwayAt
@@ -40,10 +33,11 @@ unfolding pathwayAt
 returns-4 c = rw (c .match .keys4) refl
 
 returns-5 : tie.Need-returns-5
-returns-5 c = first (c .before .before .args .p) (c .if1 .taken)
+unfolding pathwayAt
+returns-5 c = rw (c .match .keys5) refl
 
 returns-6 : tie.Need-returns-6
-returns-6 c = last (c .before .before .args .p) (omega arith)
+returns-6 c = last (c .before .args .p) (omega arith)
 
 pub pathway-at-spec : {M : Type 1} → statement M
 pathway-at-spec = tie.close (tie.spec returns returns-2 returns-3 returns-4 returns-5 returns-6)

@@ -3,7 +3,8 @@ use mathlib.Core.Path.{refl}
 use native.Mathlib.Omega.{arith}
 use borrow.Author.Needs.{needs}
 use lib.ListN.{length-set}
-use Rattle.sheet.specs.Worked.{cellOf, withCounts}
+use Rattle.sheet.specs.Counts.{cellOf}
+use Rattle.sheet.specs.Inner.{withCounts}
 use Rattle.sheet.proofs.receptors.put_counts.Statement.{statement}
 use Rattle.sheet.proofs.receptors.put_counts.Tie as tie
 
@@ -37,8 +38,8 @@ mul-cells-4 c = search needs
 slice-write-cells-3 : tie.Need-slice-write-cells-3
 slice-write-cells-3 c = search needs
 
-enum-known-units : tie.Need-enum-known-units
-enum-known-units c = search needs
+enum-known-columns : tie.Need-enum-known-columns
+enum-known-columns c = search needs
 
 mul-cells-5 : tie.Need-mul-cells-5
 mul-cells-5 c = search needs
@@ -79,7 +80,7 @@ same-length-2 c = search needs
 
 returns-2 : tie.Need-returns-2
 unfolding withCounts cellOf
-returns-2 c = rw (c .before .units .given .1) refl
+returns-2 c = rw (c .before .columns .given .1) refl
 
 pub put-counts-spec : {M : Type 1} → statement M
 put-counts-spec =
@@ -95,7 +96,7 @@ put-counts-spec =
     add-cells-2
     mul-cells-4
     slice-write-cells-3
-    enum-known-units
+    enum-known-columns
     mul-cells-5
     slice-write-cells-4
     add-cells-3

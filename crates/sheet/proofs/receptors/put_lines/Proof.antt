@@ -1,5 +1,5 @@
--- `sheet::receptors::put_lines` meets its contract. The invariant: the cells hold the lines so far, none above a cap, and the cells below
--- are as they were. Assumes nothing.
+-- `sheet::receptors::put_lines` meets its contract. The invariant: the cells hold the lines so far, none above a cap, the cells below are
+-- as they were, and the others stay 0. Assumes nothing.
 use mathlib.Core.Path.{_≡_, refl, sym, ap, subst, _∙_}
 use mathlib.Core.List.{List}
 use Prim.Native.Nat.{ℕ, _+_, _*_, _-_, _/_, _≤_, _<_}
@@ -8,40 +8,38 @@ use native.Mathlib.Omega.{arith}
 use borrow.Author.Needs.{needs}
 use lib.ListN.{length, length-map}
 use Rattle.equations.specs.declared.Effect.the-variants.{Hazard, Cancer}
-use Rattle.pathway.specs.Lines.{told}
+use Rattle.pathway.specs.Lines.{figured}
 use Rattle.deck.specs.declared.Status.the-variants.{Read}
 use Rattle.deck.specs.Conditions.{first}
 use Rattle.deck.proofs.Scan.{never}
 use Rattle.sheet.specs.Sheet.{chained}
-use Rattle.sheet.specs.Worked.{figureFor, columnsFrom, largeLine, largeLines, withCounts, Holds, SameBelow}
+use Rattle.sheet.specs.Inner.{figureFor, columnsWorked, largeLine, largeWorked, withCounts, CellsHold, CellsEmpty, SameBelow, ZeroFrom}
 use Rattle.sheet.proofs.ReceptorLaws.{large-is, columns-are, line-fits, line-stops}
-use Rattle.sheet.proofs.CellLaws.{line-length, line-below, line-held}
+use Rattle.sheet.proofs.CellLaws.{line-length, line-below, line-held, line-empty, line-zero}
 use Rattle.sheet.proofs.receptors.put_lines.Statement.{statement}
 use Rattle.sheet.proofs.receptors.put_lines.Tie as tie
 
 abbrev Inv-loop : tie.InvT-loop
-Inv-loop cells₀ base receptor before sources count q₀ cells q =
+Inv-loop cells₀ base site receptor before sources count q₀ cells q =
     (q ≤ count)
     × (length cells ≡ length cells₀)
-    × Holds (columnsFrom sources receptor) q cells base
+    × CellsHold (columnsWorked site sources receptor) q cells base
     × SameBelow base cells₀ cells
-    × (first (chained (largeLine sources receptor before) q) ≡ Read)
+    × (first (chained (largeLine site sources receptor before) q) ≡ Read)
+    × (ZeroFrom base cells₀ → CellsEmpty q cells base × ZeroFrom (base + 576) cells)
 
 abbrev μ-loop : tie.MeasureT-loop
-μ-loop cells₀ base receptor before sources count q₀ cells q = count - q
+μ-loop cells₀ base site receptor before sources count q₀ cells q = count - q
 
 mul-count : tie.Need-mul-count Inv-loop μ-loop
 mul-count c = search needs
 
 loop-holds : tie.Need-loop-holds Inv-loop μ-loop
 unfolding chained first
-loop-holds c = (omega arith, refl, λ e w q h. absurd (not-suc-le-zero h), λ k h. refl, refl)
+loop-holds c = (omega arith, refl, λ e w q h. absurd (not-suc-le-zero h), λ k h. refl, refl, λ z. (λ e w q h l. z _ (omega arith), λ k h. z k (omega arith)))
 
 add-next : tie.Need-add-next Inv-loop μ-loop
 add-next c = search needs
-
-add-p : tie.Need-add-p Inv-loop μ-loop
-add-p c = search needs
 
 mul-source : tie.Need-mul-source Inv-loop μ-loop
 mul-source c = search needs
@@ -68,11 +66,13 @@ returns : tie.Need-returns Inv-loop μ-loop
 returns c =
     let s = c .before .before .before .before .before .before .before .before in
     let l = c .before .before .before .before .before .before .loop in
-    let long : length (s .args .t4 .list) ≡ 16 = sym (length-map (s .args .t4 .list) _) ∙ s .good .1 .1 .1 .0 .1 .1 .1 .0 .1 .0 .1 in
-    let here : l .q / 6 < length (s .args .t4 .list) = omega (arith, c .before .before .before .before .before .loop-test .taken, s .pre) in
-    let large = large-is (s .args .t4) (s .args .receptor) _ (l .q) here _ _ (c .before .before .before .pathway-at .ensures) (c .before .before .figures-of .ensures) _ (c .before .is-large .ensures) in
-    let stop = line-stops (s .args .t4) (s .args .receptor) (s .args .before) (l .q) (c .before .before .before .before .before .loop-test .taken) (sym large ∙ c .if1 .taken) (l .inv .4) in
-    (stop, (λ e. absurd (never _ 42 _ 0 refl e), l .inv .3))
+    let test = c .before .before .before .before .before .loop-test .taken in
+    let long : length (s .args .t5 .list) ≡ 16 = sym (length-map (s .args .t5 .list) _) ∙ s .good .1 .1 .1 .1 .0 .1 .1 .1 .0 .1 .0 .1 in
+    let here : l .q / 6 < length (s .args .t5 .list) = omega (arith, test, s .pre) in
+    let large = large-is (s .args .site) (s .args .t5) (s .args .receptor) _ (l .q) here _ _ (c .before .before .before .pathway-at .ensures) (c .before .before .figures-of .ensures) _ (c .before .is-large .ensures) in (
+      line-stops (s .args .site) (s .args .t5) (s .args .receptor) (s .args .before) (l .q) (l .inv .4) test (sym large ∙ c .if1 .taken),
+      (λ e. absurd (never _ 42 _ 0 refl e), (l .inv .3, λ z. let kept = l .inv .5 z in (λ e w q h m. kept .0 e w q (omega (arith, test)) m, kept .1))),
+    )
 
 add-at : tie.Need-add-at Inv-loop μ-loop
 add-at c = search needs
@@ -96,42 +96,46 @@ loop-less : tie.Need-loop-less Inv-loop μ-loop
 loop-less c = search needs
 
 loop-again : tie.Need-loop-again Inv-loop μ-loop
-unfolding told figureFor
+unfolding figured figureFor
 loop-again c =
     let s = c .before .before .before .before .before .before .before .before .before .before .before .before .before .before .before .before .before .before in
     let l = c .before .before .before .before .before .before .before .before .before .before .before .before .before .before .before .before .loop in
-    let long : length (s .args .t4 .list) ≡ 16 = sym (length-map (s .args .t4 .list) _) ∙ s .good .1 .1 .1 .0 .1 .1 .1 .0 .1 .0 .1 in
     let test = c .before .before .before .before .before .before .before .before .before .before .before .before .before .before .before .loop-test .taken in
-    let here : l .q / 6 < length (s .args .t4 .list) = omega (arith, test, s .pre) in
+    let long : length (s .args .t5 .list) ≡ 16 = sym (length-map (s .args .t5 .list) _) ∙ s .good .1 .1 .1 .1 .0 .1 .1 .1 .0 .1 .0 .1 in
+    let here : l .q / 6 < length (s .args .t5 .list) = omega (arith, test, s .pre) in
     let way = c .before .before .before .before .before .before .before .before .before .before .before .before .before .pathway-at .ensures in
     let figures = c .before .before .before .before .before .before .before .before .before .before .before .before .figures-of .ensures in
-    let large = large-is (s .args .t4) (s .args .receptor) _ (l .q) here _ _ way figures _ (c .before .before .before .before .before .before .before .before .before .before .before .is-large .ensures) in
-    let h = columns-are (s .args .t4) (s .args .receptor) _ (l .q) here _ _ way figures Hazard _ (c .before .before .before .before .before .before .before .before .columns-of .ensures) in
-    let k = columns-are (s .args .t4) (s .args .receptor) _ (l .q) here _ _ way figures Cancer _ (c .before .before .before .columns-of2 .ensures) in
+    let large = large-is (s .args .site) (s .args .t5) (s .args .receptor) _ (l .q) here _ _ way figures _ (c .before .before .before .before .before .before .before .before .before .before .before .is-large .ensures) in
+    let h = columns-are (s .args .site) (s .args .t5) (s .args .receptor) _ (l .q) here _ _ way figures Hazard _ (c .before .before .before .before .before .before .before .before .columns-of .ensures) in
+    let k = columns-are (s .args .site) (s .args .t5) (s .args .receptor) _ (l .q) here _ _ way figures Cancer _ (c .before .before .before .columns-of2 .ensures) in
     let at = s .args .base + l .q in
     let u = c .before .before .before .before .before .before .before .before .columns-of .result in
     let v = c .before .before .before .columns-of2 .result in
     let stored = sym (c .before .before .put-counts2 .ensures ∙ ap (λ (x : List ℕ). withCounts x (at + 288) v) (c .before .before .before .before .before .before .before .put-counts .ensures)) in
-    let units = columnsFrom (s .args .t4) (s .args .receptor) in
+    let columns = columnsWorked (s .args .site) (s .args .t5) (s .args .receptor) in
     let room : s .args .base + 576 ≤ length (l .cells) = omega (arith, l .inv .1, s .pre .0) in
     let small : l .q < 96 = omega (arith, test, s .pre) in (
       omega (arith, test),
       subst (λ (x : List ℕ). length x ≡ length (s .args .cells .now)) stored (line-length (l .cells) (s .args .base) (l .q) u v ∙ l .inv .1),
-      subst (λ (x : List ℕ). Holds units (l .q + 1) x (s .args .base)) stored (line-held (l .cells) (s .args .base) (l .q) u v units room small h k (l .inv .2)),
+      subst (λ (x : List ℕ). CellsHold columns (l .q + 1) x (s .args .base)) stored (line-held (l .cells) (s .args .base) (l .q) u v small columns room h k (l .inv .2)),
       subst (λ (x : List ℕ). SameBelow (s .args .base) (s .args .cells .now) x) stored (line-below (l .cells) (s .args .base) (l .q) u v (s .args .cells .now) (l .inv .3)),
-      line-fits (s .args .t4) (s .args .receptor) (s .args .before) (l .q) (sym large ∙ c .before .before .before .before .before .before .before .before .before .before .if1 .left) (l .inv .4),
+      line-fits (s .args .site) (s .args .t5) (s .args .receptor) (s .args .before) (l .q) (l .inv .4) (sym large ∙ c .before .before .before .before .before .before .before .before .before .before .if1 .left),
+      λ z.
+          let kept = l .inv .5 z in
+          subst (λ (x : List ℕ). CellsEmpty (l .q + 1) x (s .args .base) × ZeroFrom (s .args .base + 576) x) stored
+          (line-empty (l .cells) (s .args .base) (l .q) u v small (kept .0), line-zero (l .cells) (s .args .base) (l .q) u v small (kept .1)),
     )
 
 same-length-2 : tie.Need-same-length-2 Inv-loop μ-loop
 same-length-2 c = c .before .loop .inv .1
 
 returns-2 : tie.Need-returns-2 Inv-loop μ-loop
-unfolding largeLines
+unfolding largeWorked
 returns-2 c =
     let s = c .before .before .before in
     let l = c .before .loop in
-    let all : l .q ≡ s .args .t4 .count * 6 = omega arith in
-    (sym (rw all at (l .inv .4)), (λ _. rw all at (l .inv .2), l .inv .3))
+    let all : l .q ≡ s .args .t5 .count * 6 = omega arith in
+    (sym (rw all at (l .inv .4)), (λ _. rw all at (l .inv .2), (l .inv .3, rw all at (l .inv .5))))
 
 pub put-lines-spec : {M : Type 1} → statement M
 put-lines-spec =
@@ -142,7 +146,6 @@ put-lines-spec =
     mul-count
     loop-holds
     add-next
-    add-p
     mul-source
     element-copy-out-source
     pathway-at-requires

@@ -1,5 +1,5 @@
--- `sheet::receptors::put_receptors` meets its contract. The invariant: the cells hold the lines of the receptors so far, none above a cap.
--- Assumes nothing.
+-- `sheet::receptors::put_receptors` meets its contract. The invariant: no line so far is above a cap, and where all cells were 0, they hold
+-- the lines of the receptors so far and 0 for the others. Assumes nothing.
 use mathlib.Core.Path.{_≡_, refl, sym, _∙_}
 use Prim.Native.Nat.{_+_, _*_, _-_, _≤_, _<_}
 use native.Mathlib.Nat.{mul-le-mul-right, not-suc-le-zero}
@@ -10,21 +10,21 @@ use Rattle.deck.specs.declared.Status.the-variants.{Read}
 use Rattle.deck.specs.Conditions.{first}
 use Rattle.deck.proofs.Scan.{never}
 use Rattle.sheet.specs.Sheet.{chained}
-use Rattle.sheet.specs.Worked.{allLarge, HoldsAll}
+use Rattle.sheet.specs.Inner.{allLarge, CellsFilled, ZeroFrom}
 use Rattle.sheet.proofs.ReceptorLaws.{receptor-is, large-on, large-stops}
 use Rattle.sheet.proofs.CellLaws.{receptor-held}
 use Rattle.sheet.proofs.receptors.put_receptors.Statement.{statement}
 use Rattle.sheet.proofs.receptors.put_receptors.Tie as tie
 
 abbrev Inv-loop : tie.InvT-loop
-Inv-loop cells₀ sources receptors count per j₀ cells j =
+Inv-loop cells₀ site sources receptors count per j₀ cells j =
     (j ≤ count)
     × (length cells ≡ length cells₀)
-    × HoldsAll sources (receptors .records) j cells
-    × (first (allLarge sources (receptors .records) j) ≡ Read)
+    × (first (allLarge site sources (receptors .records) j) ≡ Read)
+    × (ZeroFrom 0 cells₀ → CellsFilled site sources (receptors .records) j cells × ZeroFrom (576 * j) cells)
 
 abbrev μ-loop : tie.MeasureT-loop
-μ-loop cells₀ sources receptors count per j₀ cells j = count - j
+μ-loop cells₀ site sources receptors count per j₀ cells j = count - j
 
 mul-per : tie.Need-mul-per Inv-loop μ-loop
 mul-per c = search needs
@@ -34,7 +34,7 @@ add-per c = search needs
 
 loop-holds : tie.Need-loop-holds Inv-loop μ-loop
 unfolding allLarge chained first
-loop-holds c = (omega arith, refl, λ j h. absurd (not-suc-le-zero h), refl)
+loop-holds c = (omega arith, refl, refl, λ z. (λ j h. absurd (not-suc-le-zero h), λ k h. z k (omega arith)))
 
 add-next : tie.Need-add-next Inv-loop μ-loop
 add-next c = search needs
@@ -48,8 +48,8 @@ element-copy-out-receptor c = search needs
 mul-put-lines : tie.Need-mul-put-lines Inv-loop μ-loop
 mul-put-lines c = search needs
 
-receptor-of-requires : tie.Need-receptor-of-requires Inv-loop μ-loop
-receptor-of-requires c κs = search needs
+values-of-requires : tie.Need-values-of-requires Inv-loop μ-loop
+values-of-requires c κs = search needs
 
 mul-put-lines-2 : tie.Need-mul-put-lines-2 Inv-loop μ-loop
 mul-put-lines-2 c =
@@ -74,11 +74,11 @@ returns : tie.Need-returns Inv-loop μ-loop
 returns c =
     let s = c .before .before .before .before .before .before .before .before .before .before .before .before in
     let l = c .before .before .before .before .before .before .before .before .before .loop in
-    let long : length (s .args .t2 .records) ≡ 4 = sym (length-map (s .args .t2 .records) _) ∙ s .good .1 .0 .1 .1 .1 .0 .1 .0 .1 in
+    let long : length (s .args .t3 .records) ≡ 4 = sym (length-map (s .args .t3 .records) _) ∙ s .good .1 .1 .0 .1 .1 .1 .0 .1 .0 .1 in
     let test = c .before .before .before .before .before .before .before .before .loop-test .taken in
-    let here : l .j < length (s .args .t2 .records) = omega (arith, test, s .pre) in
+    let here : l .j < length (s .args .t3 .records) = omega (arith, test, s .pre) in
     let stop = c .enum-told .given .1 in (
-      large-stops (s .args .sources) (s .args .t2 .records) _ (l .j) here _ (c .before .before .before .before .before .receptor-of .ensures) _ (c .before .before .before .before .put-lines .ensures .0) (l .inv .3) (s .args .t2 .count) test _ _ _ stop,
+      large-stops (s .args .site) (s .args .sources) (s .args .t3 .records) _ (l .j) here _ (c .before .before .before .before .before .values-of .ensures) _ (c .before .before .before .before .put-lines .ensures .0) (l .inv .2) (s .args .t3 .count) test _ _ _ stop,
       λ e. absurd (never _ _ _ _ stop e),
     )
 
@@ -92,16 +92,22 @@ loop-again : tie.Need-loop-again Inv-loop μ-loop
 loop-again c =
     let s = c .before .before .before .before .before .before .before .before .before .before .before .before in
     let l = c .before .before .before .before .before .before .before .before .before .loop in
-    let long : length (s .args .t2 .records) ≡ 4 = sym (length-map (s .args .t2 .records) _) ∙ s .good .1 .0 .1 .1 .1 .0 .1 .0 .1 in
+    let long : length (s .args .t3 .records) ≡ 4 = sym (length-map (s .args .t3 .records) _) ∙ s .good .1 .1 .0 .1 .1 .1 .0 .1 .0 .1 in
     let test = c .before .before .before .before .before .before .before .before .loop-test .taken in
-    let here : l .j < length (s .args .t2 .records) = omega (arith, test, s .pre) in
+    let here : l .j < length (s .args .t3 .records) = omega (arith, test, s .pre) in
     let read = c .enum-told2 .given .1 in
-    let receptor = c .before .before .before .before .before .receptor-of .ensures in
+    let receptor = c .before .before .before .before .before .values-of .ensures in
     let lines = c .before .before .before .before .put-lines in (
       omega (arith, test),
       lines .kept .0 ∙ l .inv .1,
-      receptor-held (s .args .sources) (s .args .t2 .records) (l .j) _ (l .cells) (lines .last .0) (receptor-is (s .args .sources) (s .args .t2 .records) _ (l .j) here _ receptor) (s .pre .2) (l .inv .2) (lines .ensures .1 .1) (lines .ensures .1 .0 read),
-      large-on (s .args .sources) (s .args .t2 .records) _ (l .j) here _ receptor _ (lines .ensures .0) (l .inv .3) read,
+      large-on (s .args .site) (s .args .sources) (s .args .t3 .records) _ (l .j) here _ receptor _ (lines .ensures .0) (l .inv .2) read,
+      λ z.
+          let kept = l .inv .3 z in
+          let left = lines .ensures .1 .1 .1 (kept .1) in (
+            receptor-held (s .args .site) (s .args .sources) (s .args .t3 .records) (l .j) (l .cells) (lines .last .0) (s .pre .2) _
+                (receptor-is (s .args .site) (s .args .sources) (s .args .t3 .records) _ (l .j) here _ receptor) (kept .0) (lines .ensures .1 .1 .0) (lines .ensures .1 .0 read) (left .0),
+            λ k h. left .1 k (omega arith),
+          ),
     )
 
 same-length-2 : tie.Need-same-length-2 Inv-loop μ-loop
@@ -110,8 +116,8 @@ same-length-2 c = c .before .loop .inv .1
 returns-2 : tie.Need-returns-2 Inv-loop μ-loop
 returns-2 c =
     let l = c .before .loop in
-    let all : l .j ≡ c .before .before .before .before .args .t2 .count = omega (arith, c .loop-test .left) in
-    (sym (rw all at (l .inv .3)), λ _. rw all at (l .inv .2))
+    let all : l .j ≡ c .before .before .before .before .args .t3 .count = omega (arith, c .loop-test .left) in
+    (sym (rw all at (l .inv .2)), λ _. rw all at (l .inv .3))
 
 pub put-receptors-spec : {M : Type 1} → statement M
 put-receptors-spec =
@@ -126,7 +132,7 @@ put-receptors-spec =
     mul-receptor
     element-copy-out-receptor
     mul-put-lines
-    receptor-of-requires
+    values-of-requires
     mul-put-lines-2
     put-lines-requires
     enum-told

@@ -1,0 +1,163 @@
+-- For the contracts of this crate's inner functions only: the counts as they are worked, each chemical once, then each receptor's lines from
+-- the chemicals' sources. proofs/ shows that they are those of Counts.antt, of which alone the calls speak.
+use mathlib.Core.Path.{_≡_}
+use Prim.Native.Nat.{ℕ, suc, _+_, _*_, _-_, _/_, _%_, _<_}
+use mathlib.Core.Bool.{Bool, true, false, _||_}
+use mathlib.Core.List.{List, [], _∷_, _++_}
+use lib.ListN.{getD, set, replicate}
+use Rattle.pair.specs.declared.Pair.{Pair}
+use Rattle.pair.specs.Calls.{Outcome, is, refused}
+use Rattle.slots.specs.Slots.{placeOf}
+use Rattle.equations.specs.declared.Pathway.{Pathway}
+use Rattle.equations.specs.declared.Effect.{Effect}
+use Rattle.equations.specs.declared.Effect.the-variants.{Hazard, Cancer}
+use Rattle.equations.specs.declared.Values.{Values}
+use Rattle.equations.specs.Readings.{inputs, noValues}
+use Rattle.media.specs.declared.Media.{Media}
+use Rattle.media.specs.Media.{mediaOf, noMedia}
+use Rattle.pathway.specs.declared.GivenRfd.{GivenRfd}
+use Rattle.pathway.specs.declared.GivenRfd.the-variants as Rfds
+use Rattle.pathway.specs.declared.GivenCsf.{GivenCsf}
+use Rattle.pathway.specs.declared.GivenCsf.the-variants as Csfs
+use Rattle.pathway.specs.declared.References.{References}
+use Rattle.pathway.specs.Lines.{Optional, some, none, Figured, figuresOf}
+use Rattle.deck.specs.declared.Case.{Case}
+use Rattle.deck.specs.declared.Chemicals.{Chemicals}
+use Rattle.deck.specs.declared.Record.{Record}
+use Rattle.deck.specs.declared.Value.{Value}
+use Rattle.deck.specs.declared.Value.the-variants.{Absent, Printed}
+use Rattle.deck.specs.Kinds.{maxChemicals}
+use Rattle.deck.specs.Conditions.{Condition, at}
+use Rattle.deck.specs.Cases.{noRecord, valueAt, tabulate}
+use Rattle.totals.specs.declared.Columns.{Columns}
+use Rattle.totals.specs.declared.Columns.the-variants as Cols
+use Rattle.sheet.specs.declared.Source.{Source}
+use Rattle.sheet.specs.declared.Sources.{Sources}
+use Rattle.sheet.specs.Values.{pairOf, valuesOf}
+use Rattle.sheet.specs.Sheet.{pathwayAt, pathwaysPerChemical, unitOf, capOf, countedIn, highAbove, chained}
+use Rattle.sheet.specs.Counts.{Part, Mark, Low, High, cellOf, sideOf, mostLines, effectCells, receptorCells, isRefused}
+
+-- for each of 4 receptors at most six lines for each of 16 chemicals, and a total line: 388
+abbrev pub maxRows : ℕ
+maxRows = 4 * (16 * 6 + 1)
+
+-- ---- a figure: its two columns, and whether it is above its cap
+unfoldable pub columnsOf : Effect → Outcome (Optional Pair) → Columns
+columnsOf e (is none) = Cols.Absent
+columnsOf e (is (some p)) = countedIn (unitOf e) (is p)
+columnsOf e (refused n) = Cols.Absent
+
+unfoldable pub aboveCap : Effect → Outcome (Optional Pair) → Bool
+aboveCap e (is none) = false
+aboveCap e (is (some p)) = highAbove (capOf e) (is p)
+aboveCap e (refused n) = false
+
+-- ---- a chemical's source: what its lines take, for every receptor
+unfoldable pub mediaFrom : Outcome Media → Media
+mediaFrom (is m) = m
+mediaFrom (refused n) = noMedia
+
+unfoldable pub mediaWith : Values → Record → Outcome Media
+mediaWith site′ chemical′ = mediaOf (inputs site′ (valuesOf chemical′) noValues)
+
+unfoldable pub rfdOf : Value → GivenRfd
+rfdOf Absent = Rfds.Absent
+rfdOf (Printed digits power) = Rfds.Is (record { 0 = pairOf (Printed digits power) })
+
+unfoldable pub csfOf : Value → GivenCsf
+csfOf Absent = Csfs.Absent
+csfOf (Printed digits power) = Csfs.Is (record { 0 = pairOf (Printed digits power) })
+
+unfoldable pub referencesOf : Record → References
+referencesOf r =
+    record {
+      «rfd_o» = rfdOf (valueAt r (placeOf "RfDo"));
+      «rfd_i» = rfdOf (valueAt r (placeOf "RfDi"));
+      «csf_o» = csfOf (valueAt r (placeOf "CSFo"));
+      «csf_i» = csfOf (valueAt r (placeOf "CSFi"));
+    }
+
+unfoldable pub sourceWith : Record → Media → Source
+sourceWith chemical′ media′ = record { values = valuesOf chemical′; media = media′; references = referencesOf chemical′ }
+
+unfoldable pub sourceOf : Values → Record → Source
+sourceOf site′ chemical′ = sourceWith chemical′ (mediaFrom (mediaWith site′ chemical′))
+
+-- what stands where there is no chemical
+unfoldable pub noSource : Source
+noSource = sourceWith noRecord noMedia
+
+unfoldable pub sourcesOf : Values → Chemicals → Sources
+sourcesOf site′ chemicals′ =
+    record {
+      count = chemicals′ .count;
+      list = tabulate (chemicals′ .count) (λ i. sourceOf site′ (getD (chemicals′ .records) i noRecord)) ++ replicate (maxChemicals - chemicals′ .count) noSource;
+    }
+
+unfoldable pub sourceAt : Sources → ℕ → Source
+sourceAt sources i = getD (sources .list) i noSource
+
+-- 41, by chemical
+unfoldable pub refusedSource : Values → List Record → ℕ → List Condition
+refusedSource site′ records i = at 41 (suc i) 0 (isRefused (mediaWith site′ (getD records i noRecord))) ∷ []
+
+-- ---- a line's figures
+unfoldable pub figuresFrom : Values → Values → Source → Pathway → Figured
+figuresFrom site′ r s p = figuresOf p site′ (s .values) r (s .media) (s .references)
+
+unfoldable pub figureFor : Effect → Figured → Outcome (Optional Pair)
+figureFor Hazard f = f .hazard
+figureFor Cancer f = f .cancer
+
+-- those of a receptor's line q, counted from 0 without total lines
+unfoldable pub figuresWorked : Values → Sources → Values → ℕ → Figured
+figuresWorked site′ sources r q = figuresFrom site′ r (sourceAt sources (q / pathwaysPerChemical)) (pathwayAt (q % pathwaysPerChemical))
+
+unfoldable pub columnsWorked : Values → Sources → Values → ℕ → Effect → Columns
+columnsWorked site′ sources r q e = columnsOf e (figureFor e (figuresWorked site′ sources r q))
+
+unfoldable pub isLarge : Figured → Bool
+isLarge f = aboveCap Hazard (f .hazard) || aboveCap Cancer (f .cancer)
+
+-- 42 at it, after so many report lines
+unfoldable pub largeLine : Values → Sources → Values → ℕ → ℕ → List Condition
+largeLine site′ sources r before q = at 42 (before + suc q) 0 (isLarge (figuresWorked site′ sources r q)) ∷ []
+
+unfoldable pub largeWorked : Values → Sources → Values → ℕ → List Condition
+largeWorked site′ sources r before = chained (largeLine site′ sources r before) (sources .count * pathwaysPerChemical)
+
+abbrev pub perReceptor : ℕ → ℕ
+perReceptor n = n * pathwaysPerChemical + 1
+
+unfoldable pub allLarge : Values → Sources → List Record → ℕ → List Condition
+allLarge site′ sources records n = chained (λ j. largeWorked site′ sources (valuesOf (getD records j noRecord)) (j * perReceptor (sources .count))) n
+
+-- ---- cells
+unfoldable pub withCounts : List ℕ → ℕ → Columns → List ℕ
+withCounts cells at columns = set (set (set cells at (cellOf Mark columns)) (at + mostLines) (cellOf Low columns)) (at + 2 * mostLines) (cellOf High columns)
+
+unfoldable pub partOf : Part → ℕ
+partOf Mark = 0
+partOf Low = 1
+partOf High = 2
+
+-- the cells from base on hold the columns of the lines of which there are n, and 0 for the others
+abbrev pub CellsHold : (ℕ → Effect → Columns) → ℕ → List ℕ → ℕ → Type 0
+CellsHold columns n cells base =
+    (e : Effect) (w : Part) (q : ℕ) → q < n → getD cells (base + effectCells * sideOf e + mostLines * partOf w + q) 0 ≡ cellOf w (columns q e)
+
+abbrev pub CellsEmpty : ℕ → List ℕ → ℕ → Type 0
+CellsEmpty n cells base =
+    (e : Effect) (w : Part) (q : ℕ) → n < suc q → q < mostLines → getD cells (base + effectCells * sideOf e + mostLines * partOf w + q) 0 ≡ 0
+
+abbrev pub CellsFilled : Values → Sources → List Record → ℕ → List ℕ → Type 0
+CellsFilled site′ sources records n cells =
+    (j : ℕ) → j < n →
+    CellsHold (columnsWorked site′ sources (valuesOf (getD records j noRecord))) (sources .count * pathwaysPerChemical) cells (receptorCells * j)
+    × CellsEmpty (sources .count * pathwaysPerChemical) cells (receptorCells * j)
+
+abbrev pub SameBelow : ℕ → List ℕ → List ℕ → Type 0
+SameBelow base before after = (k : ℕ) → k < base → getD after k 0 ≡ getD before k 0
+
+abbrev pub ZeroFrom : ℕ → List ℕ → Type 0
+ZeroFrom base cells = (k : ℕ) → base < suc k → getD cells k 0 ≡ 0
