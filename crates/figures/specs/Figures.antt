@@ -7,24 +7,26 @@ use Prim.Native.Char.{code}
 use Prim.Native.String.{String, [] as ε, _∷_ as _◂_}
 use lib.IntN.{negsuc}
 use Rattle.pair.specs.declared.Pair.{Pair}
-use Rattle.pair.specs.Calls.{Outcome, is, afterOne, entry, oneMinus, zeroPair, onePair}
-use Rattle.pair.specs.Figures.{_⊘_, whole, ends}
+use Rattle.pair.specs.Calls.{is, mapped, afterOne, entry, oneMinus, zeroPair, onePair}
+use Rattle.pair.specs.Figures.{_⊘_, whole, bothEnds}
 use Rattle.equations.specs.declared.Pathway.the-variants.{SoilWinter}
 use Rattle.equations.specs.declared.Effect.the-variants.{Hazard, Cancer}
-use Rattle.equations.specs.Formula as slots
-use Rattle.equations.specs.Formula.{Slot, chemical, site, receptor, pairs}
+use Rattle.slots.specs.Slots.{Slot}
+use Rattle.equations.specs.declared.Values.{Values}
 use Rattle.equations.specs.Letters.{φ}
-use Rattle.equations.specs.Page.{x, g, AT, factor}
-use Rattle.equations.specs.Readings.{plain, worked}
+use Rattle.equations.specs.Page.{x, g, AT}
+use Rattle.equations.specs.Readings.{inputs}
+use Rattle.media.specs.Media.{ofSlots, ofMedia}
+use Rattle.pathway.specs.declared.Factor.{Factor}
+use Rattle.pathway.specs.Lines.{workedFor, factorOf}
 use Rattle.deck.specs.declared.Status.the-variants.{Read}
 use Rattle.deck.specs.Conditions.{first}
 use Rattle.deck.specs.Cases.{caseOf}
-use Rattle.sheet.specs.declared.Units.{Units}
-use Rattle.sheet.specs.declared.Units.the-variants.{Absent, Counted}
-use Rattle.sheet.specs.declared.Row.{Row}
-use Rattle.sheet.specs.Text.{linesText}
-use Rattle.sheet.specs.Sheet.{rowsOf}
-use Rattle.sheet.specs.Report.{allConditions, outcomeOf}
+use Rattle.totals.specs.declared.Columns.{Columns}
+use Rattle.totals.specs.declared.Columns.the-variants.{Absent, Counted}
+use Rattle.text.specs.declared.Row.{Row}
+use Rattle.text.specs.Text.{linesText}
+use Rattle.report.specs.Report.{rowsOf, allConditions, outcomeOf}
 
 -- a text's bytes; every character here is one byte
 unfoldable pub bytes : String → List ℕ
@@ -67,11 +69,11 @@ printedLines =
     ∷ "     1     0 0        538499000000        538499000000          2566599987          2566600013"
     ∷ []
 
-unfoldable pub printed : List ℕ
-printed = lines printedLines
+unfoldable pub printedText : List ℕ
+printedText = lines printedLines
 
 -- receptor, chemical, pathway, hazard and risk; - in both columns is Absent
-unfoldable pub row : ℕ → ℕ → ℕ → Units → Units → Row
+unfoldable pub row : ℕ → ℕ → ℕ → Columns → Columns → Row
 row r c p h k = record { receptor = r; chemical = c; pathway = p; hazard = h; cancer = k }
 
 unfoldable pub rows : List Row
@@ -90,40 +92,37 @@ abbrev pub All : List (Type 0) → Type 0
 All [] = Unit {0}
 All (A ∷ As) = A × All As
 
--- x for the values of the slots
-abbrev pub xAt : (Slot → Pair) → Outcome Pair
-xAt env = plain pairs (λ s. is (env s)) x
-
 -- the values of 002's winter: 25, 1, 0.61, 1, 151, 75; 63.3, 27375
 pub record Winter (env : Slot → Pair) : Type 0 where
-  pub irSoil : is (env (receptor slots.irSoil)) ≡ whole 25
-  pub afOral : is (env (chemical slots.afOral)) ≡ whole 1
-  pub frSnow : is (env (site slots.frSnow)) ≡ entry 61 (negsuc 1)
-  pub etSoil : is (env (receptor slots.etSoil)) ≡ whole 1
-  pub efW : is (env (receptor slots.efW)) ≡ whole 151
-  pub ed : is (env (receptor slots.ed)) ≡ whole 75
-  pub bw : is (env (receptor slots.bw)) ≡ entry 633 (negsuc 0)
-  pub atC : is (env (receptor slots.atC)) ≡ whole 27375
+  pub IRsoil : is (env "IRsoil") ≡ whole 25
+  pub AForal : is (env "AForal") ≡ whole 1
+  pub FRsnow : is (env "FRsnow") ≡ entry 61 (negsuc 1)
+  pub ETsoil : is (env "ETsoil") ≡ whole 1
+  pub EFw : is (env "EFw") ≡ whole 151
+  pub ED : is (env "ED") ≡ whole 75
+  pub BW : is (env "BW") ≡ entry 633 (negsuc 0)
+  pub ATc : is (env "ATc") ≡ whole 27375
 
 -- document 01's cases
 unfoldable pub cases : List (Type 0)
 cases =
     -- 2 / 3
-    (whole 2 ⊘ whole 3 ≡ ends 666666666 666666667 (negsuc 8))
+    (whole 2 ⊘ whole 3 ≡ bothEnds 666666666 666666667 (negsuc 8))
     -- 1 − 1E-20
     ∷ (afterOne oneMinus (entry 1 (negsuc 19))
     ≡ is (record { low = record { significand = 999999999; exponent = negsuc 8 }; high = record { significand = 100000000; exponent = negsuc 7 } }))
-    -- x = 0: φ and g are 1
-    ∷ ((env : Slot → Pair) → xAt env ≡ is zeroPair → (worked env φ ≡ is onePair) × (worked env g ≡ is onePair))
-    -- ED 4.5: AT is 1642.5
-    ∷ ((env : Slot → Pair) → is (env (receptor slots.ed)) ≡ entry 45 (negsuc 0) → worked env (AT Hazard) ≡ ends 164250000 164250000 (negsuc 4))
+    -- x = 0: φ and g are 1, as the media read them
+    ∷ ((site chemical : Values) → ofSlots site chemical x ≡ is zeroPair → (ofMedia site chemical φ ≡ is onePair) × (ofMedia site chemical g ≡ is onePair))
+    -- ED 4.5: AT is 1642.5, as the pathways read it
+    ∷ ((site chemical receptor : Values) → is (inputs site chemical receptor "ED") ≡ entry 45 (negsuc 0) → workedFor site chemical receptor (AT Hazard) ≡ bothEnds 164250000 164250000 (negsuc 4))
     -- 002's winter factor
-    ∷ ((env : Slot → Pair) → Winter env → worked env (factor Cancer SoilWinter) ≡ ends 996667315 996667316 (negsuc 15))
+    ∷ ((site chemical receptor : Values) → Winter (inputs site chemical receptor) →
+    factorOf Cancer SoilWinter site chemical receptor ≡ mapped (λ (q : Pair). record { 0 = q }) (bothEnds 996667315 996667316 (negsuc 15)))
     -- the deck: no condition holds, with a buffer of 665 bytes; its answer, its report's lines, and their bytes
     ∷ (first (allConditions deck 665) ≡ Read)
     ∷ (outcomeOf deck 665 ≡ record { number = 0; line = 665; field = 0 })
     ∷ (rowsOf (caseOf deck) ≡ rows)
-    ∷ (linesText (rowsOf (caseOf deck)) ≡ printed)
+    ∷ (linesText (rowsOf (caseOf deck)) ≡ printedText)
     ∷ []
 
 -- all of them, jointly

@@ -8,7 +8,7 @@ use Rattle.pair.specs.declared.Units.{Units}
 use Rattle.pair.specs.Calls.{Outcome, is, refused, after, afterOne, inUnits}
 use Rattle.deck.specs.declared.Told.{Told}
 use Rattle.deck.specs.Cases.{readOf, toldOf}
-use Rattle.zilmorga.specs.Numbers.{at, andThen, numberOf, pairOf, comparedIf, numbersOf}
+use Rattle.zilmorga.specs.Numbers.{entryAt, andThen, numberOf, pairFrom, comparedIf, numbersOf}
 
 pub record Left (A : Type 0) : Type 0 where
   pub number : ℕ
@@ -31,11 +31,11 @@ unfoldable pub readTold : List ℕ → Told
 readTold deck = toldOf (readOf deck .status)
 
 -- an operation on pairs that the caller wrote
-unfoldable pub onePair : (Pair → Outcome Pair) → List ℤ → List ℤ → Left (List ℤ)
-onePair f a before = leaves numbersOf (afterOne f (pairOf a)) before
+unfoldable pub onOnePair : (Pair → Outcome Pair) → List ℤ → List ℤ → Left (List ℤ)
+onOnePair f a before = leaves numbersOf (afterOne f (pairFrom a)) before
 
-unfoldable pub twoPairs : (Pair → Pair → Outcome Pair) → List ℤ → List ℤ → List ℤ → Left (List ℤ)
-twoPairs f a b before = leaves numbersOf (after f (pairOf a) (pairOf b)) before
+unfoldable pub onTwoPairs : (Pair → Pair → Outcome Pair) → List ℤ → List ℤ → List ℤ → Left (List ℤ)
+onTwoPairs f a b before = leaves numbersOf (after f (pairFrom a) (pairFrom b)) before
 
 -- 1 where the first is at most the second, else 0
 unfoldable pub asNumber : Bool → ℕ
@@ -43,10 +43,10 @@ asNumber true = 1
 asNumber false = 0
 
 unfoldable pub comparison : List ℤ → List ℤ → ℕ → Left ℕ
-comparison a b before = leaves asNumber (comparedIf (numberOf (at a 0) (at a 1)) (numberOf (at b 0) (at b 1))) before
+comparison a b before = leaves asNumber (comparedIf (numberOf (entryAt a 0) (entryAt a 1)) (numberOf (entryAt b 0) (entryAt b 1))) before
 
 abbrev pub units : ℕ → ℕ → Units
 units low high = record { low = low; high = high }
 
-unfoldable pub countOf : List ℤ → ℤ → Units → Left Units
-countOf p unit before = leaves (λ n. n) (andThen (pairOf p) (λ q. inUnits q unit)) before
+unfoldable pub unitsLeft : List ℤ → ℤ → Units → Left Units
+unitsLeft p unit before = leaves (λ n. n) (andThen (pairFrom p) (λ q. inUnits q unit)) before

@@ -8,36 +8,36 @@ use lib.Signed.{leZ}
 use Rattle.pair.specs.declared.Number.{Number}
 use Rattle.pair.specs.declared.Pair.{Pair}
 use Rattle.pair.specs.Calls.{Outcome, is, refused, provided, compared}
-use Rattle.zilmorga.specs.declared.numbers.Held.{Held}
-use Rattle.zilmorga.specs.declared.numbers.Held.the-variants as Helds
+use Rattle.zilmorga.specs.declared.numbers.NumberHeld.{NumberHeld}
+use Rattle.zilmorga.specs.declared.numbers.NumberHeld.the-variants as Helds
 
 -- each case of an answer in these terms
-unfoldable pub held : Held → Outcome Number
-held (Helds.Is w) = is w
-held Helds.Not = refused 53
+unfoldable pub numberHeld : NumberHeld → Outcome Number
+numberHeld (Helds.Is w) = is w
+numberHeld Helds.Not = refused 53
 
-unfoldable pub within : ℤ → ℤ → ℤ → Bool
-within least z most = leZ least z && leZ z most
+unfoldable pub isBetween : ℤ → ℤ → ℤ → Bool
+isBetween least z most = leZ least z && leZ z most
 
 -- a significand has 32 bits, and an exponent 32 with its sign
 unfoldable pub numberOf : ℤ → ℤ → Outcome Number
 numberOf m e =
-    provided (within (pos 0) m (pos 4294967295) && within (negsuc 2147483647) e (pos 2147483647))
+    provided (isBetween (pos 0) m (pos 4294967295) && isBetween (negsuc 2147483647) e (pos 2147483647))
     (is (record { significand = natAbs m; exponent = e }))
 
 -- what stands at a place of a list
-abbrev pub at : List ℤ → ℕ → ℤ
-at list i = getD list i (pos 0)
+abbrev pub entryAt : List ℤ → ℕ → ℤ
+entryAt list i = getD list i (pos 0)
 
 -- a call on what an earlier one told: a refusal is carried along
 unfoldable pub andThen : {A B : Type 0} → Outcome A → (A → Outcome B) → Outcome B
 andThen (is x) f = f x
 andThen (refused n) f = refused n
 
-unfoldable pub pairOf : List ℤ → Outcome Pair
-pairOf list =
-    andThen (numberOf (at list 0) (at list 1))
-    (λ low. andThen (numberOf (at list 2) (at list 3)) (λ high. is (record { low = low; high = high })))
+unfoldable pub pairFrom : List ℤ → Outcome Pair
+pairFrom list =
+    andThen (numberOf (entryAt list 0) (entryAt list 1))
+    (λ low. andThen (numberOf (entryAt list 2) (entryAt list 3)) (λ high. is (record { low = low; high = high })))
 
 -- whether the first is at most the second
 unfoldable pub comparedIf : Outcome Number → Outcome Number → Outcome Bool

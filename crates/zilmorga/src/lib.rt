@@ -6,21 +6,21 @@ ghost use mathlib.Core.Path.{_≡_};
 ghost use lib.ListN.{length};
 ghost use Rattle.pair.specs.Calls as calls;
 ghost use Rattle.equations.specs.Series.{pairSeries};
-ghost use Rattle.sheet.specs.Report.{outcomeOf, bufferOf};
-ghost use Rattle.sheet.specs.Totals.{totalOf};
+ghost use Rattle.report.specs.Report.{outcomeOf, bufferOf};
+ghost use Rattle.totals.specs.Totals.{totalOf};
 ghost use Rattle.zilmorga.specs.Numbers.{numbersOf};
-ghost use Rattle.zilmorga.specs.Calls.{left, leaves, told, readTold, onePair, twoPairs, comparison, units, countOf};
+ghost use Rattle.zilmorga.specs.Calls.{left, leaves, told, readTold, onOnePair, onTwoPairs, comparison, units, unitsLeft};
 use crate::numbers::REFUSED;
 use crate::numbers::compared;
 use crate::numbers::number_of;
-use crate::numbers::pair_of;
+use crate::numbers::pair_from;
 use crate::numbers::put;
 use crate::numbers::put_order;
 use deck::Told;
 use pair::Answer;
 use pair::Count;
 use pair::Pair;
-use sheet::Total;
+use totals::Sum;
 
 // The number, with line and field written.
 fn put_told(t: Told, line: &mut usize, field: &mut usize) -> u32
@@ -42,7 +42,7 @@ pub extern "C" fn zilmorga_report(
     ensures { λ r. ⌜ told r (now (line .exit)) (now (field .exit)) ≡ outcomeOf (now (deck .entry)) (length (now (report .entry))) ⌝ }
     ensures { λ _. ⌜ now (report .exit) ≡ bufferOf (now (deck .entry)) (now (report .entry)) ⌝ }
 {
-    let told = sheet::report(deck, report);
+    let told = report::report(deck, report);
     put_told(told, line, field)
 }
 
@@ -61,12 +61,12 @@ pub extern "C" fn zilmorga_read(deck: &[u8], line: &mut usize, field: &mut usize
 pub extern "C" fn zilmorga_total(list: &[u64], sum: &mut u64) -> u32
     ensures { λ r. ⌜ left r (now (sum .exit)) ≡ leaves (λ n. n) (totalOf (now (list .entry))) (now (sum .entry)) ⌝ }
 {
-    match sheet::totals::total(list) {
-        Total::Is(n) => {
+    match totals::total(list) {
+        Sum::Is(n) => {
             *sum = n;
             0
         }
-        Total::Refused => 52,
+        Sum::Refused => 52,
     }
 }
 
@@ -80,45 +80,45 @@ pub extern "C" fn zilmorga_entry(digits: u64, power: i32, out: &mut [i64; 4]) ->
 
 #[no_mangle]
 pub extern "C" fn zilmorga_sum(a: &[i64; 4], b: &[i64; 4], out: &mut [i64; 4]) -> u32
-    ensures { λ r. ⌜ left r (now (out .exit)) ≡ twoPairs calls.sum (now (a .entry)) (now (b .entry)) (now (out .entry)) ⌝ }
+    ensures { λ r. ⌜ left r (now (out .exit)) ≡ onTwoPairs calls.sum (now (a .entry)) (now (b .entry)) (now (out .entry)) ⌝ }
 {
-    let x = pair_of(a);
-    let y = pair_of(b);
+    let x = pair_from(a);
+    let y = pair_from(b);
     put(x.plus(y), out)
 }
 
 #[no_mangle]
 pub extern "C" fn zilmorga_product(a: &[i64; 4], b: &[i64; 4], out: &mut [i64; 4]) -> u32
-    ensures { λ r. ⌜ left r (now (out .exit)) ≡ twoPairs calls.product (now (a .entry)) (now (b .entry)) (now (out .entry)) ⌝ }
+    ensures { λ r. ⌜ left r (now (out .exit)) ≡ onTwoPairs calls.product (now (a .entry)) (now (b .entry)) (now (out .entry)) ⌝ }
 {
-    let x = pair_of(a);
-    let y = pair_of(b);
+    let x = pair_from(a);
+    let y = pair_from(b);
     put(x.times(y), out)
 }
 
 #[no_mangle]
 pub extern "C" fn zilmorga_quotient(a: &[i64; 4], b: &[i64; 4], out: &mut [i64; 4]) -> u32
-    ensures { λ r. ⌜ left r (now (out .exit)) ≡ twoPairs calls.quotient (now (a .entry)) (now (b .entry)) (now (out .entry)) ⌝ }
+    ensures { λ r. ⌜ left r (now (out .exit)) ≡ onTwoPairs calls.quotient (now (a .entry)) (now (b .entry)) (now (out .entry)) ⌝ }
 {
-    let x = pair_of(a);
-    let y = pair_of(b);
+    let x = pair_from(a);
+    let y = pair_from(b);
     put(x.over(y), out)
 }
 
 // 1 − f.
 #[no_mangle]
 pub extern "C" fn zilmorga_one_minus(f: &[i64; 4], out: &mut [i64; 4]) -> u32
-    ensures { λ r. ⌜ left r (now (out .exit)) ≡ onePair calls.oneMinus (now (f .entry)) (now (out .entry)) ⌝ }
+    ensures { λ r. ⌜ left r (now (out .exit)) ≡ onOnePair calls.oneMinus (now (f .entry)) (now (out .entry)) ⌝ }
 {
-    put(pair_of(f).one_minus(), out)
+    put(pair_from(f).one_minus(), out)
 }
 
 // φ at x.
 #[no_mangle]
 pub extern "C" fn zilmorga_series(x: &[i64; 4], out: &mut [i64; 4]) -> u32
-    ensures { λ r. ⌜ left r (now (out .exit)) ≡ onePair (λ p. pairSeries (calls.is p)) (now (x .entry)) (now (out .entry)) ⌝ }
+    ensures { λ r. ⌜ left r (now (out .exit)) ≡ onOnePair (λ p. pairSeries (calls.is p)) (now (x .entry)) (now (out .entry)) ⌝ }
 {
-    let Answer::Is(p) = pair_of(x) else {
+    let Answer::Is(p) = pair_from(x) else {
         return REFUSED;
     };
     put(media::series(p), out)
@@ -137,9 +137,9 @@ pub extern "C" fn zilmorga_compare(end: &[i64; 2], bound: &[i64; 2], at_most: &m
 // The ends of a pair in units of 10^unit: the low end down, the high end up.
 #[no_mangle]
 pub extern "C" fn zilmorga_in_units(p: &[i64; 4], unit: i32, low: &mut u64, high: &mut u64) -> u32
-    ensures { λ r. ⌜ left r (units (now (low .exit)) (now (high .exit))) ≡ countOf (now (p .entry)) unit (units (now (low .entry)) (now (high .entry))) ⌝ }
+    ensures { λ r. ⌜ left r (units (now (low .exit)) (now (high .exit))) ≡ unitsLeft (now (p .entry)) unit (units (now (low .entry)) (now (high .entry))) ⌝ }
 {
-    let Answer::Is(q) = pair_of(p) else {
+    let Answer::Is(q) = pair_from(p) else {
         return REFUSED;
     };
     match q.in_units(unit) {

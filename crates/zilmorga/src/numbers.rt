@@ -9,7 +9,7 @@ use pair::Order;
 use pair::Pair;
 
 // A working number as a caller writes it, or none.
-pub(crate) enum Held {
+pub(crate) enum NumberHeld {
     Is(Number),
     Not,
 }
@@ -18,7 +18,7 @@ pub(crate) enum Held {
 pub(crate) const REFUSED: u32 = 53;
 
 fn within(least: i64, n: i64, most: i64) -> bool
-    ensures { λ r. ⌜ r ≡ specs.within least n most ⌝ }
+    ensures { λ r. ⌜ r ≡ specs.isBetween least n most ⌝ }
 {
     if least <= n {
         return n <= most;
@@ -27,41 +27,41 @@ fn within(least: i64, n: i64, most: i64) -> bool
 }
 
 // A working number's two parts, if each fits its field.
-pub(crate) fn number_of(significand: i64, exponent: i64) -> Held
-    ensures { λ r. ⌜ specs.held r ≡ specs.numberOf significand exponent ⌝ }
+pub(crate) fn number_of(significand: i64, exponent: i64) -> NumberHeld
+    ensures { λ r. ⌜ specs.numberHeld r ≡ specs.numberOf significand exponent ⌝ }
 {
     if !within(0, significand, 4_294_967_295) {
-        return Held::Not;
+        return NumberHeld::Not;
     }
     if !within(-2_147_483_648, exponent, 2_147_483_647) {
-        return Held::Not;
+        return NumberHeld::Not;
     }
-    Held::Is(Number {
+    NumberHeld::Is(Number {
         significand: significand as u32,
         exponent: exponent as i32,
     })
 }
 
-pub(crate) fn pair_of(a: &[i64; 4]) -> Answer
-    ensures { λ r. ⌜ calls.answer r ≡ specs.pairOf (now (a .entry)) ⌝ }
+pub(crate) fn pair_from(a: &[i64; 4]) -> Answer
+    ensures { λ r. ⌜ calls.answer r ≡ specs.pairFrom (now (a .entry)) ⌝ }
 {
-    let Held::Is(low) = number_of(a[0], a[1]) else {
+    let NumberHeld::Is(low) = number_of(a[0], a[1]) else {
         return Answer::Refused;
     };
-    let Held::Is(high) = number_of(a[2], a[3]) else {
+    let NumberHeld::Is(high) = number_of(a[2], a[3]) else {
         return Answer::Refused;
     };
     Answer::Is(Pair { low, high })
 }
 
 // Whether a number is at most a bound, if both are there.
-pub(crate) fn compared(x: Held, y: Held) -> Order
-    ensures { λ r. ⌜ calls.order r ≡ specs.comparedIf (specs.held x) (specs.held y) ⌝ }
+pub(crate) fn compared(x: NumberHeld, y: NumberHeld) -> Order
+    ensures { λ r. ⌜ calls.order r ≡ specs.comparedIf (specs.numberHeld x) (specs.numberHeld y) ⌝ }
 {
-    let Held::Is(a) = x else {
+    let NumberHeld::Is(a) = x else {
         return Order::Refused;
     };
-    let Held::Is(b) = y else {
+    let NumberHeld::Is(b) = y else {
         return Order::Refused;
     };
     a.compare(b)

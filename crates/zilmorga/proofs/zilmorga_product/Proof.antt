@@ -1,15 +1,15 @@
 -- `zilmorga_product` writes the product of two pairs, or refuses. Assumes nothing.
 use mathlib.Core.Path.{refl}
-use Rattle.zilmorga.specs.Calls.{twoPairs}
+use Rattle.zilmorga.specs.Calls.{onTwoPairs}
 use borrow.Author.Needs.{needs}
 use Rattle.zilmorga.proofs.zilmorga_product.Statement.{statement}
 use Rattle.zilmorga.proofs.zilmorga_product.Tie as tie
 
-pair-of-requires : tie.Need-pair-of-requires
-pair-of-requires c κs = search needs
+pair-from-requires : tie.Need-pair-from-requires
+pair-from-requires c κs = search needs
 
-pair-of-requires-2 : tie.Need-pair-of-requires-2
-pair-of-requires-2 c κs = search needs
+pair-from-requires-2 : tie.Need-pair-from-requires-2
+pair-from-requires-2 c κs = search needs
 
 times-requires : tie.Need-times-requires
 times-requires c κs = search needs
@@ -18,9 +18,9 @@ put-requires : tie.Need-put-requires
 put-requires c κs = search needs
 
 returns : tie.Need-returns
-unfolding twoPairs
-returns c = rw (c .put .ensures, c .before .before .times .ensures, c .before .before .before .pair-of2 .ensures, c .before .before .before .before .pair-of .ensures) refl
+unfolding onTwoPairs
+returns c = rw (c .put .ensures, c .before .before .times .ensures, c .before .before .before .pair-from2 .ensures, c .before .before .before .before .pair-from .ensures) refl
 
 pub zilmorga-product-spec : {M : Type 1} → statement M
 zilmorga-product-spec =
-    tie.close (tie.spec pair-of-requires pair-of-requires-2 times-requires put-requires returns)
+    tie.close (tie.spec pair-from-requires pair-from-requires-2 times-requires put-requires returns)

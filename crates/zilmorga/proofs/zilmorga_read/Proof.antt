@@ -17,7 +17,7 @@ put-told-requires c κs = search needs
 returns : tie.Need-returns
 unfolding readTold
 returns c =
-    rw (c .put-told .ensures, c .before .before .before .tell .ensures, c .before .before .before .before .read .ensures) refl
+    rw (c .put-told .ensures, c .before .before .before .tell .ensures, c .before .before .before .before .read .ensures .0) refl
 
 pub zilmorga-read-spec : {M : Type 1} → statement M
 zilmorga-read-spec = tie.close (tie.spec read-requires tell-requires put-told-requires returns)

@@ -1,7 +1,7 @@
 -- `zilmorga_total` writes the sum, or returns 52. Assumes nothing.
 use mathlib.Core.Path.{refl}
 use borrow.Author.Needs.{needs}
-use Rattle.sheet.specs.Totals.{totalled}
+use Rattle.totals.specs.Totals.{totalled}
 use Rattle.zilmorga.specs.Calls.{leaves}
 use Rattle.zilmorga.proofs.zilmorga_total.Statement.{statement}
 use Rattle.zilmorga.proofs.zilmorga_total.Tie as tie

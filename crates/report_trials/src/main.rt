@@ -1,4 +1,4 @@
-// Runs the stored decks of the file `decks` through `sheet::report` and compares each answer, and every byte of the report buffer, with
+// Runs the stored decks of the file `decks` through `report::report` and compares each answer, and every byte of the report buffer, with
 // what is stored.
 //
 // A stored deck is a line of five numbers in 6 columns each, the deck's bytes and the report's bytes. The numbers: the deck's length, the
@@ -178,7 +178,7 @@ fn answered(
     if !read_both(fd, deck, &mut expected[..length]) {
         return at_end(totals);
     }
-    let told = sheet::report(deck, buffer);
+    let told = report::report(deck, buffer);
     let same_bytes = check::same(buffer, expected);
     Step {
         ended: false,

@@ -1,8 +1,8 @@
--- `sheet_trials::trial` is safe and ends. The invariant: the count stays within its bound. Assumes nothing.
+-- `report_trials::trial` is safe and ends. The invariant: the count stays within its bound. Assumes nothing.
 use Prim.Native.Nat.{_-_, _≤_}
 use borrow.Author.Needs.{needs}
-use Rattle.sheet_trials.proofs.trial.Statement.{statement}
-use Rattle.sheet_trials.proofs.trial.Tie as tie
+use Rattle.report_trials.proofs.trial.Statement.{statement}
+use Rattle.report_trials.proofs.trial.Tie as tie
 
 abbrev Inv-loop : tie.InvT-loop
 Inv-loop fd totals₀ i₀ totals i = i ≤ 10000

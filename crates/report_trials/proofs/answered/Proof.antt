@@ -1,9 +1,9 @@
--- `sheet_trials::answered` is safe and ends: the part that takes the report lies in the buffer. Assumes nothing.
+-- `report_trials::answered` is safe and ends: the part that takes the report lies in the buffer. Assumes nothing.
 use mathlib.Core.Path.{sym}
 use lib.Seq.{length-take-le}
 use borrow.Author.Needs.{needs}
-use Rattle.sheet_trials.proofs.answered.Statement.{statement}
-use Rattle.sheet_trials.proofs.answered.Tie as tie
+use Rattle.report_trials.proofs.answered.Statement.{statement}
+use Rattle.report_trials.proofs.answered.Tie as tie
 
 report-length-requires : tie.Need-report-length-requires
 report-length-requires c κs = search needs

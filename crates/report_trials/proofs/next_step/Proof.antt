@@ -1,11 +1,11 @@
--- `sheet_trials::next_step` is safe and ends: each part that is lent is as long as the file says. Assumes nothing.
+-- `report_trials::next_step` is safe and ends: each part that is lent is as long as the file says. Assumes nothing.
 use mathlib.Core.Path.{_≡_, sym, subst}
 use Prim.Native.Nat.{ℕ, _≤_}
 use borrow.Author.Needs.{needs}
 use lib.ListN.{length, take, replicate, length-replicate}
 use lib.Seq.{length-take-le}
-use Rattle.sheet_trials.proofs.next_step.Statement.{statement}
-use Rattle.sheet_trials.proofs.next_step.Tie as tie
+use Rattle.report_trials.proofs.next_step.Statement.{statement}
+use Rattle.report_trials.proofs.next_step.Tie as tie
 
 prefix : (n size : ℕ) → n ≤ size → n ≡ length (take n (replicate {A = ℕ} size 0))
 prefix n size h =

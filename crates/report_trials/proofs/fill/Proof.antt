@@ -1,11 +1,11 @@
--- `sheet_trials::fill` is safe and ends. The invariant: the buffer keeps its length. Assumes nothing.
+-- `report_trials::fill` is safe and ends. The invariant: the buffer keeps its length. Assumes nothing.
 use mathlib.Core.Path.{_≡_, refl}
 use Prim.Native.Nat.{_-_, _≤_}
 use native.Mathlib.Omega.{arith}
 use borrow.Author.Needs.{needs}
 use lib.ListN.{length, length-set}
-use Rattle.sheet_trials.proofs.fill.Statement.{statement}
-use Rattle.sheet_trials.proofs.fill.Tie as tie
+use Rattle.report_trials.proofs.fill.Statement.{statement}
+use Rattle.report_trials.proofs.fill.Tie as tie
 
 abbrev Inv-loop : tie.InvT-loop
 Inv-loop buffer₀ i₀ buffer i = (length buffer ≡ length buffer₀) × (i ≤ length buffer)

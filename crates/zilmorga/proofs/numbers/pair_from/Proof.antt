@@ -2,10 +2,10 @@
 use mathlib.Core.Path.{refl}
 use borrow.Author.Needs.{needs}
 use Rattle.pair.specs.Calls.{answer}
-use Rattle.zilmorga.specs.Numbers.{held, andThen, pairOf}
+use Rattle.zilmorga.specs.Numbers.{numberHeld, andThen, pairFrom}
 use Rattle.zilmorga.proofs.Fields.{passed}
-use Rattle.zilmorga.proofs.numbers.pair_of.Statement.{statement}
-use Rattle.zilmorga.proofs.numbers.pair_of.Tie as tie
+use Rattle.zilmorga.proofs.numbers.pair_from.Statement.{statement}
+use Rattle.zilmorga.proofs.numbers.pair_from.Tie as tie
 
 element-copy-out-number-of : tie.Need-element-copy-out-number-of
 element-copy-out-number-of c = search needs
@@ -23,7 +23,7 @@ enum-told : tie.Need-enum-told
 enum-told c = search needs
 
 returns : tie.Need-returns
-unfolding answer held andThen pairOf
+unfolding answer numberHeld andThen pairFrom
 returns c = rw (← passed (c .before .before .before .before .before .args .a .now) 0 1 (c .before .before .before .before .number-of-arg .given) (c .before .before .before .number-of-arg2 .given) (c .before .before .number-of .ensures), c .enum-told .given .1) refl
 
 element-copy-out-number-of-3 : tie.Need-element-copy-out-number-of-3
@@ -42,21 +42,21 @@ enum-told-2 : tie.Need-enum-told-2
 enum-told-2 c = search needs
 
 returns-2 : tie.Need-returns-2
-unfolding answer held andThen pairOf
+unfolding answer numberHeld andThen pairFrom
 returns-2 c =
     let low = passed (c .before .before .before .before .before .before .before .before .before .before .before .args .a .now) 0 1 (c .before .before .before .before .before .before .before .before .before .before .number-of-arg .given) (c .before .before .before .before .before .before .before .before .before .number-of-arg2 .given) (c .before .before .before .before .before .before .before .before .number-of .ensures) in
     let high = passed (c .before .before .before .before .before .before .before .before .before .before .before .args .a .now) 2 3 (c .before .before .before .before .number-of-arg3 .given) (c .before .before .before .number-of-arg4 .given) (c .before .before .number-of2 .ensures) in
     rw (← low, ← high, c .before .before .before .before .before .before .low .given .1, c .enum-told2 .given .1) refl
 
 returns-3 : tie.Need-returns-3
-unfolding answer held andThen pairOf
+unfolding answer numberHeld andThen pairFrom
 returns-3 c =
     let low = passed (c .before .before .before .before .before .before .before .before .before .before .before .before .args .a .now) 0 1 (c .before .before .before .before .before .before .before .before .before .before .before .number-of-arg .given) (c .before .before .before .before .before .before .before .before .before .before .number-of-arg2 .given) (c .before .before .before .before .before .before .before .before .before .number-of .ensures) in
     let high = passed (c .before .before .before .before .before .before .before .before .before .before .before .before .args .a .now) 2 3 (c .before .before .before .before .before .number-of-arg3 .given) (c .before .before .before .before .number-of-arg4 .given) (c .before .before .before .number-of2 .ensures) in
     rw (← low, ← high, c .before .before .before .before .before .before .before .low .given .1, c .before .high .given .1) refl
 
-pub pair-of-spec : {M : Type 1} → statement M
-pair-of-spec =
+pub pair-from-spec : {M : Type 1} → statement M
+pair-from-spec =
     tie.close
     (tie.spec
     element-copy-out-number-of
