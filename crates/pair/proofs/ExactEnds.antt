@@ -4,7 +4,7 @@ use mathlib.Core.Path.{_≡_, refl, sym, _∙_, ap, ap₂}
 use mathlib.Core.Bool.{Bool, true, false}
 use mathlib.Core.Logic.{_⊎_, inl, inr}
 use Prim.Native.Nat.{ℕ, zero, suc, _+_, _-_, _*_, _%_, _^_, _≤_, _<_}
-use native.Mathlib.Nat.{mul-le-mul-right, lt-of-mul-lt-mul-right, mul-pos, eq-zero-or-pos, mul-sub, mul-comm, mul-mod-left, le-dest}
+use native.Mathlib.Nat.{mul-le-mul-right, lt-of-mul-lt-mul-right, mul-pos, eq-zero-or-pos, mul-sub, mul-comm, mul-mod-left, le-dest, le-antisymm, add-zero}
 use native.Mathlib.Omega.{arith}
 use lib.Dec.{ltb, lit<}
 use lib.IntN.{ℤ, pos, negsuc, _+ℤ_, _-ℤ_, subℕ}
@@ -133,51 +133,74 @@ rest-link u v s a b p c i j h =
     turn : (d s t p : ℕ) → d * s ≡ t → t * (1 * p) ≡ d * (p * s)
     turn d s t p e = omega (arith, ap (λ (n : ℕ). n * p) e)
 
-pub rest-ratio : (f : Number) → Working f → Ratio (rest (value f)) (unitsAt (lower one f) one - unitsAt (lower one f) f) 1 (lower one f)
+pub place-whole : place (pos 0) ≡ depth
+unfolding place
+place-whole = add-zero depth
+
+pub whole-small : Small (pos 0)
+whole-small = record { small = lit< tt }
+
+pub rest-ratio : (f : Number) → mag (f .exponent) < 100000 →
+    Ratio (rest (value f)) (10 ^ rise (lesser (f .exponent) (pos 0)) (pos 0) - unitsAt (lesser (f .exponent) (pos 0)) f) 1 (lesser (f .exponent) (pos 0))
 unfolding rest value
-rest-ratio f p =
-    let l : Aligned (lower one f) one f = aligned one f (working one one-number) p in
+rest-ratio f h =
+    let s : ℤ = lesser (f .exponent) (pos 0) in
+    let x : Small (f .exponent) = size-small h in
+    let l = lesser-below x whole-small in
     record {
       proper = ten-above depth;
       divisor = lit< tt;
-      size = omega (arith, l .small .small);
+      size = omega (arith, l .0 .small);
       link =
-          rest-link (unitsAt (lower one f) one) (unitsAt (lower one f) f) (10 ^ place (lower one f)) (one .significand * 10 ^ place (one .exponent))
-          (f .significand * 10 ^ place (f .exponent)) (10 ^ depth) (10 ^ depth) (l .first) (l .second) one-value;
-      figures = some-or-none (unitsAt (lower one f) one - unitsAt (lower one f) f);
+          rest-link (10 ^ rise s (pos 0)) (unitsAt s f) (10 ^ place s) (10 ^ place (pos 0)) (f .significand * 10 ^ place (f .exponent)) (10 ^ depth) (10 ^ depth)
+          (power-rise s (pos 0) (l .0) whole-small (l .2)) (units-scaled f s x (l .0) (l .1)) (ap (λ (i : ℕ). 10 ^ i) place-whole);
+      figures = some-or-none (10 ^ rise s (pos 0) - unitsAt s f);
     }
 
--- what nine figures leave of 1 is 0 or 10^−9 at least
-rest-least : (m p c : ℕ) → m ≤ 999999999 → (m ≡ 0) ⊎ (100000000 ≤ m) → m * 10 ^ p < 10 ^ c → 10 ^ c ≤ (10 ^ c - m * 10 ^ p) * 10 ^ 9
-rest-least m p c h f l =
-    by-cases (ltb c (9 + p))
-    (λ t. near f (ten-rises (below (ltb-true c (9 + p) t))))
-    (λ t. let a : 10 ^ (9 + p) ≤ 10 ^ c = ten-rises (ltb-false c (9 + p) t) in omega (arith, ten-add 9 p, mul-le-mul-right (10 ^ p) h))
+-- what m units of 10^p, with m of k figures at most, leave of 10^c is 0 or at least the 10^k-th part of it
+rest-least : (k m p c : ℕ) → 0 < k → m < 10 ^ k → m * 10 ^ p < 10 ^ c → 10 ^ c ≤ (10 ^ c - m * 10 ^ p) * 10 ^ k
+rest-least k m p c z h l =
+    by-cases (ltb (k + p) c)
+    (λ t. far (ten-rises {i = 1 + (k + p)} (next (ltb-true (k + p) c t))))
+    (λ t. by-cases (ltb c p) (λ u. high (ltb-true c p u)) (λ u. near (le-dest (ltb-false c p u)) (ten-rises (ltb-false (k + p) c t))))
   where
-    below : c < 9 + p → c ≤ 8 + p
-    below i = omega arith
+    next : k + p < c → 1 + (k + p) ≤ c
+    next i = omega arith
 
-    near : (m ≡ 0) ⊎ (100000000 ≤ m) → 10 ^ c ≤ 10 ^ (8 + p) → 10 ^ c ≤ (10 ^ c - m * 10 ^ p) * 10 ^ 9
-    near (inl z) a = omega (arith, ap (λ (n : ℕ). n * 10 ^ p) z)
-    near (inr i) a = absurd (omega (arith, ten-add 8 p, mul-le-mul-right (10 ^ p) i))
+    -- far below 1, so that most is left
+    far : 10 ^ (1 + (k + p)) ≤ 10 ^ c → 10 ^ c ≤ (10 ^ c - m * 10 ^ p) * 10 ^ k
+    far a =
+        omega
+        (arith, ten-add 1 (k + p), ten-add k p, mul-le-mul-right (10 ^ p) h, mul-le-mul-right {m = 2} {n = 10 ^ k} (10 ^ c - m * 10 ^ p) (omega (arith, ten-rises {i = 1} {j = k} z)))
 
-pub rest-sized : (f : Number) → Working f → value f ≤ᶠ value one → Sized 9 (rest (value f))
+    -- nothing is taken
+    high : c < p → 10 ^ c ≤ (10 ^ c - m * 10 ^ p) * 10 ^ k
+    high a =
+        let none : m ≡ 0 = le-antisymm (omega (arith, lt-of-mul-lt-mul-right (10 ^ p) {m = m} {n = 1} (omega (arith, ten-rises {i = c} {j = p} (omega arith))))) (omega arith) in
+        let left : 10 ^ c - m * 10 ^ p ≡ 10 ^ c = omega (arith, ap (λ (n : ℕ). n * 10 ^ p) none) in
+        rw left (omega (arith, mul-le-mul-right {m = 1} {n = 10 ^ k} (10 ^ c) (ten-above k)))
+
+    -- a whole number of units is left
+    near : (j : ℕ) × (p + j ≡ c) → 10 ^ c ≤ 10 ^ (k + p) → 10 ^ c ≤ (10 ^ c - m * 10 ^ p) * 10 ^ k
+    near (j, i) a =
+        let whole : 10 ^ c ≡ 10 ^ j * 10 ^ p = ap (λ (n : ℕ). 10 ^ n) (sym i) ∙ ten-add p j ∙ mul-comm (10 ^ p) (10 ^ j) in
+        let unit : 10 ^ p ≤ 10 ^ c - m * 10 ^ p = omega (arith, whole, mul-le-mul-right {m = m + 1} {n = 10 ^ j} (10 ^ p) (omega (arith, lt-of-mul-lt-mul-right (10 ^ p) {m = m} {n = 10 ^ j} (omega (arith, whole))))) in
+        omega (arith, ten-add k p, mul-le-mul-right (10 ^ k) unit)
+
+-- 1 less a number of k figures that is at most 1
+pub rest-sized : (k : ℕ) (f : Number) → 0 < k → f .significand < 10 ^ k → f .significand * 10 ^ place (f .exponent) ≤ 10 ^ depth → Sized k (rest (value f))
 unfolding rest value
-rest-sized f p h =
+rest-sized k f z h l =
+    let x : ℕ = f .significand * 10 ^ place (f .exponent) in
     record {
       sized =
-          by-cases (ltb (f .significand * 10 ^ place (f .exponent)) (10 ^ depth))
-          (λ t.
-          inr (
-            rest-least (f .significand) (place (f .exponent)) depth (p .most) (nought (p .least)) (ltb-true (f .significand * 10 ^ place (f .exponent)) (10 ^ depth) t),
-            omega arith,
+          by-cases (ltb x (10 ^ depth))
+          (λ t. inr (
+            rest-least k (f .significand) (place (f .exponent)) depth z h (ltb-true x (10 ^ depth) t),
+            omega (arith, mul-le-mul-right {m = 1} {n = 10 ^ k} (10 ^ depth) (ten-above k)),
           ))
-          (λ t. inl (omega (arith, ltb-false (f .significand * 10 ^ place (f .exponent)) (10 ^ depth) t)));
+          (λ t. inl (omega (arith, ltb-false x (10 ^ depth) t)));
     }
-  where
-    nought : (f ≡ N.zero) ⊎ (100000000 ≤ f .significand) → (f .significand ≡ 0) ⊎ (100000000 ≤ f .significand)
-    nought (inl z) = inl (ap (λ (w : Number). w .significand) z ∙ zero-significand)
-    nought (inr l) = inr l
 
 pub entry-ratio : (m : ℕ) (e : ℤ) → mag e < 100000 → Ratio (scaled m e) m 1 e
 unfolding scaled
@@ -186,20 +209,20 @@ entry-ratio m e h =
 
 -- wide enough for every entry; a power of ten never computes with it
 pub wide : ℕ
-wide = 99010
+wide = 99020
 
-pub wide-is : wide ≡ 99010
+pub wide-is : wide ≡ 99020
 unfolding wide
 wide-is = refl
 
-pub entry-sized : (m : ℕ) (e : ℤ) → m ≤ 999999999 → mag e ≤ 99000 → Sized wide (scaled m e)
+pub entry-sized : (m : ℕ) (e : ℤ) → m ≤ 999999999999 → mag e ≤ 99000 → Sized wide (scaled m e)
 unfolding scaled
 entry-sized m e h l = record { sized = go (eq-zero-or-pos m) }
   where
     low : depth ≤ place e + wide
     low = omega (arith, place-near e l, wide-is)
 
-    high : 9 + place e ≤ depth + wide
+    high : 12 + place e ≤ depth + wide
     high = omega (arith, place-near e l, wide-is)
 
     go : (m ≡ 0) ⊎ (0 < m) → (m * 10 ^ place e ≡ 0) ⊎ ((10 ^ depth ≤ m * 10 ^ place e * 10 ^ wide) × (m * 10 ^ place e ≤ 10 ^ depth * 10 ^ wide))
@@ -207,7 +230,7 @@ entry-sized m e h l = record { sized = go (eq-zero-or-pos m) }
     go (inr p) =
         inr (
           omega (arith, ten-rises low, ten-add (place e) wide, mul-le-mul-right {m = 1} (10 ^ place e * 10 ^ wide) p),
-          omega (arith, ten-rises high, ten-add 9 (place e), ten-add depth wide, mul-le-mul-right (10 ^ place e) h),
+          omega (arith, ten-rises high, ten-add 12 (place e), ten-add depth wide, mul-le-mul-right (10 ^ place e) h),
         )
 
 -- m with k zeros behind it, and the exponent less by k, is the same number

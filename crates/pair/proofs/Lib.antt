@@ -9,13 +9,13 @@ mod Numbers
 mod Shares
 mod Alignment
 mod Sums
-mod Rests
 mod Counts
 mod Providing
 mod Ordered
 mod Fractions
 mod Nearest
 mod ExactEnds
+mod Rests
 mod Keeps
 mod Answers
 mod Sizes

@@ -4,14 +4,14 @@ use mathlib.Core.Path.{_≡_, refl, sym, _∙_, ap, ap₂}
 use mathlib.Core.Bool.{Bool, true, false}
 use mathlib.Core.Logic.{_⊎_, inl, inr}
 use Prim.Native.Nat.{ℕ, zero, suc, _+_, _-_, _*_, _^_, _≤_, _<_}
-use native.Mathlib.Nat.{mul-le-mul-right, mul-lt-mul-of-pos-right, le-of-mul-le-mul-right, lt-of-mul-lt-mul-right, mul-pos, le-trans, le-dest, le-antisymm}
+use native.Mathlib.Nat.{mul-le-mul-right, mul-lt-mul-of-pos-right, le-of-mul-le-mul-right, lt-of-mul-lt-mul-right, mul-pos, le-trans, le-dest, le-antisymm, add-mul}
 use native.Mathlib.Omega.{arith}
 use lib.Dec.{ltb, lit<, lit≤}
 use lib.IntN.{ℤ, pos, negsuc, _+ℤ_, subℕ}
 use lib.Signed.{mag}
 use borrow.Author.Tests.{ltb-true, ltb-false, lt-ltb}
 use Rattle.pair.specs.declared.Number.{Number}
-use Rattle.pair.specs.Fraction.{Fraction}
+use Rattle.pair.specs.Fraction.{Fraction, _≤ᶠ_}
 use Rattle.pair.specs.Number as N
 use Rattle.pair.specs.Number.{isNumber, inReach, depth, place, value}
 use Rattle.pair.specs.Rounding.{divided, excess, carried, rounded}
@@ -245,6 +245,20 @@ module _ {x : Fraction} {n d : ℕ} {e : ℤ} (r : Ratio x (suc n) d e) (some : 
       (carries up .same) (least-units up) (figures .0)
       up (whole up (x .num * 10 ^ depth) (10 ^ place raised * x .den) unit-above)
 
+  -- both directions of one fraction differ by one unit at most
+  narrow-some : value (rounded true (suc n) d e) ≤ᶠ grown (value (rounded false (suc n) d e))
+  unfolding value grown units
+  narrow-some =
+      let b : ℕ = x .num * 10 ^ depth in
+      let a : ℕ = 10 ^ place raised * x .den in
+      let next : units true ≤ units false + 1 = divided-most true b a (units false + 1) unit-above (rw (add-mul (units false) 1 a) (omega (arith, down-most b a unit-above))) in
+      let parts : units true * 100000000 ≤ units false * 100000001 = omega (arith, next, least-units false) in
+      record {
+        across =
+            omega
+            (arith, ap (λ (i : ℕ). i * (10 ^ depth * 100000000)) (carries true .same), ap (λ (i : ℕ). i * (100000001 * 10 ^ depth)) (carries false .same), mul-le-mul-right (10 ^ place raised * 10 ^ depth) parts);
+      }
+
   -- a working number is rounded to itself
   module _ (v : Number) (number-v : isNumber v ≡ true) (same : x =ᶠ value v) where
     inLeast : ℕ
@@ -363,6 +377,14 @@ pub rounded-reach : (up : Bool) {x : Fraction} {n d : ℕ} {e : ℤ} → Ratio x
 unfolding rounded N.zero inReach
 rounded-reach up {n = zero} r k s h = refl
 rounded-reach up {n = suc n} r k s h = reach-some r (enough r) up k s h
+
+narrow-none : (d : ℕ) (e : ℤ) → value (rounded true 0 d e) ≤ᶠ grown (value (rounded false 0 d e))
+unfolding rounded value grown N.zero
+narrow-none d e = record { across = omega arith }
+
+pub rounded-narrow : {x : Fraction} {n d : ℕ} {e : ℤ} → Ratio x n d e → value (rounded true n d e) ≤ᶠ grown (value (rounded false n d e))
+rounded-narrow {n = zero} {d} {e} r = narrow-none d e
+rounded-narrow {n = suc n} r = narrow-some r (enough r)
 
 -- A working number is rounded to itself.
 pub rounded-itself : (up : Bool) {x : Fraction} {n d : ℕ} {e : ℤ} → Ratio x n d e → (v : Number) → isNumber v ≡ true → x =ᶠ value v → rounded up n d e ≡ v

@@ -41,16 +41,16 @@ ten-falls {i} {j} h =
     absurd (omega (arith, ten-add 1 j, ten-above j)))
     (λ t. ltb-false j i t)
 
--- 10^g, for at most nine places, as the code has it
+-- 10^g, for at most eleven places, as the code has it
 pub record Power (g p : ℕ) : Type 0 where
   pub is : p ≡ 10 ^ g
   pub least : 0 < p
-  pub most : p ≤ 1000000000
+  pub most : p ≤ 100000000000
 
-pub power : (g p : ℕ) → g ≤ 9 → p ≡ 10 ^ g → Power g p
+pub power : (g p : ℕ) → g ≤ 11 → p ≡ 10 ^ g → Power g p
 power g p h e =
     record {
       is = e;
       least = subst (λ (x : ℕ). 0 < x) (sym e) (ten-above g);
-      most = subst (λ (x : ℕ). x ≤ 1000000000) (sym e) (ten-rises {j = 9} h);
+      most = subst (λ (x : ℕ). x ≤ 100000000000) (sym e) (ten-rises {j = 11} h);
     }

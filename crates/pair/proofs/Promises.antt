@@ -19,8 +19,8 @@ use Rattle.pair.specs.Fraction.{Fraction, Proper, _≤ᶠ_, plus, times,
 use Rattle.pair.specs.Number as N
 use Rattle.pair.specs.Number.{isZero, zeroExponent, unitsAt, lower, lesser, rise, inReach, isNumber, isPair, atMost, value, place, depth, one}
 use Rattle.pair.specs.Rounding.{rounded, restEnd, unitsEnd, divided}
-use Rattle.pair.specs.Calls.{is, zeroPair, onePair, ends, checked, entry, sum, product, quotient, oneMinus, compared, inUnits}
-use Rattle.pair.specs.Promises.{Operation, sums, products, quotients, call, exactResult, lowEnd, highEnd, withLow, withHigh, Holds, Beside, Rounded, Sized, _≤ₑ_, scaled}
+use Rattle.pair.specs.Calls.{is, zeroPair, onePair, ends, checked, mostPrinted, entry, oneMinusEntry, sum, product, quotient, oneMinus, compared, inUnits}
+use Rattle.pair.specs.Promises.{Operation, sums, products, quotients, call, exactResult, lowEnd, highEnd, withLow, withHigh, Holds, Beside, Close, grown, Rounded, Around, Sized, _≤ₑ_, scaled}
 use Rattle.pair.proofs.Exponents.{mag-minus}
 use Rattle.pair.proofs.Alignment.{order-level}
 use Rattle.pair.proofs.Powers.{ten-above, ten-reflects}
@@ -31,7 +31,8 @@ unfoldable pub use Rattle.pair.proofs.Fractions.{Usable, Along}
 use Rattle.pair.proofs.Numbers.{both, reach-mag, number-reach}
 use Rattle.pair.proofs.Ordered.{both-from, number, number-from, zero-number, Working, working, not-at-most, size-small}
 pub use Rattle.pair.proofs.Ordered.{at-most, value-proper, size-reach}
-use Rattle.pair.proofs.Nearest.{rounded-nearest, rounded-reach, rounded-itself}
+use Rattle.pair.proofs.Nearest.{rounded-nearest, rounded-reach, rounded-narrow, rounded-itself}
+use Rattle.pair.proofs.Rests.{share-from}
 use Rattle.pair.proofs.ExactEnds.{endOf, end-rounds, end-reach, end-itself, one-number, one-value, rest-ratio, rest-sized, entry-ratio, entry-sized, entry-same, entry-zeros, wide, wide-is, units-divided}
 pub use Rattle.pair.proofs.Keeps.{stays-above, stays-below, keeps-order, sized-end}
 pub use Rattle.pair.proofs.Sizes.{joint-size, sized-on}
@@ -234,8 +235,8 @@ rest-rounds f r h =
     let t : RestTold f r = rest-told f r h in
     let o : Ordered f = ordered f (t .operand) in
     rw (t .ends-is) (
-      rounded-nearest false (rest-ratio (f .high) (working (f .high) (o .high))) (t .low-reach),
-      rounded-nearest true (rest-ratio (f .low) (working (f .low) (o .low))) (t .high-reach),
+      rounded-nearest false (rest-ratio (f .high) (working (f .high) (o .high) .reach)) (t .low-reach),
+      rounded-nearest true (rest-ratio (f .low) (working (f .low) (o .low) .reach)) (t .high-reach),
     )
 
 rest-proper : (w : Number) → Proper (rest (value w))
@@ -277,21 +278,24 @@ rest-falls f f' r r' h h' a =
       high = keeps-order true (d' .1) (d .1) (rest-proper (f' .low)) (rest-proper (f .low)) (rest-falls-exactly (a .low));
     }
 
+-- What nine figures leave of 1 is 0 or at least 10^−9.
+rest-nine : (w : Number) → isNumber w ≡ true → value w ≤ᶠ value one → Sized 9 (rest (value w))
+unfolding value
+rest-nine w n h = rest-sized 9 w (lit< tt) (omega (arith, working w n .most)) (most-one w .0 h)
+
 -- 1 − f is answered for every pair whose high end is at most 1.
 pub rest-answered : (f : Pair) → isPair f ≡ true → value (f .high) .num ≤ value (f .high) .den → (r : Pair) × (oneMinus f ≡ is r)
 unfolding oneMinus restEnd
 rest-answered f p h =
     let o : Ordered f = ordered f p in
     let m : value (f .high) ≤ᶠ value one = most-one (f .high) .1 h in
-    let l : value (f .low) ≤ᶠ value one = through (value-proper (f .high)) (o .rising) m in
-    let a : Working (f .high) = working (f .high) (o .high) in
-    let b : Working (f .low) = working (f .low) (o .low) in (
+    let l : value (f .low) ≤ᶠ value one = through (value-proper (f .high)) (o .rising) m in (
       pair (restEnd false (f .high)) (restEnd true (f .low)),
       provided-true (ends (restEnd false (f .high)) (restEnd true (f .low)))
           (both-from p (at-most (f .high) one (o .high) one-number .1 m))
           ∙ ends-from (restEnd false (f .high)) (restEnd true (f .low))
-          (rounded-reach false (rest-ratio (f .high) a) 9 (rest-sized (f .high) a m) (lit≤ tt))
-          (rounded-reach true (rest-ratio (f .low) b) 9 (rest-sized (f .low) b l) (lit≤ tt)),
+          (rounded-reach false (rest-ratio (f .high) (working (f .high) (o .high) .reach)) 9 (rest-nine (f .high) (o .high) m) (lit≤ tt))
+          (rounded-reach true (rest-ratio (f .low) (working (f .low) (o .low) .reach)) 9 (rest-nine (f .low) (o .low) l) (lit≤ tt)),
     )
 
 -- The ends of 1 − f are 0 or from 10^−9 to 10^9.
@@ -301,14 +305,34 @@ rest-within f r h =
     let o : Ordered f = ordered f (t .operand) in
     let d = rest-rounds f r h in
     record {
-      low = sized-end false (d .0) (rest-proper (f .high)) 9 (rest-sized (f .high) (working (f .high) (o .high)) (t .most)) (lit≤ tt);
-      high =
-          sized-end true (d .1) (rest-proper (f .low)) 9
-          (rest-sized (f .low) (working (f .low) (o .low)) (through (value-proper (f .high)) (o .rising) (t .most))) (lit≤ tt);
+      low = sized-end false (d .0) (rest-proper (f .high)) 9 (rest-nine (f .high) (o .high) (t .most)) (lit≤ tt);
+      high = sized-end true (d .1) (rest-proper (f .low)) 9 (rest-nine (f .low) (o .low) (through (value-proper (f .high)) (o .rising) (t .most))) (lit≤ tt);
     }
 
+-- A pair around a proper fraction x is a pair, holds x, is as large as x and above 0 where x is.
+module _ {x : Fraction} {p : Pair} (a : Around x p) (m : Proper x) where
+  pub around-pair : isPair p ≡ true
+  unfolding Beside
+  around-pair = pair-from p (record { low = a .low .working; high = a .high .working; rising = through m (a .low .side) (a .high .side) })
+
+  pub around-holds : Holds p x
+  unfolding Beside
+  around-holds = record { proper = m; low = a .low .side; high = a .high .side }
+
+  pub around-within : (k : ℕ) → Sized k x → k ≤ 99991 → Within k p
+  around-within k s n = record { low = sized-end false (a .low) m k s n; high = sized-end true (a .high) m k s n }
+
+  pub around-above : 0 < x .num → 0 < value (p .low) .num
+  unfolding Close grown
+  around-above h =
+      lt-of-mul-lt-mul-right (x .den * 100000001) {m = 0}
+      (omega (arith, a .low .close .across, mul-pos h (value-proper (p .low) .above-zero)))
+
+-- Both its ends rise with x.
+pub around-rises : {x x' : Fraction} {p p' : Pair} → Around x p → Around x' p' → Proper x → Proper x' → x ≤ᶠ x' → _≤ₑ_ p p'
+around-rises a b m m' h = record { low = keeps-order false (a .low) (b .low) m m' h; high = keeps-order true (a .high) (b .high) m m' h }
+
 record EntryTold (m : ℕ) (e : ℤ) (r : Pair) : Type 0 where
-  digits : m ≤ 999999999
   reach : inReach e ≡ true
   low-reach : inReach (rounded false m 1 e .exponent) ≡ true
   high-reach : inReach (rounded true m 1 e .exponent) ≡ true
@@ -317,67 +341,84 @@ record EntryTold (m : ℕ) (e : ℤ) (r : Pair) : Type 0 where
 entry-told : (m : ℕ) (e : ℤ) (r : Pair) → entry m e ≡ is r → EntryTold m e r
 unfolding entry
 entry-told m e r h =
-    let t = provided-is (leb m 999999999 && inReach e) (ends (rounded false m 1 e) (rounded true m 1 e)) r h in
-    let a = both (leb m 999999999) (inReach e) (t .0) in
+    let t = provided-is (leb m mostPrinted && inReach e) (ends (rounded false m 1 e) (rounded true m 1 e)) r h in
+    let a = both (leb m mostPrinted) (inReach e) (t .0) in
     let b = ends-are (rounded false m 1 e) (rounded true m 1 e) r (t .1) in
-    record { digits = leb-true m 999999999 (a .0); reach = a .1; low-reach = b .0; high-reach = b .1; ends-is = b .2 }
+    record { reach = a .1; low-reach = b .0; high-reach = b .1; ends-is = b .2 }
 
--- Both ends of an entry are m × 10^e rounded.
-pub entry-rounds : (m : ℕ) (e : ℤ) (r : Pair) → entry m e ≡ is r → Rounded false (scaled m e) (r .low) × Rounded true (scaled m e) (r .high)
-entry-rounds m e r h =
+-- An entry is the pair around m × 10^e.
+pub entry-around : (m : ℕ) (e : ℤ) (r : Pair) → entry m e ≡ is r → Around (scaled m e) r
+entry-around m e r h =
     let t : EntryTold m e r = entry-told m e r h in
-    rw (t .ends-is) (
-      rounded-nearest false (entry-ratio m e (reach-mag e (t .reach))) (t .low-reach),
-      rounded-nearest true (entry-ratio m e (reach-mag e (t .reach))) (t .high-reach),
-    )
+    let x = entry-ratio m e (reach-mag e (t .reach)) in
+    rw (t .ends-is)
+    (record { low = rounded-nearest false x (t .low-reach); high = rounded-nearest true x (t .high-reach); narrow = rounded-narrow x })
 
 -- m × 10^e is a proper fraction.
 pub scaled-proper : (m : ℕ) (e : ℤ) → Proper (scaled m e)
 unfolding scaled
 scaled-proper m e = record { above-zero = ten-above depth }
 
--- An entry has equal ends and holds m × 10^e, so it is m × 10^e exactly.
-pub entry-exact : (m : ℕ) (e : ℤ) (r : Pair) → entry m e ≡ is r → (r .low ≡ r .high) × Holds r (scaled m e)
-unfolding Beside
-entry-exact m e r h =
-    let t : EntryTold m e r = entry-told m e r h in
-    let d = entry-rounds m e r h in (
-      rw (t .ends-is) (entry-same m e (t .digits)),
-      record { proper = scaled-proper m e; low = d .0 .side; high = d .1 .side },
-    )
+-- An entry of at most nine digits has equal ends and holds m × 10^e, so it is m × 10^e exactly.
+pub entry-exact : (m : ℕ) (e : ℤ) (r : Pair) → m ≤ 999999999 → entry m e ≡ is r → (r .low ≡ r .high) × Holds r (scaled m e)
+entry-exact m e r d h =
+    (rw (entry-told m e r h .ends-is) (entry-same m e d), around-holds (entry-around m e r h) (scaled-proper m e))
 
--- An entry is a pair.
-pub entry-pair : (m : ℕ) (e : ℤ) (r : Pair) → entry m e ≡ is r → isPair r ≡ true
-unfolding Beside
-entry-pair m e r h =
-    let d = entry-rounds m e r h in
-    pair-from r (record { low = d .0 .working; high = d .1 .working; rising = through (scaled-proper m e) (d .0 .side) (d .1 .side) })
-
--- An entry of at most nine digits is answered for every exponent from −99000 to 99000.
-pub entry-answered : (m : ℕ) (e : ℤ) → m ≤ 999999999 → mag e ≤ 99000 → (r : Pair) × (entry m e ≡ is r)
+-- An entry of at most twelve digits is answered for every exponent from −99000 to 99000.
+pub entry-answered : (m : ℕ) (e : ℤ) → m ≤ mostPrinted → mag e ≤ 99000 → (r : Pair) × (entry m e ≡ is r)
 unfolding entry
 entry-answered m e h l =
     let s : mag e < 100000 = omega arith in (
       pair (rounded false m 1 e) (rounded true m 1 e),
-      provided-true (ends (rounded false m 1 e) (rounded true m 1 e)) (both-from (le-leb m 999999999 h) (size-reach e (omega arith)))
+      provided-true (ends (rounded false m 1 e) (rounded true m 1 e)) (both-from (le-leb m mostPrinted h) (size-reach e (omega arith)))
           ∙ ends-from (rounded false m 1 e) (rounded true m 1 e)
           (rounded-reach false (entry-ratio m e s) wide (entry-sized m e h l) (omega (arith, wide-is)))
           (rounded-reach true (entry-ratio m e s) wide (entry-sized m e h l) (omega (arith, wide-is))),
     )
 
--- An entry is as large as m × 10^e.
-pub entry-within : (m : ℕ) (e : ℤ) (r : Pair) (k : ℕ) → entry m e ≡ is r → Sized k (scaled m e) → k ≤ 99991 → Within k r
-entry-within m e r k h s n =
-    let d = entry-rounds m e r h in
-    record { low = sized-end false (d .0) (scaled-proper m e) k s n; high = sized-end true (d .1) (scaled-proper m e) k s n }
+-- Both ends of an entry rise with m × 10^e.
+pub entry-rises : (m m' : ℕ) (e e' : ℤ) (r r' : Pair) → entry m e ≡ is r → entry m' e' ≡ is r' → scaled m e ≤ᶠ scaled m' e' → _≤ₑ_ r r'
+entry-rises m m' e e' r r' h h' l = around-rises (entry-around m e r h) (entry-around m' e' r' h') (scaled-proper m e) (scaled-proper m' e') l
 
 -- An entry of more than 0 is above 0.
 pub entry-above : (m : ℕ) (e : ℤ) (r : Pair) → entry m e ≡ is r → 0 < m → 0 < value (r .low) .num
-unfolding value scaled
-entry-above m e r h p =
-    let x = entry-exact m e r h in
-    rw (x .0)
-    (omega (arith, le-of-mul-le-mul-right {k = 10 ^ depth} (x .1 .high .across) (ten-above depth), mul-pos p (ten-above (place e))))
+unfolding scaled
+entry-above m e r h p = around-above (entry-around m e r h) (scaled-proper m e) (mul-pos p (ten-above (place e)))
+
+-- 1 less m × 10^e, of at most 1, is a proper fraction, and 0 or at least 10^−12.
+pub rest-scaled-proper : (m : ℕ) (e : ℤ) → Proper (rest (scaled m e))
+unfolding scaled rest
+rest-scaled-proper m e = record { above-zero = ten-above depth }
+
+pub rest-scaled-sized : (m : ℕ) (e : ℤ) → m ≤ mostPrinted → scaled m e .num ≤ scaled m e .den → Sized 12 (rest (scaled m e))
+unfolding scaled value
+rest-scaled-sized m e h l = rest-sized 12 (number m e) (lit< tt) (omega arith) l
+
+-- 1 − m × 10^e from the printed digits is the pair around it.
+pub rest-entry-around : (m : ℕ) (e : ℤ) (r : Pair) → oneMinusEntry m e ≡ is r → Around (rest (scaled m e)) r
+unfolding oneMinusEntry restEnd scaled value
+rest-entry-around m e r h =
+    let f : Number = number m e in
+    let t = provided-is (leb m mostPrinted && (inReach e && atMost f one)) (ends (restEnd false f) (restEnd true f)) r h in
+    let a = both (leb m mostPrinted) (inReach e && atMost f one) (t .0) in
+    let b = ends-are (restEnd false f) (restEnd true f) r (t .1) in
+    let x = rest-ratio f (reach-mag e (both (inReach e) (atMost f one) (a .1) .0)) in
+    rw (b .2) (record { low = rounded-nearest false x (b .0); high = rounded-nearest true x (b .1); narrow = rounded-narrow x })
+
+-- It is answered for at most twelve digits, an exponent from −99000 to 99000 and a value of at most 1.
+pub rest-entry-answered : (m : ℕ) (e : ℤ) → m ≤ mostPrinted → mag e ≤ 99000 → scaled m e .num ≤ scaled m e .den → (r : Pair) × (oneMinusEntry m e ≡ is r)
+unfolding oneMinusEntry restEnd scaled value
+rest-entry-answered m e h l k =
+    let f : Number = number m e in
+    let s : mag e < 100000 = omega arith in
+    let z : Sized 12 (rest (value f)) = rest-sized 12 f (lit< tt) (omega arith) k in (
+      pair (restEnd false f) (restEnd true f),
+      provided-true (ends (restEnd false f) (restEnd true f))
+          (both-from (le-leb m mostPrinted h) (both-from (size-reach e (omega arith)) (share-from m e s k)))
+          ∙ ends-from (restEnd false f) (restEnd true f)
+          (rounded-reach false (rest-ratio f s) 12 z (lit≤ tt))
+          (rounded-reach true (rest-ratio f s) 12 z (lit≤ tt)),
+    )
 
 -- Nine figures and an exponent in reach make a working number.
 pub number-written : (m : ℕ) (e : ℤ) → 100000000 ≤ m → m ≤ 999999999 → mag e < 99999 → isNumber (number m e) ≡ true
@@ -386,7 +427,7 @@ number-written m e l h n = number-from (number m e) l h (size-reach e n)
 few-zeros : (m k : ℕ) → 100000000 ≤ m * 10 ^ k → m * 10 ^ k ≤ 999999999 → k ≤ 9
 few-zeros m k l h = omega (arith, ten-reflects {i = k} {j = 9} (omega (arith, mul-le-mul-right {m = 1} {n = m} (10 ^ k) (lt-of-mul-lt-mul-right (10 ^ k) {m = 0} (omega arith)))))
 
-digits-few : (m k : ℕ) → m * 10 ^ k ≤ 999999999 → m ≤ 999999999
+digits-few : (m k : ℕ) → m * 10 ^ k ≤ 999999999 → m ≤ mostPrinted
 digits-few m k h = omega (arith, mul-le-mul-right {m = 1} {n = 10 ^ k} m (ten-above k))
 
 -- An entry of m is m with zeros behind it to nine figures, and the exponent less by as many.
@@ -401,7 +442,7 @@ entry-written m k e l h n =
     let w : isNumber v ≡ true = number-from v l h r in
     let low : rounded false m 1 e ≡ v = rounded-itself false (entry-ratio m e s) v w (entry-zeros m k e s few) in
     let high : rounded true m 1 e ≡ v = rounded-itself true (entry-ratio m e s) v w (entry-zeros m k e s few) in
-    provided-true (ends (rounded false m 1 e) (rounded true m 1 e)) (both-from (le-leb m 999999999 (digits-few m k h)) (size-reach e (omega arith)))
+    provided-true (ends (rounded false m 1 e) (rounded true m 1 e)) (both-from (le-leb m mostPrinted (digits-few m k h)) (size-reach e (omega arith)))
     ∙ ap₂ ends low high ∙ ends-from v v r r
 
 -- 1, 64 and 0 as entries.
@@ -415,7 +456,7 @@ sixty-four-entry = entry-written 64 7 (pos 0) (lit≤ tt) (lit≤ tt) (lit≤ tt
 pub zero-entry : (e : ℤ) → inReach e ≡ true → entry 0 e ≡ is zeroPair
 unfolding entry rounded zeroPair
 zero-entry e h =
-    provided-true (ends N.zero N.zero) (both-from (le-leb 0 999999999 (lit≤ tt)) h)
+    provided-true (ends N.zero N.zero) (both-from (le-leb 0 mostPrinted (lit≤ tt)) h)
     ∙ ends-from N.zero N.zero (number-reach N.zero zero-number) (number-reach N.zero zero-number)
 
 -- What is a pair is passed on.

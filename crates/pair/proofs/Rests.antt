@@ -1,76 +1,104 @@
--- 1 − f for a working number f of at most 1. Assumes nothing.
+-- 1 − m × 10^e, for m of at most twelve digits and m × 10^e at most 1. Assumes nothing.
 use mathlib.Core.Path.{_≡_, refl, sym, _∙_, ap, ap₂}
-use mathlib.Core.Bool.{Bool, true, false, not, true≢false}
-use mathlib.Core.Logic.{⊎-elim}
+use mathlib.Core.Bool.{Bool, true, false, not}
 use Prim.Native.Nat.{ℕ, zero, _+_, _-_, _*_, _^_, _≤_, _<_}
-use native.Mathlib.Nat.{eq-or-lt-of-le}
+use native.Mathlib.Nat.{mul-le-mul-right, mul-lt-mul-of-pos-right, lt-of-mul-lt-mul-right, lt-of-lt-of-le, add-zero, one-mul, zero-mul}
 use native.Mathlib.Omega.{arith}
-use lib.Dec.{lit<, lit≤}
+use lib.Dec.{leb, lit<, lit≤}
 use lib.IntN.{ℤ, pos, negsuc}
-use borrow.Author.Tests.{leb-true}
-use Rattle.pair.specs.declared.Number.{Number}
+use lib.Signed.{mag}
+use borrow.Author.Tests.{leb-true, le-leb, lt-leb}
 use Rattle.pair.specs.Number as specs
-use Rattle.pair.specs.Number.{depth, place, lesser, rise, unitsAt, lower, isNumber, atMost, one}
+use Rattle.pair.specs.Number.{depth, place, lesser, rise, unitsAt, atMost, printed, one, value}
+use Rattle.pair.specs.Fraction.{rest}
 use Rattle.pair.specs.Rounding.{extra, divided, excessFrom, excess, carried, rounded, restEnd}
-use Rattle.pair.proofs.Alignment.{Small, rise-of, same-place, lesser-second, units-own, nine-small, order-above, order-same}
+use Rattle.pair.proofs.Alignment.{Small, rise-of, lesser-first, lesser-second, units-own, units-none, order-scaled}
 use Rattle.pair.proofs.Dividing.{divided-less}
-use Rattle.pair.proofs.Numbers.{Nine, number-zero}
-use Rattle.pair.proofs.Powers.{ten-above, ten-add}
+use Rattle.pair.proofs.ExactEnds.{one-value, one-number, place-whole, whole-small, rest-ratio}
+use Rattle.pair.proofs.Exponents.{same-test}
+use Rattle.pair.proofs.Nearest.{rounded-itself}
+use Rattle.pair.proofs.Ordered.{size-small}
+use Rattle.pair.proofs.Powers.{ten-above, ten-add, ten-rises}
 use Rattle.pair.proofs.Sums.{rounded-twice}
 
-nine-small′ : Small (negsuc 8)
-nine-small′ = record { small = lit< tt }
-
-one-nine : Nine one
+one-small : Small (one .exponent)
 unfolding one
-one-nine = record { least = lit≤ tt; most = lit≤ tt; reach = lit< tt }
+one-small = record { small = lit< tt }
 
--- f = 0
-rest-of-zero : (up : Bool) → rounded up 1 1 (pos 0) ≡ restEnd up specs.zero
-unfolding restEnd rounded carried divided extra excess excessFrom lower lesser unitsAt rise one specs.zero
-rest-of-zero true = refl
-rest-of-zero false = refl
+-- m × 10^e against 1, counted in the least unit
+share-scaled : (m : ℕ) (e : ℤ) → Small e → atMost (printed m e) one ≡ leb (m * 10 ^ place e) (10 ^ depth)
+share-scaled m e s = order-scaled (printed m e) one s one-small ∙ ap (leb (m * 10 ^ place e)) one-value
 
-pub rest-zero : (up : Bool) (f : Number) → isNumber f ≡ true → f .significand ≡ 0 → rounded up 1 1 (pos 0) ≡ restEnd up f
-rest-zero up f h z = rest-of-zero up ∙ ap (restEnd up) (sym (number-zero f h z))
+pub share-from : (m : ℕ) (e : ℤ) → mag e < 100000 → m * 10 ^ place e ≤ 10 ^ depth → atMost (printed m e) one ≡ true
+share-from m e s h = share-scaled m e (size-small s) ∙ le-leb (m * 10 ^ place e) (10 ^ depth) h
 
--- f = 1, the only number above 10^−9 × 999,999,999 that is at most 1
-pub rest-one : (up : Bool) (f : Number) → Nine f → atMost f one ≡ true → place (negsuc 8) < place (f .exponent) → specs.zero ≡ restEnd up f
-unfolding restEnd rounded lower lesser unitsAt rise one depth place
-rest-one up f n t h =
-    ⊎-elim
-    (λ e.
-    let s : f .exponent ≡ negsuc 7 = same-place (nine-small n) (nine-small one-nine) (sym e) in
-    let m : f .significand ≡ 100000000 =
-    omega (arith, n .least, leb-true (f .significand) 100000000 (sym (order-same f one n one-nine (sym e)) ∙ t)) in
-    rw (s, m) refl)
-    (λ l. absurd (true≢false (sym t ∙ order-above f one n one-nine l)))
-    (eq-or-lt-of-le {n = place (negsuc 7)} {m = place (f .exponent)} (omega arith))
+-- above 1 where e is above 0
+pub share-above : (m : ℕ) (e : ℤ) → Small e → 0 < m → depth < place e → atMost (printed m e) one ≡ false
+share-above m e s p h =
+    share-scaled m e s
+    ∙ lt-leb (m * 10 ^ place e) (10 ^ depth)
+    (omega (arith, ten-rises {i = 1 + depth} {j = place e} (omega arith), ten-add 1 depth, ten-above depth, mul-le-mul-right {m = 1} {n = m} (10 ^ place e) p))
 
-place-eight : place (negsuc 7) ≡ place (negsuc 8) + 1
+-- with d places, at most 1 where m is at most 10^d
+pub share-is : (m d : ℕ) (e : ℤ) → Small e → d + place e ≡ depth → atMost (printed m e) one ≡ leb m (10 ^ d)
+share-is m d e s h =
+    share-scaled m e s
+    ∙ sym
+    (same-test m (10 ^ d) (m * 10 ^ place e) (10 ^ depth)
+    (λ l. omega (arith, mul-le-mul-right (10 ^ place e) l, whole))
+    (λ l. omega (arith, mul-lt-mul-of-pos-right l (ten-above (place e)), whole)))
+  where
+    whole : 10 ^ d * 10 ^ place e ≡ 10 ^ depth
+    whole = sym (ten-add d (place e)) ∙ ap (λ (i : ℕ). 10 ^ i) h
+
+-- what is left of 1 by 0
+rest-of-one : (up : Bool) → rounded up 1 1 (pos 0) ≡ one
+unfolding rounded carried divided extra excess excessFrom one
+rest-of-one true = refl
+rest-of-one false = refl
+
+pub rest-zero : (up : Bool) (m : ℕ) (e : ℤ) → mag e < 100000 → m ≡ 0 → rounded up 1 1 (pos 0) ≡ restEnd up (printed m e)
+unfolding restEnd rest value
+rest-zero up m e s z =
+    let none : m * 10 ^ place e ≡ 0 = ap (λ (n : ℕ). n * 10 ^ place e) z ∙ zero-mul (10 ^ place e) in
+    let left : 10 ^ depth - m * 10 ^ place e ≡ 10 ^ depth = omega (arith, none) in
+    rest-of-one up
+    ∙ sym (rounded-itself up (rest-ratio (printed m e) s) one one-number (record { across = rw (left, one-value) refl }))
+
+-- by 1
+pub rest-one : (up : Bool) (m : ℕ) (e : ℤ) → Small e → 0 < m → depth ≤ place e → specs.zero ≡ restEnd up (printed m e)
+unfolding restEnd unitsAt
+rest-one up m e s p h =
+    let l : lesser e (pos 0) ≡ pos 0 = lesser-second s whole-small (omega (arith, place-whole)) in
+    let t : rise (pos 0) (pos 0) ≡ 0 = omega (arith, rise-of whole-small whole-small (omega arith)) in
+    rw (l, t) (nought (1 - m * 10 ^ rise (pos 0) e) (omega (arith, ten-above (rise (pos 0) e), mul-le-mul-right {m = 1} {n = m} (10 ^ rise (pos 0) e) p)))
+  where
+    nought : (n : ℕ) → n ≡ 0 → specs.zero ≡ rounded up n 1 (pos 0)
+    nought n z = unfold rounded in rw z refl
+
+-- with d places: 10^d − m units
+pub rest-below : (up : Bool) (m d : ℕ) (e : ℤ) → Small e → d + place e ≡ depth → rounded up (10 ^ d - m) 1 e ≡ restEnd up (printed m e)
+unfolding restEnd
+rest-below up m d e s h =
+    let l : lesser e (pos 0) ≡ e = lesser-first s whole-small (omega (arith, place-whole)) in
+    let r : rise e (pos 0) ≡ d = omega (arith, place-whole, rise-of s whole-small (omega (arith, place-whole))) in
+    sym (rw (l, r) (ap (λ (x : ℕ). rounded up (10 ^ d - x) 1 e) (units-own (printed m e) s)))
+
+place-nine : place (negsuc 8) + 9 ≡ depth
 unfolding depth place
-place-eight = refl
+place-nine = refl
 
-tens : (x : ℕ) → 100000000 * (x * 10) ≡ 1000000000 * x
-tens x = omega arith
-
--- below that: 10^9 × 10^g − m units of f's own power of ten
-pub rest-below : (up : Bool) (f : Number) → Nine f → place (f .exponent) ≤ place (negsuc 8) →
-    rounded up (1000000000 * 10 ^ rise (f .exponent) (negsuc 8) - f .significand) 1 (f .exponent) ≡ restEnd up f
-unfolding restEnd lower unitsAt one
-rest-below up f n h =
-    let p = nine-small n in
-    let q = nine-small one-nine in
-    let l : place (f .exponent) ≤ place (negsuc 7) = omega (arith, place-eight) in
-    let r : rise (f .exponent) (negsuc 7) ≡ rise (f .exponent) (negsuc 8) + 1 =
-    omega (arith, place-eight, rise-of p q l, rise-of p nine-small′ h) in
-    sym
-    (rw (lesser-second q p l, r, ten-add (rise (f .exponent) (negsuc 8)) 1)
-    (ap₂ (λ (x y : ℕ). rounded up (x - y) 1 (f .exponent)) (tens (10 ^ rise (f .exponent) (negsuc 8))) (units-own f p)))
-
--- as the code does it: nine figures are left where m is no more than 9 × 10^8 × 10^g
-pub rest-rounded : (up : Bool) (m g : ℕ) (l : ℤ) → Small l → place l + g ≡ place (negsuc 8) → m ≤ 900000000 * 10 ^ g →
-    rounded up (1000000000 - divided (not up) m (10 ^ g)) 1 (negsuc 8) ≡ rounded up (1000000000 * 10 ^ g - m) 1 l
-rest-rounded up m g l small apart most =
-    ap (λ (s : ℕ). rounded up s 1 (negsuc 8)) (sym (divided-less up 1000000000 m (10 ^ g) (ten-above g) (omega arith)))
-    ∙ rounded-twice up (1000000000 * 10 ^ g - m) g l (negsuc 8) small (lit< tt) apart (omega arith) (omega (arith, ten-above g))
+-- as the code does it past eighteen places: rounded at the ninth figure first, the other way
+pub rest-rounded : (up : Bool) (m d : ℕ) (e : ℤ) → Small e → d + place e ≡ depth → 18 < d → m ≤ 999999999999 →
+    rounded up (1000000000 - divided (not up) m (10 ^ (d - 9))) 1 (negsuc 8) ≡ restEnd up (printed m e)
+rest-rounded up m d e s h far few =
+    let g : ℕ = d - 9 in
+    let tens : 10 ^ d ≡ 1000000000 * 10 ^ g = ap (λ (i : ℕ). 10 ^ i) (split far) ∙ ten-add 9 g in
+    let most : m ≤ 900000000 * 10 ^ g = omega (arith, ten-rises {i = 10} {j = g} (omega arith)) in
+    ap (λ (n : ℕ). rounded up n 1 (negsuc 8)) (sym (divided-less up 1000000000 m (10 ^ g) (ten-above g) (omega arith)))
+    ∙ rounded-twice up (1000000000 * 10 ^ g - m) g e (negsuc 8) s (lit< tt) (omega (arith, place-nine)) (omega arith) (omega (arith, ten-above g))
+    ∙ ap (λ (n : ℕ). rounded up (n - m) 1 e) (sym tens)
+    ∙ rest-below up m d e s h
+  where
+    split : 18 < d → d ≡ 9 + (d - 9)
+    split l = omega arith

@@ -1,5 +1,5 @@
 -- The calls on pairs and what each answers. A call that cannot be answered is refused with document 01's number 53: a pair that is
--- none, an entry with too many digits, a divisor with low end 0, 1 − f with f's high end above 1, an exponent out of reach; and so is
+-- none, an entry with too many digits, a divisor with low end 0, 1 − f with f or its high end above 1, an exponent out of reach; and so is
 -- a count of more than nineteen figures, which 64 bits may not hold.
 use Prim.Native.Nat.{ℕ, _^_}
 use mathlib.Core.Bool.{Bool, true, false, _&&_, not}
@@ -14,7 +14,7 @@ use Rattle.pair.specs.declared.Order.{Order}
 use Rattle.pair.specs.declared.Order.the-variants as Orders
 use Rattle.pair.specs.declared.Count.{Count}
 use Rattle.pair.specs.declared.Count.the-variants as Counts
-use Rattle.pair.specs.Number.{inReach, isZero, isNumber, isPair, atMost, zero, one}
+use Rattle.pair.specs.Number.{inReach, isZero, isNumber, isPair, atMost, printed, zero, one}
 use Rattle.pair.specs.Rounding.{rounded, sumEnd, productEnd, quotientEnd, restEnd, unitsEnd}
 
 -- what a call tells: a result, or the number of a refusal
@@ -55,9 +55,19 @@ onePair = record { low = one; high = one }
 unfoldable pub checked : Pair → Outcome Pair
 checked p = provided (isPair p) (is p)
 
--- m × 10^e, of at most nine digits
+-- a printed number has at most twelve digits, as many as a field has columns
+abbrev pub mostPrinted : ℕ
+mostPrinted = 999999999999
+
+-- m × 10^e as printed: the working numbers next to it, which are one where it is one
 unfoldable pub entry : ℕ → ℤ → Outcome Pair
-entry m e = provided (leb m 999999999 && inReach e) (ends (rounded false m 1 e) (rounded true m 1 e))
+entry m e = provided (leb m mostPrinted && inReach e) (ends (rounded false m 1 e) (rounded true m 1 e))
+
+-- 1 − m × 10^e, from the printed digits, so that it is rounded once
+unfoldable pub oneMinusEntry : ℕ → ℤ → Outcome Pair
+oneMinusEntry m e =
+    provided (leb m mostPrinted && (inReach e && atMost (printed m e) one))
+    (ends (restEnd false (printed m e)) (restEnd true (printed m e)))
 
 -- p + q
 unfoldable pub sum : Pair → Pair → Outcome Pair

@@ -41,6 +41,12 @@ pub record Rounded (up : Bool) (x : Fraction) (w : Number) : Type 0 where
   pub zero-from : x .num ≡ 0 → w ≡ zero
   pub zero-only : w ≡ zero → x .num ≡ 0
 
+-- p is the pair around x: its ends are x rounded down and up, and one part in 10^8 apart at most
+pub record Around (x : Fraction) (p : Pair) : Type 0 where
+  pub low : Rounded false x (p .low)
+  pub high : Rounded true x (p .high)
+  pub narrow : value (p .high) ≤ᶠ grown (value (p .low))
+
 -- 0, or from 10^−k to 10^k
 pub record Sized (k : ℕ) (x : Fraction) : Type 0 where
   pub sized : (x .num ≡ 0) ⊎ ((x .den ≤ x .num * 10 ^ k) × (x .num ≤ x .den * 10 ^ k))

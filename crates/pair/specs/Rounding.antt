@@ -6,7 +6,7 @@ use lib.Dec.{ltb}
 use lib.IntN.{ℤ, pos, _+ℤ_, _-ℤ_, subℕ}
 use Rattle.pair.specs.declared.Number.{Number}
 use Rattle.pair.specs.Number as N
-use Rattle.pair.specs.Number.{lower, unitsAt, one}
+use Rattle.pair.specs.Number.{lower, unitsAt}
 
 -- what rounding adds to the whole part: 1 where it goes up and something is left
 unfoldable pub extra : Bool → ℕ → ℕ
@@ -53,7 +53,9 @@ unfoldable pub quotientEnd : Bool → Number → Number → Number
 quotientEnd up a b = rounded up (a .significand) (b .significand) (a .exponent -ℤ b .exponent)
 
 unfoldable pub restEnd : Bool → Number → Number
-restEnd up f = rounded up (unitsAt (lower one f) one - unitsAt (lower one f) f) 1 (lower one f)
+restEnd up f =
+    let s : ℤ = N.lesser (f .exponent) (pos 0) in
+    rounded up (10 ^ N.rise s (pos 0) - unitsAt s f) 1 s
 
 -- one end counted in units of 10^u
 unfoldable pub unitsEnd : Bool → Number → ℤ → ℕ

@@ -6,6 +6,7 @@ use crate::exponent::is_zero;
 use crate::exponent::less;
 use crate::exponent::minus;
 use crate::exponent::plus;
+use crate::rounding::figured;
 use crate::rounding::lowered;
 use crate::rounding::nine;
 use crate::rounding::normal;
@@ -17,7 +18,7 @@ ghost use mathlib.Core.Bool.{Bool, true, false};
 ghost use Prim.Native.Nat.{_+_, _-_, _*_, _^_, _≤_, _<_};
 ghost use lib.Dec.{ltb};
 ghost use lib.Signed.{mag, ltZ};
-ghost use Rattle.pair.specs.Number.{isNumber, inReach, atMost, one};
+ghost use Rattle.pair.specs.Number.{isNumber, inReach, atMost, printed, one};
 ghost use Rattle.pair.specs.Rounding.{rounded, sumEnd, productEnd, quotientEnd, restEnd, unitsEnd};
 
 pub(crate) fn is_number(w: Number) -> bool
@@ -137,24 +138,44 @@ pub(crate) fn sum(up: bool, a: Number, b: Number) -> Number
     aligned(up, a, b)
 }
 
-// 1 − f, f at most 1. As in a sum, f is rounded at the ninth figure first, here in the other direction.
-pub(crate) fn rest(up: bool, f: Number) -> Number
-    requires { ⌜ isNumber f ≡ true ⌝ }
-    requires { ⌜ atMost f one ≡ true ⌝ }
-    ensures { λ r. ⌜ r ≡ restEnd up f ⌝ }
+// Whether m × 10^e, of at most twelve digits, is at most 1.
+pub(crate) fn is_share(m: u64, e: i32) -> bool
+    requires { ⌜ m ≤ 999999999999 ⌝ }
+    requires { ⌜ inReach e ≡ true ⌝ }
+    ensures { λ r. ⌜ r ≡ atMost (printed m e) one ⌝ }
 {
-    if f.significand == 0 {
+    if m == 0 {
+        return true;
+    }
+    if less(0, e) {
+        return false;
+    }
+    let d = above(e, 0);
+    if 11 < d {
+        return true;
+    }
+    m <= power(d)
+}
+
+// 1 − m × 10^e, of at most twelve digits and at most 1. Past eighteen places it is rounded at the ninth figure first, as in a sum, here
+// in the other direction.
+pub(crate) fn rest(up: bool, m: u64, e: i32) -> Number
+    requires { ⌜ m ≤ 999999999999 ⌝ }
+    requires { ⌜ inReach e ≡ true ⌝ }
+    requires { ⌜ atMost (printed m e) one ≡ true ⌝ }
+    ensures { λ r. ⌜ r ≡ restEnd up (printed m e) ⌝ }
+{
+    if m == 0 {
         return normal(1, 0);
     }
-    let m = f.significand as u64;
-    if less(-9, f.exponent) {
+    if !less(e, 0) {
         return zero();
     }
-    let g = above(f.exponent, -9);
-    if g == 0 {
-        return normal(1_000_000_000 - m, -9);
+    let d = above(e, 0);
+    if 18 < d {
+        return ten(up, 1_000_000_000 - lowered(!up, m, d - 9), -9);
     }
-    ten(up, 1_000_000_000 - lowered(!up, m, g), -9)
+    figured(up, power(d) - m, e)
 }
 
 // Whether w counts fewer than 10^19 units of 10^u, which an u64 holds.

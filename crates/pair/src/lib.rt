@@ -8,6 +8,7 @@ mod rounding;
 use crate::ends::at_most;
 use crate::ends::countable;
 use crate::ends::is_number;
+use crate::ends::is_share;
 use crate::ends::product;
 use crate::ends::quotient;
 use crate::ends::rest;
@@ -16,6 +17,8 @@ use crate::ends::units;
 use crate::exponent::in_reach;
 use crate::exponent::within;
 use crate::rounding::normal;
+use crate::rounding::off;
+use crate::rounding::surplus;
 ghost use mathlib.Core.Path.{_≡_};
 ghost use mathlib.Core.Bool.{true};
 ghost use Rattle.pair.specs.Number.{isPair};
@@ -57,6 +60,9 @@ pub enum Count {
     Is(Units),
     Refused,
 }
+
+// Digits of a printed number: twelve at most, as many as a field has columns.
+const MOST_PRINTED: u64 = 999_999_999_999;
 
 // Whether p is a pair whose ends have one exponent, as most have: then four tests on the significands and the exponents tell.
 fn is_even(p: Pair) -> bool
@@ -176,18 +182,44 @@ impl Pair {
         },
     };
 
-    // The pair of a number as printed, significand × 10^exponent, of at most nine digits.
+    // The pair of a number as printed, significand × 10^exponent, of at most twelve digits. Nine or fewer are a working number.
     pub fn entry(significand: u64, exponent: i32) -> Answer
         ensures { λ r. ⌜ calls.answer r ≡ calls.entry significand exponent ⌝ }
     {
-        if 999_999_999 < significand {
+        if MOST_PRINTED < significand {
             return Answer::Refused;
         }
         if !in_reach(exponent) {
             return Answer::Refused;
         }
-        let w = normal(significand, exponent);
-        answered(w, w)
+        if significand <= 999_999_999 {
+            let w = normal(significand, exponent);
+            return answered(w, w);
+        }
+        let k = surplus(significand);
+        answered(
+            off(false, significand, k, exponent),
+            off(true, significand, k, exponent),
+        )
+    }
+
+    // 1 − significand × 10^exponent, from the digits as printed, so that it is rounded once.
+    pub fn one_minus_entry(significand: u64, exponent: i32) -> Answer
+        ensures { λ r. ⌜ calls.answer r ≡ calls.oneMinusEntry significand exponent ⌝ }
+    {
+        if MOST_PRINTED < significand {
+            return Answer::Refused;
+        }
+        if !in_reach(exponent) {
+            return Answer::Refused;
+        }
+        if !is_share(significand, exponent) {
+            return Answer::Refused;
+        }
+        answered(
+            rest(false, significand, exponent),
+            rest(true, significand, exponent),
+        )
     }
 
     // The pair itself, if it is one.
@@ -267,7 +299,12 @@ impl Pair {
         if !at_most(self.high, Pair::ONE.high) {
             return Answer::Refused;
         }
-        answered(rest(false, self.high), rest(true, self.low))
+        let low = self.low;
+        let high = self.high;
+        answered(
+            rest(false, high.significand as u64, high.exponent),
+            rest(true, low.significand as u64, low.exponent),
+        )
     }
 
     // The ends in units of 10^unit: the low end down, the high end up.

@@ -11,7 +11,7 @@ ghost use Rattle.pair.specs.Number as numbers;
 ghost use Rattle.pair.specs.Rounding.{divided, carried, rounded};
 
 pub(crate) fn power(k: usize) -> u64
-    requires { ⌜ k ≤ 10 ⌝ }
+    requires { ⌜ k ≤ 18 ⌝ }
     ensures { λ r. ⌜ r ≡ 10 ^ k ⌝ }
 {
     match k {
@@ -25,7 +25,15 @@ pub(crate) fn power(k: usize) -> u64
         7 => 10_000_000,
         8 => 100_000_000,
         9 => 1_000_000_000,
-        _ => 10_000_000_000,
+        10 => 10_000_000_000,
+        11 => 100_000_000_000,
+        12 => 1_000_000_000_000,
+        13 => 10_000_000_000_000,
+        14 => 100_000_000_000_000,
+        15 => 1_000_000_000_000_000,
+        16 => 10_000_000_000_000_000,
+        17 => 100_000_000_000_000_000,
+        _ => 1_000_000_000_000_000_000,
     }
 }
 
@@ -50,12 +58,12 @@ fn whole(up: bool, n: u64, d: u64) -> u64
     n / d
 }
 
-// n / 10^g as a whole number. What has nine figures at most and lies wholly below the point counts as something, no more.
+// n / 10^g as a whole number. What has twelve figures at most and lies wholly below the point counts as something, no more.
 pub(crate) fn lowered(up: bool, n: u64, g: usize) -> u64
-    requires { ⌜ (0 < n) × (n ≤ 999999999) ⌝ }
+    requires { ⌜ (0 < n) × (n ≤ 999999999999) ⌝ }
     ensures { λ r. ⌜ r ≡ divided up n (10 ^ g) ⌝ }
 {
-    if 8 < g {
+    if 11 < g {
         return whole(up, 1, 10);
     }
     whole(up, n, power(g))
@@ -158,4 +166,57 @@ pub(crate) fn normal(m: u64, e: i32) -> Number
         significand: (m * power(k)) as u32,
         exponent: minus(e, figures(k)),
     }
+}
+
+// How many figures beyond nine m has.
+pub(crate) fn surplus(m: u64) -> usize
+    requires { ⌜ (1000000000 ≤ m) × (m < 1000000000000000000) ⌝ }
+    ensures { λ r. ⌜ (r ≤ 9) × (100000000 * 10 ^ r ≤ m) × (m < 1000000000 * 10 ^ r) ⌝ }
+{
+    if m < 1_000_000_000_000 {
+        if m < 10_000_000_000 {
+            return 1;
+        }
+        if m < 100_000_000_000 {
+            return 2;
+        }
+        return 3;
+    }
+    if m < 1_000_000_000_000_000 {
+        if m < 10_000_000_000_000 {
+            return 4;
+        }
+        if m < 100_000_000_000_000 {
+            return 5;
+        }
+        return 6;
+    }
+    if m < 10_000_000_000_000_000 {
+        return 7;
+    }
+    if m < 100_000_000_000_000_000 {
+        return 8;
+    }
+    9
+}
+
+// m × 10^e, with k figures beyond nine, which are rounded off.
+pub(crate) fn off(up: bool, m: u64, k: usize, e: i32) -> Number
+    requires { ⌜ (k ≤ 9) × (100000000 * 10 ^ k ≤ m) × (m < 1000000000 * 10 ^ k) ⌝ }
+    requires { ⌜ mag e < 100000 ⌝ }
+    ensures { λ r. ⌜ r ≡ rounded up m 1 e ⌝ }
+{
+    nine(up, m, power(k), plus(e, figures(k)))
+}
+
+// m × 10^e, of at most eighteen figures.
+pub(crate) fn figured(up: bool, m: u64, e: i32) -> Number
+    requires { ⌜ m < 1000000000000000000 ⌝ }
+    requires { ⌜ mag e < 100000 ⌝ }
+    ensures { λ r. ⌜ r ≡ rounded up m 1 e ⌝ }
+{
+    if m <= 999_999_999 {
+        return normal(m, e);
+    }
+    off(up, m, surplus(m), e)
 }

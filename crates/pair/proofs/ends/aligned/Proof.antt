@@ -29,7 +29,7 @@ lowered-requires : tie.Need-lowered-requires
 lowered-requires c κs =
     let a = c .before .before .before .before .before in
     let w : Nine (a .args .b) = number-nine (a .args .b) (a .pre .1 .0 .0) (a .pre .1 .0 .1) in
-    (a .pre .1 .0 .1, w .most)
+    (a .pre .1 .0 .1, omega (arith, w .most))
 
 add-s : tie.Need-add-s
 add-s c =

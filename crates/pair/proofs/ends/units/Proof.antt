@@ -58,7 +58,7 @@ lowered-requires : tie.Need-lowered-requires
 lowered-requires c κs =
     let a = c .before .before .before .before .before .before .before .before in
     let n : Nine (a .args .w) = number-nine (a .args .w) (a .pre .0) (omega arith) in
-    (omega (arith, n .least), n .most)
+    (omega (arith, n .least), omega (arith, n .most))
 
 returns-2 : tie.Need-returns-2
 returns-2 c =

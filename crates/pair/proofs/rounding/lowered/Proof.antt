@@ -1,4 +1,4 @@
--- Nine figures or fewer, nine places or more down, are a part of one. Assumes nothing.
+-- Twelve figures or fewer, twelve places or more down, are a part of one. Assumes nothing.
 use mathlib.Core.Path.{refl, _∙_}
 use Prim.Native.Nat.{_^_}
 use native.Mathlib.Nat.{lt-of-lt-of-le}
@@ -16,7 +16,7 @@ returns : tie.Need-returns
 returns c =
     let a = c .before .before in
     c .whole .ensures
-    ∙ divided-part (a .args .up) (a .args .n) (10 ^ a .args .g) (a .pre .0) (lt-of-lt-of-le (omega arith) (ten-rises {i = 9} (omega arith)))
+    ∙ divided-part (a .args .up) (a .args .n) (10 ^ a .args .g) (a .pre .0) (lt-of-lt-of-le (omega arith) (ten-rises {i = 12} (omega arith)))
 
 power-requires : tie.Need-power-requires
 power-requires c κs = search needs
