@@ -13,7 +13,7 @@ use lib.IntN.{ℤ, pos, negsuc, subℕ}
 use lib.ListN.{length, getD, take, drop, replicate, List·getD-append}
 use lib.Seq.{getD-at}
 use Rattle.deck.specs.Parts.{leading, linesOf, lineOf, fieldIn, fieldOf}
-use Rattle.deck.specs.Numbers.{digitsValue, unspaced, exponentSpelled, powerOf, digitsRead, endedOf, pointedOf, spelledOf, loneDash, wordOf}
+use Rattle.deck.specs.Numbers.{digitsValue, unspaced, exponentSpelled, powerOf, digitsRead, maxDigits, endedOf, pointedOf, spelledOf, loneDash, wordOf}
 use Rattle.deck.specs.Kinds.{kindOf, S1, C1, R1, kinds, rulesIn, rulesOf}
 use Rattle.deck.specs.Ranges.{above, below, inRange, valueAtLeast, valueAtMost}
 use Rattle.slots.specs.Slots.{fieldsPerLine, unused, lineRules, ruleAt, ruleOf, ownerOf, placeOf}
@@ -65,9 +65,9 @@ exponent-at-most (x ∷ xs) t s e =
     let l = exponent-small (x ∷ xs) s (λ z. omega arith) (digitsValue 0 (drop 2 (x ∷ xs))) (ap (digitsValue 0) (sym (tail-part (x ∷ xs) 2))) in
     omega arith
 
-power-small : (t : Bool) (tail : List ℕ) (places : ℕ) → exponentSpelled tail ≡ true → places ≤ 9
+power-small : (t : Bool) (tail : List ℕ) (places : ℕ) → exponentSpelled tail ≡ true → places ≤ maxDigits
     → (above (cond t (subℕ 0 (places + digitsValue 0 (drop 2 tail))) (subℕ (digitsValue 0 (drop 2 tail)) places)) ≤ 99)
-    × (below (cond t (subℕ 0 (places + digitsValue 0 (drop 2 tail))) (subℕ (digitsValue 0 (drop 2 tail)) places)) ≤ 108)
+    × (below (cond t (subℕ 0 (places + digitsValue 0 (drop 2 tail))) (subℕ (digitsValue 0 (drop 2 tail)) places)) ≤ 111)
 power-small true tail places s h =
     let x = exponent-at-most tail (eqb (length tail) 0) s refl in
     let b = places + digitsValue 0 (drop 2 tail) in
@@ -79,25 +79,25 @@ power-small false tail places s h =
 
 module _ (text : List ℕ) (whole places : ℕ) (before : leading 48 57 (take whole text) ≡ length (take whole text))
     (after : leading 48 57 (take places (drop (whole + 1) text)) ≡ length (take places (drop (whole + 1) text))) where
-  digits-small : whole + places ≤ 9 → digitsRead text whole places < 1000000000
+  digits-small : whole + places ≤ maxDigits → digitsRead text whole places < 1000000000000
   unfolding digitsRead
   digits-small few =
       let n = digitsValue 0 (take whole text) in
       let rest = take places (drop (whole + 1) text) in
       let cut : whole + 1 + places - (whole + 1) ≡ places = omega arith in
-      let room : (n + 1) * 10 ^ length rest ≤ 1000000000 =
-      subst (λ (k : ℕ). (n + 1) * 10 ^ length (take k (drop (whole + 1) text)) ≤ 1000000000) cut (digits-next text whole places before few after n refl .1) in
+      let room : (n + 1) * 10 ^ length rest ≤ 1000000000000 =
+      subst (λ (k : ℕ). (n + 1) * 10 ^ length (take k (drop (whole + 1) text)) ≤ 1000000000000) cut (digits-next text whole places before few after n refl .1) in
       omega (arith, digits-value-append 0 (take whole text) rest, digits-value-below rest after n (n + 1) (le-refl (n + 1)), room)
 
   ended-small : (end : ℕ) → Small (endedOf text whole places end)
   unfolding endedOf powerOf
   ended-small end =
-      choose (leb (whole + places) 9 && exponentSpelled (drop end text)) _ Other
+      choose (leb (whole + places) maxDigits && exponentSpelled (drop end text)) _ Other
       (λ t.
-      let b = both (leb (whole + places) 9) (exponentSpelled (drop end text)) t in
-      let few = leb-true (whole + places) 9 (b .0) in
+      let b = both (leb (whole + places) maxDigits) (exponentSpelled (drop end text)) t in
+      let few = leb-true (whole + places) maxDigits (b .0) in
       let p = power-small (eqb (getD (drop end text) 1 0) 45) (drop end text) places (b .1) (omega arith) in
-      record { nine = digits-small few; high = p .0; low = p .1 })
+      record { twelve = digits-small few; high = p .0; low = p .1 })
       (λ t. tt)
 
 pointed-small : (text : List ℕ) (whole : ℕ) → leading 48 57 (take whole text) ≡ length (take whole text) → Small (pointedOf text whole)

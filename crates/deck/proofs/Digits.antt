@@ -1,4 +1,4 @@
--- Laws of digits: each byte that was counted as one is one, the number they spell, and that nine of them fit.
+-- Laws of digits: each byte that was counted as one is one, the number they spell, and room for those that follow.
 -- Assumes nothing.
 use Prim.Native.Nat.{ℕ, zero, suc, _+_, _*_, _-_, _^_, _≤_, _<_}
 use native.Mathlib.Nat.{not-suc-le-zero, le-of-suc-le-suc, le-trans, mul-le-mul-left, mul-le-mul-right, mul-comm, mul-assoc, pow-suc, one-le-pow, mul-one, pow-zero}

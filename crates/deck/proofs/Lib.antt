@@ -1,5 +1,6 @@
 pub mod Accepted
 pub mod CaseLaws
+pub mod Columns
 pub mod Digits
 pub mod Exactly
 pub mod First

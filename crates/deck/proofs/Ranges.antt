@@ -1,24 +1,24 @@
--- Laws of the exact comparisons: past nine figures a number of 32 bits decides nothing.
+-- Laws of the exact comparisons, by division: powers of ten past the tenth for 32 bits, and past the twentieth for 64, decide alone.
 -- Assumes nothing.
-use Prim.Native.Nat.{ℕ, zero, _+_, _*_, _-_, _^_, _≤_, _<_}
-use native.Mathlib.Nat.{le-trans, lt-of-lt-of-le, lt-of-le-of-lt, le-of-lt, mul-one, one-mul, zero-mul, mul-le-mul, mul-le-mul-right, pow-le-pow-right, pow-suc, le-of-mul-le-mul-right, eq-zero-or-pos, mul-lt-mul-of-pos-right}
+use Prim.Native.Nat.{ℕ, suc, _+_, _*_, _-_, _/_, _^_, _≤_, _<_}
+use native.Mathlib.Nat.{le-trans, lt-of-lt-of-le, mul-one, one-mul, zero-mul, mul-le-mul, mul-le-mul-right, pow-le-pow-right, pow-suc, one-le-pow, le-of-mul-le-mul-right, eq-zero-or-pos, mul-lt-mul-of-pos-right, le-div-iff-mul-le, div-lt-iff-lt-mul}
 use native.Mathlib.Numerals.{add-one}
 use native.Mathlib.Omega.{arith}
 use lib.Pow.{pow-add}
-use mathlib.Core.Path.{_≡_, refl, sym, ap, _∙_, subst}
+use mathlib.Core.Path.{_≡_, refl, sym, ap, _∙_}
 use mathlib.Core.Bool.{Bool, true, false, not}
 use mathlib.Core.Logic.{⊎-elim}
-use mir.Syntax.{w64}
-use mir.Val.{Fits}
 use borrow.Author.Tests.{eq-eqb, ne-eqb, le-leb, lt-leb, leb-true, leb-false, not-true, not-false}
 use lib.Dec.{leb, ltb, lit≤, lit<}
 use lib.IntN.{ℤ, pos, negsuc}
 use Rattle.deck.specs.Ranges.{above, below, valueAtMost, valueAtLeast, inRange}
 use Rattle.slots.specs.declared.Rule.{Rule}
-use Rattle.deck.proofs.Words.{tens}
 
 pub ten-more : (i v : ℕ) → v ≡ 10 ^ i → v * 10 ≡ 10 ^ (i + 1)
 ten-more i v e = rw add-one (ap (λ (n : ℕ). n * 10) e ∙ sym (pow-suc 10 i))
+
+pub ten-some : (n v : ℕ) → v ≡ 10 ^ n → 0 < v
+ten-some n v e = rw e (one-le-pow n 10 (lit≤ tt))
 
 -- a power of ten lies on one side of 0 only
 one-side : (z : ℤ) → 0 < above z → below z ≡ 0
@@ -42,37 +42,48 @@ module _ (a b c d : ℕ) (f : a ≤ b → c ≤ d) (g : c ≤ d → a ≤ b) whe
   leb-same : leb a b ≡ leb c d
   leb-same = agree (leb a b) (leb c d) refl refl
 
-module _ (most digits : ℕ) (z : ℤ) (some : 0 < digits) (fits : digits < 2 ^ 32) (fits′ : most < 2 ^ 32) where
-  pub above-all : 9 < above z → false ≡ valueAtMost most digits z
+-- at most: a power above 0 divides the most, which rounds down; one below 0 divides the digits less one, which have as many
+module _ (most digits : ℕ) (z : ℤ) (some : 0 < digits) where
+  pub above-all : most < 2 ^ 32 → 9 < above z → false ≡ valueAtMost most digits z
   unfolding valueAtMost
-  above-all h =
+  above-all fits h =
       let d : below z ≡ 0 = one-side z (omega arith) in
       let t : 10 ^ 10 ≤ 10 ^ above z = pow-le-pow-right (lit≤ tt) h in
       let m : 1 * 10 ^ 10 ≤ digits * 10 ^ above z = mul-le-mul some t in
       let b : most * 10 ^ below z ≡ most = ap (λ (n : ℕ). most * 10 ^ n) d ∙ mul-one most in
       sym (lt-leb (digits * 10 ^ above z) (most * 10 ^ below z) (omega arith))
 
-  pub below-all : 9 < below z → ltb 0 most ≡ valueAtMost most digits z
+  pub above-near : 0 < above z → (v : ℕ) → v ≡ 10 ^ above z → leb digits (most / v) ≡ valueAtMost most digits z
   unfolding valueAtMost
-  below-all h =
-      let u : digits * 10 ^ above z ≡ digits = ap (λ (n : ℕ). digits * 10 ^ n) (other-side z (omega arith)) ∙ mul-one digits in
-      let t : 10 ^ 10 ≤ 10 ^ below z = pow-le-pow-right (lit≤ tt) h in
-      leb-same 1 most (digits * 10 ^ above z) (most * 10 ^ below z)
-      (λ p. let m : 1 * 10 ^ 10 ≤ most * 10 ^ below z = mul-le-mul p t in omega arith)
-      (λ q. ⊎-elim (λ e. absurd (let n : most * 10 ^ below z ≡ 0 = ap (λ (k : ℕ). k * 10 ^ below z) e ∙ zero-mul (10 ^ below z) in omega arith)) (λ p. p)
-      (eq-zero-or-pos most))
+  above-near h v e =
+      let b : most * 10 ^ below z ≡ most = ap (λ (n : ℕ). most * 10 ^ n) (one-side z h) ∙ mul-one most in
+      let i = le-div-iff-mul-le {k = 10 ^ above z} {x = digits} {y = most} (one-le-pow (above z) 10 (lit≤ tt)) in
+      rw (b, e) (leb-same digits (most / 10 ^ above z) (digits * 10 ^ above z) most (i .0) (i .1))
 
-  pub within-nine : (u d : ℕ) → u ≡ 10 ^ above z → d ≡ 10 ^ below z → leb (digits * u) (most * d) ≡ valueAtMost most digits z
-  unfolding valueAtMost
-  within-nine u d e f = rw (e, f)
+  module _ (low : above z ≤ 0) where
+    whole : digits * 10 ^ above z ≡ digits
+    whole = let u : above z ≡ 0 = omega arith in ap (λ (n : ℕ). digits * 10 ^ n) u ∙ mul-one digits
 
--- a product of a number of 32 bits and a power of ten up to the ninth
-pub product-fits : (d n v : ℕ) → d < 2 ^ 32 → n ≤ 9 → v ≡ 10 ^ n → Fits w64 (d * v)
-product-fits d n v h s e =
-    let p : d * 10 ^ n ≤ 4294967296 * 1000000000 = mul-le-mul (le-of-lt h) (tens n s) in
-    record { fits = subst (λ (m : ℕ). d * m < 2 ^ 64) (sym e) (lt-of-le-of-lt p (lit< tt)) }
+    pub below-all : digits < 2 ^ 64 → 19 < below z → ltb 0 most ≡ valueAtMost most digits z
+    unfolding valueAtMost
+    below-all fits h =
+        let t : 10 ^ 20 ≤ 10 ^ below z = pow-le-pow-right (lit≤ tt) h in
+        rw whole
+        (leb-same 1 most digits (most * 10 ^ below z)
+        (λ p. let m : 1 * 10 ^ 20 ≤ most * 10 ^ below z = mul-le-mul p t in omega arith)
+        (λ q. ⊎-elim (λ e. absurd (let n : most * 10 ^ below z ≡ 0 = ap (λ (k : ℕ). k * 10 ^ below z) e ∙ zero-mul (10 ^ below z) in omega arith)) (λ p. p)
+        (eq-zero-or-pos most)))
 
-module _ (digits : ℕ) (z : ℤ) (some : 0 < digits) (fits : digits < 2 ^ 32) where
+    pub below-near : (v : ℕ) → v ≡ 10 ^ below z → ltb ((digits - 1) / v) most ≡ valueAtMost most digits z
+    unfolding valueAtMost
+    below-near v e =
+        let i = div-lt-iff-lt-mul {k = 10 ^ below z} {x = digits - 1} {y = most} (one-le-pow (below z) 10 (lit≤ tt)) in
+        rw (whole, e)
+        (leb-same (suc ((digits - 1) / 10 ^ below z)) most digits (most * 10 ^ below z)
+        (λ p. let l = i .0 p in omega arith) (λ p. i .1 (omega arith)))
+
+-- at least 1E-20
+module _ (digits : ℕ) (z : ℤ) (some : 0 < digits) where
   pub least-small : below z ≤ 20 → true ≡ valueAtLeast digits z
   unfolding valueAtLeast
   least-small h =
@@ -87,10 +98,10 @@ module _ (digits : ℕ) (z : ℤ) (some : 0 < digits) (fits : digits < 2 ^ 32) w
     split : 10 ^ below z ≡ 10 ^ (below z - 20) * 10 ^ 20
     split = let e : below z ≡ below z - 20 + 20 = omega arith in ap (λ (n : ℕ). 10 ^ n) e ∙ pow-add 10 (below z - 20) 20
 
-    pub least-far : 9 < below z - 20 → false ≡ valueAtLeast digits z
+    pub least-far : digits < 2 ^ 64 → 19 < below z - 20 → false ≡ valueAtLeast digits z
     unfolding valueAtLeast
-    least-far h =
-        let t : 10 ^ 10 ≤ 10 ^ (below z - 20) = pow-le-pow-right (lit≤ tt) h in
+    least-far fits h =
+        let t : 10 ^ 20 ≤ 10 ^ (below z - 20) = pow-le-pow-right (lit≤ tt) h in
         let m : digits * 10 ^ 20 < 10 ^ (below z - 20) * 10 ^ 20 = mul-lt-mul-of-pos-right (lt-of-lt-of-le fits (le-trans (lit≤ tt) t)) (lit< tt) in
         sym (lt-leb (10 ^ below z) (digits * 10 ^ (above z + 20)) (rw (scaled, split) m))
 

@@ -13,7 +13,7 @@ use lib.IntN.{ℤ, subℕ}
 use lib.ListN.{length, take, drop, getD, length-drop, length-take, List·getD-eq-default}
 use lib.Seq.{take-all}
 use Rattle.deck.specs.Parts.{leading}
-use Rattle.deck.specs.Numbers.{digitsValue, unspaced, idSpelled, idIn, signSpelled, exponentSpelled, powerOf, digitsRead, endedOf, pointedOf, spelledOf, loneDash, wordOf}
+use Rattle.deck.specs.Numbers.{digitsValue, unspaced, idSpelled, idIn, signSpelled, exponentSpelled, powerOf, digitsRead, maxDigits, endedOf, pointedOf, spelledOf, loneDash, wordOf}
 use Rattle.deck.specs.declared.Word.{Word}
 use Rattle.deck.specs.declared.Word.the-variants.{Blank, Dash, Number, Other}
 use Rattle.deck.proofs.Leading.{and-false}
@@ -81,9 +81,9 @@ module _ (tail : List ℕ) where
     two = length-drop 2 tail ∙ ap (λ (n : ℕ). n - 2) exponent-four
 
     pub exponent-ask : (leading 48 57 (take (length tail - 2) (drop 2 tail)) ≡ length (take (length tail - 2) (drop 2 tail)))
-        × ((0 + 1) * 10 ^ length (take (length tail - 2) (drop 2 tail)) ≤ 1000000000)
+        × ((0 + 1) * 10 ^ length (take (length tail - 2) (drop 2 tail)) ≤ 1000000000000)
     exponent-ask =
-        rw (tail-part tail 2) (spelled-facts s h .1 ∙ sym two, subst (λ (n : ℕ). (0 + 1) * 10 ^ n ≤ 1000000000) (sym two) (lit≤ tt))
+        rw (tail-part tail 2) (spelled-facts s h .1 ∙ sym two, subst (λ (n : ℕ). (0 + 1) * 10 ^ n ≤ 1000000000000) (sym two) (lit≤ tt))
 
     pub exponent-small : (n : ℕ) → n ≡ digitsValue 0 (take (length tail - 2) (drop 2 tail)) → n < 100
     exponent-small n e =
@@ -125,8 +125,8 @@ unfolding loneDash
 dash-byte text h r e = simp h e
 
 -- ---- digits before and after the point
-pub tens : (n : ℕ) → n ≤ 9 → 10 ^ n ≤ 1000000000
-tens n h = pow-le-pow-right (lit≤ tt) h
+pub tens : (n k : ℕ) → n ≤ k → 10 ^ n ≤ 10 ^ k
+tens n k h = pow-le-pow-right (lit≤ tt) h
 
 append-none : (xs : List ℕ) → xs ++ [] ≡ xs
 append-none [] = refl
@@ -135,25 +135,25 @@ append-none (x ∷ xs) = ap (λ (l : List ℕ). x ∷ l) (append-none xs)
 take-short : (n : ℕ) (s : List ℕ) → length (take n s) ≤ n
 take-short n s = omega (arith, length-take n s)
 
-module _ (text : List ℕ) (whole places : ℕ) (before : leading 48 57 (take whole text) ≡ length (take whole text)) (few : whole + places ≤ 9) where
+module _ (text : List ℕ) (whole places : ℕ) (before : leading 48 57 (take whole text) ≡ length (take whole text)) (few : whole + places ≤ maxDigits) where
   whole-part : List ℕ
   whole-part = take whole text
 
-  pub digits-first : (leading 48 57 (take whole text) ≡ length (take whole text)) × ((0 + 1) * 10 ^ length (take whole text) ≤ 1000000000)
+  pub digits-first : (leading 48 57 (take whole text) ≡ length (take whole text)) × ((0 + 1) * 10 ^ length (take whole text) ≤ 1000000000000)
   digits-first =
-      (before, subst (λ (n : ℕ). n ≤ 1000000000) (sym (one-mul (10 ^ length (take whole text)))) (tens (length (take whole text)) (omega (arith, take-short whole text))))
+      (before, subst (λ (n : ℕ). n ≤ 1000000000000) (sym (one-mul (10 ^ length (take whole text)))) (tens (length (take whole text)) maxDigits (omega (arith, take-short whole text))))
 
   pub digits-next : leading 48 57 (take places (drop (whole + 1) text)) ≡ length (take places (drop (whole + 1) text))
       → (n : ℕ) → n ≡ digitsValue 0 (take whole text)
       → (leading 48 57 (take (whole + 1 + places - (whole + 1)) (drop (whole + 1) text)) ≡ length (take (whole + 1 + places - (whole + 1)) (drop (whole + 1) text)))
-      × ((n + 1) * 10 ^ length (take (whole + 1 + places - (whole + 1)) (drop (whole + 1) text)) ≤ 1000000000)
+      × ((n + 1) * 10 ^ length (take (whole + 1 + places - (whole + 1)) (drop (whole + 1) text)) ≤ 1000000000000)
   digits-next after n e =
       let b : digitsValue 0 (take whole text) + 1 ≤ 1 * 10 ^ length (take whole text) = digits-value-below (take whole text) before 0 1 (lit≤ tt) in
       let w : 10 ^ length (take whole text) ≤ 10 ^ whole = pow-le-pow-right (lit≤ tt) (take-short whole text) in
       let p : 10 ^ length (take places (drop (whole + 1) text)) ≤ 10 ^ places = pow-le-pow-right (lit≤ tt) (take-short places (drop (whole + 1) text)) in
       let s : n + 1 ≤ 10 ^ whole = omega (arith, one-mul (10 ^ length (take whole text))) in
-      let t : (n + 1) * 10 ^ length (take places (drop (whole + 1) text)) ≤ 1000000000 =
-      le-trans (mul-le-mul s p) (subst (λ (m : ℕ). m ≤ 1000000000) (pow-add 10 whole places) (tens (whole + places) few)) in
+      let t : (n + 1) * 10 ^ length (take places (drop (whole + 1) text)) ≤ 1000000000000 =
+      le-trans (mul-le-mul s p) (subst (λ (m : ℕ). m ≤ 1000000000000) (pow-add 10 whole places) (tens (whole + places) maxDigits few)) in
       rw (add-sub-cancel-left (whole + 1) places) (after, t)
 
 pub digits-whole : (text : List ℕ) (whole places n : ℕ) → places ≡ 0 → n ≡ digitsValue 0 (take whole text) → n ≡ digitsRead text whole places
@@ -171,9 +171,9 @@ digits-both text whole places n r e f =
 
 -- ---- a number
 module _ (text : List ℕ) (whole places end : ℕ) where
-  pub ended-long : 9 < whole + places → Other ≡ endedOf text whole places end
+  pub ended-long : maxDigits < whole + places → Other ≡ endedOf text whole places end
   unfolding endedOf
-  ended-long h = simp (lt-leb (whole + places) 9 h)
+  ended-long h = simp (lt-leb (whole + places) maxDigits h)
 
   module _ (r : Bool) (e : r ≡ exponentSpelled (take (length text - end) (drop end text))) where
     exponent-is : r ≡ exponentSpelled (drop end text)
@@ -186,12 +186,12 @@ module _ (text : List ℕ) (whole places end : ℕ) where
     pub ended-spelled : not r ≡ false → exponentSpelled (take (length text - end) (drop end text)) ≡ true
     ended-spelled h = sym e ∙ not-false r h
 
-    pub ended-number : whole + places ≤ 9 → not r ≡ false → (d : ℕ) → d ≡ digitsRead text whole places
+    pub ended-number : whole + places ≤ maxDigits → not r ≡ false → (d : ℕ) → d ≡ digitsRead text whole places
         → (p : ℤ) → p ≡ powerOf (take (length text - end) (drop end text)) places → Number d p ≡ endedOf text whole places end
     unfolding endedOf
     ended-number few h d f p g =
         let q : p ≡ powerOf (drop end text) places = g ∙ ap (λ (t : List ℕ). powerOf t places) (tail-part text end) in
-        simp (le-leb (whole + places) 9 few, sym exponent-is ∙ not-false r h) (cc)
+        simp (le-leb (whole + places) maxDigits few, sym exponent-is ∙ not-false r h) (cc)
 
 module _ (text : List ℕ) (whole places : ℕ) (e : places ≡ leading 48 57 (take (length text - (whole + 1)) (drop (whole + 1) text))) where
   places-is : places ≡ leading 48 57 (drop (whole + 1) text)
@@ -289,12 +289,20 @@ module _ (part : List ℕ) (k : ℕ) (e : k ≡ leading 32 32 part) where
 
     pub id-ask : length part ≤ 9 → n ≡ length (take (length part - k) (drop k part))
         → (leading 48 57 (take (length part - k) (drop k part)) ≡ length (take (length part - k) (drop k part)))
-        × ((0 + 1) * 10 ^ length (take (length part - k) (drop k part)) ≤ 1000000000)
+        × ((0 + 1) * 10 ^ length (take (length part - k) (drop k part)) ≤ 1000000000000)
     id-ask short h = (
       sym f ∙ h,
-      subst (λ (m : ℕ). m ≤ 1000000000) (sym (one-mul (10 ^ length (take (length part - k) (drop k part)))))
-          (tens (length (take (length part - k) (drop k part))) (omega (arith, take-short (length part - k) (drop k part)))),
+      subst (λ (m : ℕ). m ≤ 1000000000000) (sym (one-mul (10 ^ length (take (length part - k) (drop k part)))))
+          (tens (length (take (length part - k) (drop k part))) maxDigits (omega (arith, take-short (length part - k) (drop k part)))),
     )
+
+    pub id-fits : length part ≤ 9 → n ≡ length (take (length part - k) (drop k part))
+        → (v : ℕ) → v ≡ digitsValue 0 (take (length part - k) (drop k part)) → v < 1000000000
+    id-fits short h v g =
+        let s = take (length part - k) (drop k part) in
+        let b : digitsValue 0 s + 1 ≤ 1 * 10 ^ length s = digits-value-below s (sym f ∙ h) 0 1 (lit≤ tt) in
+        let t : 10 ^ length s ≤ 10 ^ 9 = tens (length s) 9 (omega (arith, take-short (length part - k) (drop k part))) in
+        omega (arith, one-mul (10 ^ length s))
 
     pub id-digits : 48 < getD (take (length part - k) (drop k part)) 0 0 → n ≡ length (take (length part - k) (drop k part))
         → (v : ℕ) → v ≡ digitsValue 0 (take (length part - k) (drop k part)) → v ≡ idIn part

@@ -1,5 +1,5 @@
--- How a field and an id are spelled (document 01, "Deck"): right-justified after spaces. A number is digits, or digits point digits, at most
--- nine digits so far, zeros counted; then, optionally, E, a sign and two digits. It has no leading sign.
+-- How a field and an id are spelled (document 01, "Deck"): right-justified after spaces. A number is digits, or digits point digits, as
+-- many as the columns of a field hold, zeros counted (document 02, P1); then, optionally, E, a sign and two digits. It has no leading sign.
 -- Bytes: 32 is a space, 43 +, 45 -, 46 a point, 48 to 57 the digits, 69 E.
 -- Assumes nothing.
 use Prim.Native.Nat.{ℕ, _+_, _*_, _-_}
@@ -8,7 +8,7 @@ use mathlib.Core.List.{List, [], _∷_, _++_}
 use lib.Dec.{leb, ltb, eqb}
 use lib.IntN.{ℤ, subℕ}
 use lib.ListN.{length, getD, take, drop}
-use Rattle.deck.specs.Parts.{leading}
+use Rattle.deck.specs.Parts.{leading, fieldWidth}
 use Rattle.deck.specs.declared.Word.{Word}
 use Rattle.deck.specs.declared.Word.the-variants.{Blank, Dash, Number, Other}
 
@@ -53,9 +53,9 @@ powerOf tail places =
 unfoldable pub digitsRead : List ℕ → ℕ → ℕ → ℕ
 digitsRead text whole places = digitsValue 0 (take whole text ++ take places (drop (whole + 1) text))
 
--- digits of a number before and after its point
+-- digits of a number before and after its point: as many as the twelve columns of a field hold
 abbrev pub maxDigits : ℕ
-maxDigits = 9
+maxDigits = fieldWidth
 
 -- the number with so many digits before the point and so many after it, whose exponent starts at end
 unfoldable pub endedOf : List ℕ → ℕ → ℕ → ℕ → Word

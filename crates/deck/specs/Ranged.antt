@@ -13,11 +13,11 @@ use Rattle.deck.specs.declared.Case.{Case}
 use Rattle.deck.specs.declared.Value.{Value}
 use Rattle.deck.specs.declared.Value.the-variants.{Absent, Printed}
 
--- what a field may spell: nine digits, and a power of ten from -108 to 99
+-- what a field may spell: twelve digits, and a power of ten from -111 to 99
 pub record Spelled (digits : ℕ) (power : ℤ) : Type 0 where
-  pub nine : digits < 1000000000
+  pub twelve : digits < 1000000000000
   pub high : above power ≤ 99
-  pub low : below power ≤ 108
+  pub low : below power ≤ 111
 
 -- what a slot's rule asks of its value; no value is right where - is allowed, and in a later slot
 abbrev pub Fits : Rule → Value → Type 0

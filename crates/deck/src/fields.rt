@@ -52,7 +52,7 @@ fn rules(kind: u32) -> [Rule; FIELDS]
 
 // 10 ^ n.
 fn ten_to(n: u32) -> u64
-    requires { ⌜ n ≤ 9 ⌝ }
+    requires { ⌜ n ≤ 19 ⌝ }
     ensures { λ r. ⌜ r ≡ 10 ^ n ⌝ }
 {
     let mut power: u64 = 1;
@@ -64,24 +64,28 @@ fn ten_to(n: u32) -> u64
     power
 }
 
-// digits × 10 ^ power is at most `most`. Past nine figures the digits, which fit 32 bits, do not count.
-fn at_most(most: u32, digits: u32, power: i32) -> bool
+// digits × 10 ^ power is at most `most`. No product is worked out, since it may not fit: a power above 0 divides `most`, one below 0
+// the digits. These lose one first, so that a remainder counts. `most` has at most ten figures and the digits at most twenty.
+fn at_most(most: u32, digits: u64, power: i32) -> bool
     requires { ⌜ 0 < digits ⌝ }
     ensures { λ r. ⌜ r ≡ valueAtMost most digits power ⌝ }
 {
     let up = raised(power);
-    let down = lowered(power);
     if 9 < up {
         return false;
     }
-    if 9 < down {
+    if 0 < up {
+        return digits <= most as u64 / ten_to(up);
+    }
+    let down = lowered(power);
+    if 19 < down {
         return 0 < most;
     }
-    digits as u64 * ten_to(up) <= most as u64 * ten_to(down)
+    (digits - 1) / ten_to(down) < most as u64
 }
 
-// digits × 10 ^ power is at least 1E-20.
-fn at_least(digits: u32, power: i32) -> bool
+// digits × 10 ^ power is at least 1E-20. The digits have at most twenty figures.
+fn at_least(digits: u64, power: i32) -> bool
     requires { ⌜ 0 < digits ⌝ }
     ensures { λ r. ⌜ r ≡ valueAtLeast digits power ⌝ }
 {
@@ -90,13 +94,13 @@ fn at_least(digits: u32, power: i32) -> bool
         return true;
     }
     let short = down - 20;
-    if 9 < short {
+    if 19 < short {
         return false;
     }
-    ten_to(short) <= digits as u64
+    ten_to(short) <= digits
 }
 
-fn in_range(rule: Rule, digits: u32, power: i32) -> bool
+fn in_range(rule: Rule, digits: u64, power: i32) -> bool
     ensures { λ r. ⌜ r ≡ inRange rule digits power ⌝ }
 {
     if digits == 0 {
@@ -154,7 +158,7 @@ fn field_status(rule: Rule, part: &[u8], n: usize, f: usize) -> Status
     }
 }
 
-fn range_status(rule: Rule, digits: u32, power: i32, n: usize, f: usize) -> Status
+fn range_status(rule: Rule, digits: u64, power: i32, n: usize, f: usize) -> Status
     ensures { λ r. ⌜ r ≡ cond (inRange rule digits power) Status.Read (Status.Stopped 33 n f) ⌝ }
 {
     if in_range(rule, digits, power) {

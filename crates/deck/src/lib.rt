@@ -41,8 +41,8 @@ pub const MAX_RECEPTORS: usize = 4;
 pub const MAX_LENGTH: usize = LINE_WIDTH
     * (SITE_LINES + RECORD_LINES * (MAX_CHEMICALS + MAX_RECEPTORS) + 1);
 
-// Digits of a number before and after its point, zeros counted.
-pub const MAX_DIGITS: usize = 9;
+// Digits of a number before and after its point, zeros counted: as many as the columns of a field hold.
+pub const MAX_DIGITS: usize = FIELD_WIDTH;
 
 // What a field's columns hold.
 pub enum Word {
@@ -50,7 +50,7 @@ pub enum Word {
     // A lone -.
     Dash,
     // digits × 10 ^ power.
-    Number { digits: u32, power: i32 },
+    Number { digits: u64, power: i32 },
     // None of these.
     Other,
 }
@@ -58,7 +58,7 @@ pub enum Word {
 // A slot's value as printed: digits × 10 ^ power. Absent where a lone - stands, and in slots that no record has.
 pub enum Value {
     Absent,
-    Printed { digits: u32, power: i32 },
+    Printed { digits: u64, power: i32 },
 }
 
 // What a slot was filled with.

@@ -6,7 +6,7 @@ ghost use lib.IntN.{subℕ};
 ghost use lib.Dec.{eqb};
 ghost use lib.ListN.{length, take, drop, getD};
 ghost use Rattle.deck.specs.Parts.{leading};
-ghost use Rattle.deck.specs.Numbers.{digitsValue, idIn, signSpelled, exponentSpelled, powerOf, digitsRead, endedOf, pointedOf, spelledOf, loneDash, wordOf};
+ghost use Rattle.deck.specs.Numbers.{digitsValue, idIn, signSpelled, exponentSpelled, powerOf, digitsRead, maxDigits, endedOf, pointedOf, spelledOf, loneDash, wordOf};
 ghost use Rattle.deck.specs.Ranges.{above, below};
 use crate::MAX_DIGITS;
 use crate::Word;
@@ -30,15 +30,15 @@ pub(crate) fn leading_bytes(s: &[u8], lo: u8, hi: u8) -> usize
 }
 
 // The number that the digits of s spell after `from`.
-fn digits_value(from: u32, s: &[u8]) -> u32
-    requires { ⌜ (leading 48 57 (now s) ≡ length (now s)) × ((from + 1) * 10 ^ length (now s) ≤ 1000000000) ⌝ }
+fn digits_value(from: u64, s: &[u8]) -> u64
+    requires { ⌜ (leading 48 57 (now s) ≡ length (now s)) × ((from + 1) * 10 ^ length (now s) ≤ 1000000000000) ⌝ }
     ensures { λ r. ⌜ r ≡ digitsValue from (now (s .entry)) ⌝ }
 {
     let mut value = from;
     let mut i: usize = 0;
     while i < s.len() {
         let digit = s[i] - b'0';
-        value = value * 10 + digit as u32;
+        value = value * 10 + digit as u64;
         i += 1;
     }
     value
@@ -86,7 +86,7 @@ pub(crate) fn id_in(columns: &[u8]) -> u32
     if leading_bytes(text, b'0', b'9') != text.len() {
         return 0;
     }
-    digits_value(0, text)
+    digits_value(0, text) as u32
 }
 
 // Byte `at` of s is b. There is no byte 0 in a text, so one past the end is none.
@@ -134,7 +134,7 @@ fn power_of(tail: &[u8], places: u32) -> i32
     if tail.len() == 0 {
         return difference(0, places);
     }
-    let exponent = digits_value(0, &tail[2..]);
+    let exponent = digits_value(0, &tail[2..]) as u32;
     if byte_is(tail, 1, b'-') {
         return difference(0, places + exponent);
     }
@@ -142,11 +142,11 @@ fn power_of(tail: &[u8], places: u32) -> i32
 }
 
 // The digits before and after the point, as one number.
-fn digits_read(text: &[u8], whole: usize, places: usize) -> u32
+fn digits_read(text: &[u8], whole: usize, places: usize) -> u64
     requires before { ⌜ (leading 48 57 (take whole (now text)) ≡ length (take whole (now text))) ⌝ }
     requires after { ⌜ (leading 48 57 (take places (drop (whole + 1) (now text))) ≡ length (take places (drop (whole + 1) (now text)))) ⌝ }
     requires within { ⌜ (whole ≤ length (now text)) × (places ≤ length (now text) - (whole + 1)) ⌝ }
-    requires few { ⌜ whole + places ≤ 9 ⌝ }
+    requires few { ⌜ whole + places ≤ maxDigits ⌝ }
     ensures { λ r. ⌜ r ≡ digitsRead (now (text .entry)) whole places ⌝ }
 {
     let before = digits_value(0, &text[..whole]);

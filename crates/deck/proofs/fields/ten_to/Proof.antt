@@ -20,7 +20,7 @@ loop-holds : tie.Need-loop-holds Inv-loop μ-loop
 loop-holds c = (search needs, refl)
 
 mul-power : tie.Need-mul-power Inv-loop μ-loop
-mul-power c = omega (arith, c .before .loop .inv .1, tens (c .before .loop .i) (omega (arith, c .before .before .pre)))
+mul-power c = omega (arith, c .before .loop .inv .1, tens (c .before .loop .i) 18 (omega (arith, c .before .before .pre)))
 
 add-i : tie.Need-add-i Inv-loop μ-loop
 add-i c = omega (arith, c .before .before .pre)

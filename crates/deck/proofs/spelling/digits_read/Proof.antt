@@ -1,4 +1,4 @@
--- `deck::spelling::digits_read` meets its contract: at most nine digits, before and after the point together.
+-- `deck::spelling::digits_read` meets its contract: at most twelve digits, before and after the point together.
 -- Assumes nothing.
 use borrow.Author.Needs.{needs}
 use Rattle.deck.proofs.Words.{digits-first, digits-next, digits-whole, digits-both}

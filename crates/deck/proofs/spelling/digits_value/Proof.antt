@@ -13,7 +13,7 @@ use Rattle.deck.proofs.spelling.digits_value.Tie as tie
 
 abbrev Inv-loop : tie.InvT-loop
 Inv-loop from s value₀ i₀ value i =
-    (i ≤ length s) × (digitsValue value (drop i s) ≡ digitsValue from s) × ((value + 1) * 10 ^ (length s - i) ≤ 1000000000)
+    (i ≤ length s) × (digitsValue value (drop i s) ≡ digitsValue from s) × ((value + 1) * 10 ^ (length s - i) ≤ 1000000000000)
 
 abbrev μ-loop : tie.MeasureT-loop
 μ-loop from s value₀ i₀ value i = length s - i
@@ -33,7 +33,7 @@ digit c = digit-at (now (c .before .before .before .args .s)) (c .before .before
 next : (c : tie.After-shared-slice-known Inv-loop μ-loop)
     → (c .before .before .loop .value * 10 + (getD (now (c .before .before .before .args .s)) (c .before .before .loop .i) 0 - 48) + 1)
     * 10 ^ (length (now (c .before .before .before .args .s)) - (c .before .before .loop .i + 1))
-    ≤ 1000000000
+    ≤ 1000000000000
 next c = room-loop _ _ _ _ _ (omega (arith, digit c)) (c .before .loop-test .taken) (c .before .before .loop .inv .2)
 
 sub-digit : tie.Need-sub-digit Inv-loop μ-loop

@@ -1,7 +1,8 @@
 -- `deck::spelling::id_in` meets its contract: one law for each way out.
 -- Assumes nothing.
 use borrow.Author.Needs.{needs}
-use Rattle.deck.proofs.Words.{text-within, id-blank, id-first, id-other, id-ask, id-digits}
+use Rattle.deck.proofs.Words.{text-within, id-blank, id-first, id-other, id-ask, id-fits, id-digits}
+use native.Mathlib.Omega.{arith}
 use denote.Ref.{now}
 use Rattle.deck.proofs.spelling.id_in.Statement.{statement}
 use Rattle.deck.proofs.spelling.id_in.Tie as tie
@@ -36,6 +37,9 @@ returns-3 c = id-other (now (c .before .before .before .before .before .before .
 digits-value-requires : tie.Need-digits-value-requires
 digits-value-requires c κs = id-ask (now (c .before .before .before .before .before .before .before .before .args .columns)) _ (c .before .before .before .before .before .before .leading-bytes .ensures) _ (c .before .leading-bytes2 .ensures) (c .before .before .before .before .before .before .before .before .pre) (c .if3 .left)
 
+cast-result : tie.Need-cast-result
+cast-result c = omega (arith, id-fits (now (c .before .before .before .before .before .before .before .before .before .args .columns)) _ (c .before .before .before .before .before .before .before .leading-bytes .ensures) _ (c .before .before .leading-bytes2 .ensures) (c .before .before .before .before .before .before .before .before .before .pre) (c .before .if3 .left) _ (c .digits-value .ensures))
+
 returns-4 : tie.Need-returns-4
 returns-4 c = id-digits (now (c .before .before .before .before .before .before .before .before .before .args .columns)) _ (c .before .before .before .before .before .before .before .leading-bytes .ensures) _ (c .before .before .leading-bytes2 .ensures) (c .before .before .before .if2 .left) (c .before .if3 .left) _ (c .digits-value .ensures)
 
@@ -53,4 +57,5 @@ id-in-spec =
     leading-bytes-requires-2
     returns-3
     digits-value-requires
+    cast-result
     returns-4)

@@ -26,6 +26,9 @@ part-digits-value-end c = search needs
 digits-value-requires : tie.Need-digits-value-requires
 digits-value-requires c κs = exponent-ask _ (c .before .before .before .pre .0) (c .before .if1 .left)
 
+cast-exponent : tie.Need-cast-exponent
+cast-exponent c = omega (arith, exponent-small _ (c .before .before .before .before .pre .0) (c .before .before .if1 .left) _ (c .digits-value .ensures))
+
 byte-is-requires : tie.Need-byte-is-requires
 byte-is-requires c κs = search needs
 
@@ -54,6 +57,7 @@ power-of-spec =
     part-digits-value-start
     part-digits-value-end
     digits-value-requires
+    cast-exponent
     byte-is-requires
     add-difference
     difference-requires-2
