@@ -1,4 +1,4 @@
--- Laws of the exact comparisons, by division: powers of ten past the tenth for 32 bits, and past the twentieth for 64, decide alone.
+-- Laws of the exact comparisons, by division: from 10 ^ 10 on, against 32 bits, and from 10 ^ 20 on, against 64, a power of ten decides alone.
 -- Assumes nothing.
 use Prim.Native.Nat.{ℕ, suc, _+_, _*_, _-_, _/_, _^_, _≤_, _<_}
 use native.Mathlib.Nat.{le-trans, lt-of-lt-of-le, mul-one, one-mul, zero-mul, mul-le-mul, mul-le-mul-right, pow-le-pow-right, pow-suc, one-le-pow, le-of-mul-le-mul-right, eq-zero-or-pos, mul-lt-mul-of-pos-right, le-div-iff-mul-le, div-lt-iff-lt-mul}
@@ -42,7 +42,7 @@ module _ (a b c d : ℕ) (f : a ≤ b → c ≤ d) (g : c ≤ d → a ≤ b) whe
   leb-same : leb a b ≡ leb c d
   leb-same = agree (leb a b) (leb c d) refl refl
 
--- at most: a power above 0 divides the most, which rounds down; one below 0 divides the digits less one, which have as many
+-- at most: a power above 0 divides the largest value; one below 0 divides the digits, less one so that a remainder counts
 module _ (most digits : ℕ) (z : ℤ) (some : 0 < digits) where
   pub above-all : most < 2 ^ 32 → 9 < above z → false ≡ valueAtMost most digits z
   unfolding valueAtMost
