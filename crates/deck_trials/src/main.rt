@@ -52,7 +52,7 @@ fn column(head: &[u8], k: usize) -> u64
     }
     let word = deck::number(&head[from..to]);
     match word {
-        Word::Number { digits, power: _ } => digits as u64,
+        Word::Number { digits, power: _ } => digits,
         _ => 0,
     }
 }
@@ -81,7 +81,8 @@ fn mixed_value(sum: u64, value: Value) -> u64
     match value {
         Value::Absent => mixed(sum, 1),
         Value::Printed { digits, power } => {
-            let with_digits = mixed(sum, digits as u64);
+            // The remainder first: a sum with all of the digits may not fit.
+            let with_digits = mixed(sum, digits % MODULUS);
             let with_raised = mixed(with_digits, deck::raised(power) as u64);
             mixed(with_raised, deck::lowered(power) as u64)
         }

@@ -1,0 +1,225 @@
+#!/usr/bin/env python3
+"""Writes data/decks and stdout: the stored decks, each with the answer of an independent reading of documents 01 and 02.
+
+  python3 make_decks.py ORACLE
+
+ORACLE is the folder of that reading (its oracle.py and decks.py), written in Python from the documents alone; nothing of it is
+copied here. It gives number, line and field, or which records a deck has, with P1 landed: level 1. No answer comes from the crate
+deck. The checksum needs digits and power as printed, which the oracle does not keep: they are taken from the fields' bytes here,
+and their value is held to the oracle's.
+
+The first 452 decks stand in data/decks since before P1 and are answered afresh. One whose fields have nine digits at most must keep
+its answer. The others are made anew on each run, from document 01's example but for one or two fields:
+  each slot with ten, eleven and twelve digits in range, and above its largest value
+  both ends of each range, on both sides, and 0 where it is never 0
+  later slots, and fields that spell no number, with that many digits
+  a long field before and after a field that stops the deck
+  whole decks by the oracle's own generator, half of them damaged
+"""
+import random
+import sys
+from fractions import Fraction
+from pathlib import Path
+
+LEVEL = 1
+OLD = 452
+MODULUS = 999983
+SEED = 20270101
+HERE = Path(__file__).parent
+
+sys.dont_write_bytecode = True
+sys.path.insert(0, sys.argv[1])
+import decks as generator
+import oracle
+
+RECORDS = {"S": (oracle.SITE, "site"), "C": (oracle.CHEM, "chems"), "R": (oracle.REC, "recs")}
+
+
+# ---- answers
+
+def fields(line):
+    return [line[8 + 12 * f:20 + 12 * f] for f in range(6)]
+
+
+def printed(part):
+    """digits and power of the number in a field, or None for a blank and a lone -"""
+    text = part.decode().strip()
+    if text in ("", "-"):
+        return None
+    mantissa, _, exponent = text.partition("E")
+    whole, _, places = mantissa.partition(".")
+    digits, power = int(whole + places), int(exponent or 0) - len(places)
+    assert oracle.read_number(part, LEVEL) == digits * Fraction(10) ** power
+    return digits, power
+
+
+def mixed(total, x):
+    return (total * 31 + x) % MODULUS
+
+
+def mixed_record(total, lines):
+    total = mixed(total, int(lines[0][2:8]) if lines else 0)
+    values = [printed(part) for line in lines for part in fields(line)]
+    for value in values + [None] * (24 - len(values)):
+        if value is None:
+            total = mixed(total, 1)
+        else:
+            total = mixed(mixed(mixed(total, value[0]), max(value[1], 0)), max(-value[1], 0))
+    return total
+
+
+def checksum(lines, chemicals, receptors):
+    """of the case: the site, 16 chemicals and 4 receptors, those that the deck lacks empty"""
+    total = mixed_record(0, lines[:2])
+    for first, count, room in ((2, chemicals, 16), (2 + 4 * chemicals, receptors, 4)):
+        for i in range(room):
+            total = mixed_record(total, lines[first + 4 * i:first + 4 * i + 4] if i < count else [])
+    return total
+
+
+def answer(deck):
+    """the five numbers that are stored before a deck"""
+    try:
+        _, chemicals, receptors = oracle.read_deck(deck, LEVEL)
+    except oracle.Refusal as refusal:
+        return (len(deck), *refusal.answer, checksum([], 0, 0))
+    lines = [deck[i:i + 81] for i in range(0, len(deck), 81)]
+    counts = len(chemicals), len(receptors)
+    return (len(deck), 0, *counts, checksum(lines, *counts))
+
+
+# ---- the decks from before
+
+def stored():
+    data, at = (HERE / "data/decks").read_bytes(), 0
+    for _ in range(OLD):
+        head = tuple(int(data[at + 6 * k:at + 6 * k + 6]) for k in range(5))
+        at += 31 + head[0]
+        yield head, data[at - head[0]:at]
+
+
+def many_digits(deck):
+    """some field has ten digits or more"""
+    return any(sum(48 <= b <= 57 for b in part) > 9 for i in range(0, len(deck), 81) for part in fields(deck[i:i + 81]))
+
+
+# ---- the decks made anew
+
+def with_fields(*changes):
+    """document 01's example, (letter, slot's name, text) changed"""
+    given = {"site": {}, "chems": [{}], "recs": [{}]}
+    for letter, name, text in changes:
+        slot = given[RECORDS[letter][1]]
+        (slot if letter == "S" else slot[0])[name] = text
+    return oracle.example(LEVEL, **given)
+
+
+def put(deck, line, field, text):
+    at = 81 * (line - 1) + 8 + 12 * (field - 1)
+    return deck[:at] + text.rjust(12).encode() + deck[at + 12:]
+
+
+def within(rng, largest, count):
+    """a number of so many digits, above 0 and below the largest"""
+    if count == 12:
+        return str(rng.randrange(1, largest + 1)).rjust(12, "0")
+    whole = rng.randrange(largest)
+    places = count - len(str(whole))
+    return f"{whole}.{rng.randrange(1, 10 ** places):0{places}}"
+
+
+TOPS = {
+    1: (["1.000000000", "1.0000000000", "000000000001", "0.9999999999", "0.999999999", "00000.999999"],
+        ["1.000000001", "1.0000000001", "000000000002", "1.0000000010", "00001.000001", "000000000010"]),
+    366: (["366.0000000", "366.00000000", "000000000366", "365.99999999", "365.9999999"],
+          ["366.0000001", "366.00000001", "000000000367", "366.10000000", "000000003660"]),
+    10 ** 9: (["1000000000", "1000000000.0", "001000000000", "999999999.5", "999999999.99", "01000000000"],
+              ["1000000001", "1000000000.1", "001000000001", "1000000000.9", "100000000000", "999999999999", "10000000000"]),
+}
+BOTTOMS = (["1.000000E-20", "1.000001E-20", "00000001E-20", "10000000E-27", "0.000001E-14", "0.0000000001"],
+           ["9.99999E-21", "9.999999E-21", "0.999999E-20", "99999999E-28", "00000009E-21", "0.000001E-99"])
+ZEROS = ["0000000000", "00000000000", "000000000000", "0.000000000", "0.0000000000", "0000000000.0"]
+NO_NUMBERS = ["12345678901.", ".12345678901", "1..234567890", "1.2345.67890", "1234567890E5", "1234567E+123", "123456789E+0",
+              "12345678E+1", "1234567890E+", "-12345678901", "+12345678901", "1234567890 1", "12345678901 ", "1234567890+1",
+              "1,234567890", "123456789O12", "1.234567890-", "1234567890-2", "0x1234567890", "1.23456789e1", "------------"]
+
+
+def largest(name):
+    return 1 if name in oracle.ATMOST1 else 366 if name in oracle.ATMOST366 else 10 ** 9
+
+
+def slots():
+    return [(letter, name) for letter, (names, _) in RECORDS.items() for name in names]
+
+
+def in_every_slot(rng):
+    for i, (letter, name) in enumerate(slots()):
+        top = largest(name)
+        good, bad = TOPS[top]
+        yield with_fields((letter, name, within(rng, top, 10 + i % 2)))
+        yield with_fields((letter, name, within(rng, top, 12)))
+        yield with_fields((letter, name, good[i % len(good)]))
+        yield with_fields((letter, name, bad[i % len(bad)]))
+
+
+def at_the_ends():
+    for letter, name in (("C", "Fv"), ("R", "EFs"), ("C", "Kds")):
+        for texts in TOPS[largest(name)] + BOTTOMS:
+            for text in texts:
+                yield with_fields((letter, name, text))
+    for i, name in enumerate(sorted(oracle.NONZERO & {name for _, name in slots()})):
+        letter = next(letter for letter, (names, _) in RECORDS.items() if name in names)
+        yield with_fields((letter, name, ZEROS[i % len(ZEROS)]))
+    for text in ZEROS:
+        yield with_fields(("C", "Q", text))
+
+
+def misplaced():
+    example = oracle.example(LEVEL)
+    for line, field in ((2, 6), (6, 5), (6, 6), (10, 4), (10, 5), (10, 6)):
+        yield put(example, line, field, "123456789012")
+    for i, text in enumerate(NO_NUMBERS):
+        yield put(example, 1 + i % 10, 1 + i % 5, text)
+
+
+def around_a_stop():
+    long = ("C", "Cyv", "0.1234567891")
+    for text in ("1.0000000001", "12345678901.", "", "-"):
+        yield with_fields(long, ("C", "HgD", text))
+        yield with_fields(long, ("C", "Dydv", text))
+    whole = with_fields(long)
+    yield whole[:-81]
+    yield whole[:81 * 5] + b"\t" + whole[81 * 5 + 1:]
+    yield with_fields(long, ("S", "Zs", "0000000000.0"))
+
+
+def generated(rng):
+    for i in range(28):
+        deck = generator.deck(rng, LEVEL)
+        while not many_digits(deck) or len(deck) > 2500:
+            deck = generator.deck(rng, LEVEL)
+        yield generator.damage(rng, deck, LEVEL) if i % 2 else deck
+
+
+def made():
+    rng = random.Random(SEED)
+    for decks in (in_every_slot(rng), at_the_ends(), misplaced(), around_a_stop(), generated(rng)):
+        yield from decks
+
+
+def main():
+    changed, data, stopped, count = 0, b"", 0, 0
+    old = list(stored())
+    for head, deck in old:
+        assert answer(deck) == head or many_digits(deck), "a deck of nine digits at most has another answer"
+        changed += answer(deck) != head
+    for deck in [deck for _, deck in old] + list(made()):
+        numbers = answer(deck)
+        count, stopped = count + 1, stopped + (numbers[1] != 0)
+        data += "".join(f"{n:6}" for n in numbers).encode() + b"\n" + deck
+    (HERE / "data/decks").write_bytes(data)
+    (HERE / "stdout").write_text(f"{count} decks, {stopped} of them stopped, 0 answered otherwise\n")
+    print(f"{count} decks, {stopped} stopped, {len(data)} bytes; {changed} of the first {OLD} changed their answer")
+
+
+main()
