@@ -19,7 +19,7 @@ use Rattle.pair.specs.Fraction.{Fraction, Proper, _≤ᶠ_, plus, times,
 use Rattle.pair.specs.Number as N
 use Rattle.pair.specs.Number.{isZero, zeroExponent, unitsAt, lower, lesser, rise, inReach, isNumber, isPair, atMost, value, place, depth, one}
 use Rattle.pair.specs.Rounding.{rounded, restEnd, unitsEnd, divided}
-use Rattle.pair.specs.Calls.{is, zeroPair, onePair, ends, checked, mostPrinted, entry, oneMinusEntry, sum, product, quotient, oneMinus, compared, inUnits}
+use Rattle.pair.specs.Calls.{is, provided, zeroPair, onePair, ends, checked, mostPrinted, entry, oneMinusEntry, sum, product, quotient, oneMinus, compared, inUnits}
 use Rattle.pair.specs.Promises.{Operation, sums, products, quotients, call, exactResult, lowEnd, highEnd, withLow, withHigh, Holds, Beside, Close, grown, Rounded, Around, Sized, _≤ₑ_, scaled}
 use Rattle.pair.proofs.Exponents.{mag-minus}
 use Rattle.pair.proofs.Alignment.{order-level}
@@ -458,6 +458,11 @@ unfolding entry rounded zeroPair
 zero-entry e h =
     provided-true (ends N.zero N.zero) (both-from (le-leb 0 mostPrinted (lit≤ tt)) h)
     ∙ ends-from N.zero N.zero (number-reach N.zero zero-number) (number-reach N.zero zero-number)
+
+-- 1 less 1 is 0.
+pub one-less-one : oneMinusEntry 1 (pos 0) ≡ is zeroPair
+unfolding oneMinusEntry restEnd rounded provided ends inReach atMost unitsAt lower lesser rise one zeroPair N.zero
+one-less-one = refl
 
 -- What is a pair is passed on.
 pub checked-is : (p : Pair) → isPair p ≡ true → checked p ≡ is p

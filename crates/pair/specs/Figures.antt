@@ -1,10 +1,11 @@
--- Document 01's checked figures of the arithmetic, marked ● there: each as it is worked and as it is printed.
+-- Document 01's checked figures of the arithmetic, marked ● there, and those of printed numbers with more than nine digits: each as it is
+-- worked and as it is printed.
 use mathlib.Core.Path.{_≡_}
 use mathlib.Core.List.{List, [], _∷_}
 use Prim.Native.Nat.{ℕ}
 use lib.IntN.{ℤ, pos, negsuc}
 use Rattle.pair.specs.declared.Pair.{Pair}
-use Rattle.pair.specs.Calls.{Outcome, is, after, afterOne, entry, product, quotient, oneMinus}
+use Rattle.pair.specs.Calls.{Outcome, is, after, afterOne, entry, product, quotient, oneMinus, oneMinusEntry}
 
 pub record Figure : Type 0 where
   pub worked : Outcome Pair
@@ -42,4 +43,10 @@ figures =
       worked = whole 25 ⊗ whole 1 ⊗ entry 61 (negsuc 1) ⊗ whole 1 ⊗ whole 151 ⊗ whole 75 ⊗ entry 1 (negsuc 5) ⊘ (entry 633 (negsuc 0) ⊗ whole 27375);
       printed = bothEnds 996667315 996667316 (negsuc 15);
     }
+    -- 999999999.5, whose nine figures carry, and 1 − 0.99999999999
+    ∷ record {
+      worked = entry 9999999995 (negsuc 0);
+      printed = is (record { low = record { significand = 999999999; exponent = pos 0 }; high = record { significand = 100000000; exponent = pos 1 } });
+    }
+    ∷ record { worked = oneMinusEntry 99999999999 (negsuc 10); printed = bothEnds 100000000 100000000 (negsuc 18) }
     ∷ []
