@@ -8,12 +8,11 @@ use lib.IntN.{pos}
 use Rattle.pair.specs.declared.Pair.{Pair}
 use Rattle.pair.specs.Number.{isPair}
 use Rattle.pair.specs.Calls.{Outcome, is, after, afterOne, zeroPair, onePair, entry, sum, quotient}
-use Rattle.pair.proofs.Promises.{zero-pair, one-pair, one-entry, entry-answered, entry-pair, entry-above, sum-zero, product-zero, zero-quotient, quotient-one}
-use Rattle.slots.specs.Slots.{Slot}
+use Rattle.pair.proofs.Promises.{zero-pair, one-pair, one-entry, entry-answered, entry-around, entry-above, around-pair, scaled-proper, sum-zero, product-zero, zero-quotient, quotient-one}
 use Rattle.equations.specs.Formula.{read, pairs}
 use Rattle.equations.specs.Series.{terms, fromZero, pairSeries}
 use Rattle.equations.specs.Page.{x, g}
-use Rattle.equations.specs.Readings.{letters, plain, worked}
+use Rattle.equations.specs.Readings.{Inputs, letters, plain, asAnswers, worked}
 use Rattle.equations.proofs.LineLaws.{x-plain}
 
 -- At x = 0 a term after a pair is 0.
@@ -23,7 +22,7 @@ next-term n p h v t =
     let d = entry-answered (n + 2) (pos 0) (omega arith) (lit≤ tt) in
     let q : Pair = d .0 in
     rw (t, d .1, product-zero p v)
-    (zero-quotient q (entry-pair (n + 2) (pos 0) q (d .1)) (entry-above (n + 2) (pos 0) q (d .1) (omega arith)))
+    (zero-quotient q (around-pair (entry-around (n + 2) (pos 0) q (d .1)) (scaled-proper (n + 2) (pos 0))) (entry-above (n + 2) (pos 0) q (d .1) (omega arith)))
 
 -- So every term from the second on is 0, and the sum stays 1.
 term-at-zero : (n : ℕ) → n ≤ 1000 → terms pairs (is zeroPair) (suc n) .term ≡ is zeroPair
@@ -46,10 +45,10 @@ unfolding after
 one-over = rw (one-entry, quotient-one onePair (one-pair .0), sum-zero onePair (one-pair .0)) (quotient-one onePair (one-pair .0))
 
 -- g at x = 0 is 1.
-pub g-at-zero : (env : Slot → Pair) → plain pairs (λ s. is (env s)) x ≡ is zeroPair → worked env g ≡ is onePair
+pub g-at-zero : (env : Inputs Pair) → plain pairs (asAnswers env .value) x ≡ is zeroPair → worked env g ≡ is onePair
 unfolding worked read pairs letters g
 g-at-zero env h =
-    let o : Outcome Pair = pairSeries (plain pairs (λ s. is (env s)) x) in
+    let o : Outcome Pair = pairSeries (plain pairs (asAnswers env .value) x) in
     let e : o ≡ is onePair = ap pairSeries h ∙ series-at-zero in
-    let d : read pairs (letters (λ s. is (env s)) o) x ≡ is zeroPair = x-plain pairs (λ s. is (env s)) o ∙ h in
+    let d : read pairs (letters (asAnswers env) o) x ≡ is zeroPair = x-plain pairs (asAnswers env) o ∙ h in
     rw (d, e) one-over

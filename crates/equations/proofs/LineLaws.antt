@@ -3,7 +3,7 @@
 -- says. So are the media, the factors, the intakes and the lines, and a line's high end is at most its low end and one part in 5,000
 -- more. Assumes nothing.
 use mathlib.Core.Path.{_≡_, refl, sym, _∙_, ap, subst}
-use mathlib.Core.Bool.{Bool, true, false, _&&_}
+use mathlib.Core.Bool.{Bool, true, false, _&&_, false≢true}
 use Prim.Native.Nat.{ℕ, _*_, _^_, _≤_, _<_}
 use native.Mathlib.Nat.{mul-le-mul-right, le-of-mul-le-mul-right, one-le-pow}
 use native.Mathlib.Omega.{arith}
@@ -12,6 +12,7 @@ use lib.IntN.{pos}
 use borrow.Author.Tests.{leb-true}
 use Rattle.pair.specs.declared.Number.{Number}
 use Rattle.pair.specs.declared.Pair.{Pair}
+use Rattle.pair.specs.Fraction as exact
 use Rattle.pair.specs.Fraction.{Fraction, _≤ᶠ_}
 use Rattle.pair.specs.Number.{isPair, value, depth}
 use Rattle.pair.specs.Calls.{Outcome, is}
@@ -22,59 +23,62 @@ use Rattle.equations.specs.declared.Pathway.the-variants.{Air, SoilSumme
 use Rattle.equations.specs.declared.Effect.{Effect}
 use Rattle.equations.specs.declared.Effect.the-variants.{Hazard, Cancer}
 use Rattle.slots.specs.Slots.{Slot, table, same, isIn, placeIn, entryRule, ruleAt, ownerOf, placeOf, ruleOf, neverZero, atMostOne}
-use Rattle.equations.specs.Formula.{Letter, slot, phi, Formula, Algebra, read, pairs, fractions}
+use Rattle.equations.specs.Formula.{Letter, slot, rest, phi, Formula, Algebra, read, pairs, fractions}
 use Rattle.equations.specs.Series.{terms, pairSeries, exactSeries}
 use Rattle.equations.specs.Letters.{tD}
 use Rattle.equations.specs.Page as page
 use Rattle.equations.specs.Page.{x}
-use Rattle.equations.specs.Readings.{letters, plain, worked, exactly}
+use Rattle.equations.specs.Readings.{Inputs, letters, plain, asAnswers, worked, exactInputs, exactly}
 use Rattle.equations.specs.Ranges.{InRange, sixtyFour}
 use Rattle.equations.proofs.Limits.{at-most-whole}
 use Rattle.equations.proofs.Nearness.{Near, near-more, spread}
-use Rattle.equations.proofs.Profile.{Profile, profiles, ofNumber, positives, usable, joined, ofRest, Fits, Good, both, parts, good-number, equal-ends}
+use Rattle.equations.proofs.Profile.{Profile, profiles, ofNumber, positives, usable, joined, Fits, Good, both, parts, good-around, good-number}
 use Rattle.equations.proofs.FormulaLaws.{profile, reads-good}
 use Rattle.equations.proofs.SeriesLaws.{seriesProfile, series-good}
 
--- the profile of a slot
+-- the profile of a slot, and of 1 less it
 unfoldable pub ofSlot : Slot → Profile
-ofSlot s = record { size = 20; width = 0; positive = neverZero s; share = atMostOne s; answered = true }
+ofSlot s = record { size = 20; width = 1; positive = neverZero s; answered = true }
+
+unfoldable pub ofSlots : Inputs Profile
+ofSlots = record { value = ofSlot; rest = λ s. record { size = 12; width = 1; positive = false; answered = atMostOne s } }
 
 -- an answered pair of this size and width
 abbrev pub answeredAs : ℕ → ℕ → Bool → Profile
-answeredAs size width positive = record { size = size; width = width; positive = positive; share = false; answered = true }
+answeredAs size width positive = record { size = size; width = width; positive = positive; answered = true }
 
 -- the profile of x, read from the slots alone
 unfoldable pub ofX : Profile
 ofX = plain profiles ofSlot x
 
-pub x-profile : ofX ≡ answeredAs 215 30 false
-unfolding ofX plain read profiles letters x page.k page.u page.kse page.ksr page.ksl ofNumber joined ofRest joint spread positives usable ofSlot table same isIn placeIn entryRule ruleAt ownerOf placeOf ruleOf neverZero atMostOne
+pub x-profile : ofX ≡ answeredAs 215 40 false
+unfolding ofX plain read profiles letters x page.k page.u page.kse page.ksr page.ksl ofNumber joined joint spread positives usable ofSlot table same isIn placeIn entryRule ruleAt ownerOf placeOf ruleOf neverZero atMostOne
 x-profile = refl
 
 -- whether the profiles of a line say that it is answered and narrow, from φ's
 lineCheck : Profile → Effect → Pathway → Bool
 lineCheck P e p =
-    let f : Profile = profile (letters ofSlot P) (page.line e p) in
-    f .answered && leb (f .width) 9300
+    let f : Profile = profile (letters ofSlots P) (page.line e p) in
+    f .answered && leb (f .width) 11400
 
 -- the profile of φ, and of a formula
 unfoldable pub ofPhi : Profile
 ofPhi = seriesProfile ofX
 
 unfoldable pub ofFormula : Formula → Profile
-ofFormula f = profile (letters ofSlot ofPhi) f
+ofFormula f = profile (letters ofSlots ofPhi) f
 
-series-profile : seriesProfile (answeredAs 215 30 false) ≡ answeredAs 57387 8675 true
-unfolding seriesProfile terms profiles ofNumber joined ofRest joint spread positives usable
+series-profile : seriesProfile (answeredAs 215 40 false) ≡ answeredAs 57387 11225 true
+unfolding seriesProfile terms profiles ofNumber joined joint spread positives usable
 series-profile = refl
 
-pub phi-profile : ofPhi ≡ answeredAs 57387 8675 true
+pub phi-profile : ofPhi ≡ answeredAs 57387 11225 true
 unfolding ofPhi
 phi-profile = ap seriesProfile x-profile ∙ series-profile
 
 -- The profiles of the lines, and with them of all that stands in a line.
-line-computed : (e : Effect) (p : Pathway) → lineCheck (answeredAs 57387 8675 true) e p ≡ true
-unfolding lineCheck profile read profiles letters page.line page.figureBy page.intake page.intakeBy page.factor page.medium page.byMedium page.exposure page.B page.AT page.reference page.referenceSlot page.byRoute page.A page.C page.D page.g page.aboveGround page.belowGround x page.k page.u page.kse page.ksr page.ksl ofNumber joined ofRest joint spread positives usable ofSlot table same isIn placeIn entryRule ruleAt ownerOf placeOf ruleOf neverZero atMostOne
+line-computed : (e : Effect) (p : Pathway) → lineCheck (answeredAs 57387 11225 true) e p ≡ true
+unfolding lineCheck profile read profiles letters page.line page.figureBy page.intake page.intakeBy page.factor page.medium page.byMedium page.exposure page.B page.AT page.reference page.referenceSlot page.byRoute page.A page.C page.D page.g page.aboveGround page.belowGround x page.k page.u page.kse page.ksr page.ksl ofNumber joined joint spread positives usable ofSlots ofSlot table same isIn placeIn entryRule ruleAt ownerOf placeOf ruleOf neverZero atMostOne
 line-computed Hazard Air = refl
 line-computed Hazard SoilSummer = refl
 line-computed Hazard SoilWinter = refl
@@ -88,13 +92,13 @@ line-computed Cancer Skin = refl
 line-computed Cancer AboveGround = refl
 line-computed Cancer BelowGround = refl
 
-line-checked : (e : Effect) (p : Pathway) → (ofFormula (page.line e p) .answered ≡ true) × (ofFormula (page.line e p) .width ≤ 9300)
+line-checked : (e : Effect) (p : Pathway) → (ofFormula (page.line e p) .answered ≡ true) × (ofFormula (page.line e p) .width ≤ 11400)
 unfolding ofFormula lineCheck
 line-checked e p =
     let c : lineCheck ofPhi e p ≡ true = rw phi-profile (line-computed e p) in
-    let f : Profile = profile (letters ofSlot ofPhi) (page.line e p) in
-    let t = both (f .answered) (leb (f .width) 9300) c in
-    (t .0, leb-true (f .width) 9300 (t .1))
+    let f : Profile = profile (letters ofSlots ofPhi) (page.line e p) in
+    let t = both (f .answered) (leb (f .width) 11400) c in
+    (t .0, leb-true (f .width) 11400 (t .1))
 
 intake-checked : (e : Effect) (p : Pathway) → ofFormula (page.intake e p) .answered ≡ true
 unfolding page.line page.figureBy ofFormula profile read profiles
@@ -117,61 +121,59 @@ soil-checked =
     (parts products (ofFormula page.D) (ofFormula tD) (a .first) .first, a .second)
 
 -- The pair reading of f is r, which fits f's profile and holds the exact reading for every N from 256 up.
-pub record Works (env : Slot → Pair) (vals : Slot → Fraction) (f : Formula) (r : Pair) : Type 0 where
+pub record Works (env : Inputs Pair) (vals : Slot → Fraction) (f : Formula) (r : Pair) : Type 0 where
   pub told : worked env f ≡ is r
   pub pair : isPair r ≡ true
   pub fits : Fits (ofFormula f) r
   pub held : (N : ℕ) → 256 ≤ N → Holds r (exactly N vals f)
 
 -- φ does not stand in x, so that x is read alike with it and without.
-pub x-plain : {A : Type 0} (alg : Algebra A) (env : Slot → A) (series : A) → read alg (letters env series) x ≡ plain alg env x
+pub x-plain : {A : Type 0} (alg : Algebra A) (env : Inputs A) (series : A) → read alg (letters env series) x ≡ plain alg (env .value) x
 unfolding plain read letters x page.k page.u page.kse page.ksr page.ksl
 x-plain alg env series = refl
 
 -- 6.4E+1 is 64.
 sixty-four : (p : Pair) → value (p .high) ≤ᶠ value sixtyFour → value (p .high) ≤ᶠ record { num = 64; den = 1 }
 unfolding sixtyFour
-sixty-four p h = at-most-whole 64 (record { low = sixtyFour; high = sixtyFour }) sixty-four-entry (p .high) .0 h
+sixty-four p h = at-most-whole 64 (record { low = sixtyFour; high = sixtyFour }) (lit≤ tt) sixty-four-entry (p .high) .0 h
 
 -- Inputs in range are pairs that fit their slots' profiles.
-module _ (env : Slot → Pair) (vals : Slot → Fraction) (inputs : (s : Slot) → InRange s (env s) (vals s)) where
-  slot-good : (s : Slot) → Good (ofSlot s) (is (env s)) (vals s)
+module _ (env : Inputs Pair) (vals : Slot → Fraction) (inputs : (s : Slot) → InRange s env (vals s)) where
+  slot-good : (s : Slot) → Good (ofSlot s) (is (env .value s)) (vals s)
   unfolding ofSlot
   slot-good s =
-      let i : InRange s (env s) (vals s) = inputs s in
-      record {
-        answer = env s;
-        told = refl;
-        fits =
-            record {
-              pair = i .pair;
-              within = record { low = i .low-sized; high = i .high-sized };
-              wide = equal-ends (env s) (i .same);
-              positive = i .above;
-              share = λ t. (i .same, i .most t);
-            };
-        held = i .held;
-      }
+      let t = inputs s .value in
+      good-around (ofSlot s) (vals s) (env .value s) (t .proper) (t .around) (t .sized) (lit≤ tt) refl (inputs s .above)
+
+  rest-good : (s : Slot) → ofSlots .rest s .answered ≡ true → Good (ofSlots .rest s) (is (env .rest s)) (exact.rest (vals s))
+  unfolding ofSlots
+  rest-good s h =
+      let t = inputs s .rest h in
+      good-around (ofSlots .rest s) (exact.rest (vals s)) (env .rest s) (t .proper) (t .around) (t .sized) (lit≤ tt) refl (λ z. absurd (false≢true z))
 
   letter-good : (P : Profile) (o : Outcome Pair) (v : Fraction) → (P .answered ≡ true → Good P o v) → (l : Letter) →
-      letters ofSlot P l .answered ≡ true → Good (letters ofSlot P l) (letters (λ s. is (env s)) o l) (letters vals v l)
-  unfolding letters
+      letters ofSlots P l .answered ≡ true → Good (letters ofSlots P l) (letters (asAnswers env) o l) (letters (exactInputs vals) v l)
+  unfolding letters asAnswers exactInputs ofSlots
   letter-good P o v g (slot s) h = slot-good s
+  letter-good P o v g (rest s) h = rest-good s h
   letter-good P o v g phi h = g h
 
-  x-good : Good ofX (plain pairs (λ s. is (env s)) x) (plain fractions vals x)
-  unfolding ofX plain profile pairs fractions profiles
+  -- a formula without φ and 1 − is read alike, whatever stands for them
+  x-good : Good ofX (plain pairs (asAnswers env .value) x) (plain fractions vals x)
+  unfolding ofX profile pairs fractions profiles exactInputs ofSlots
   x-good =
-      reads-good (letters ofSlot (ofNumber 1 (pos 0))) (letters (λ s. is (env s)) (pairs .number 1 (pos 0))) (letters vals (fractions .number 1 (pos 0)))
-      (letter-good (ofNumber 1 (pos 0)) (pairs .number 1 (pos 0)) (fractions .number 1 (pos 0)) (good-number 1 (pos 0))) x (ap (λ (P : Profile). P .answered) x-profile)
+      rw (← (x-plain profiles ofSlots (ofNumber 1 (pos 0))), ← (x-plain pairs (asAnswers env) (pairs .number 1 (pos 0))), ← (x-plain fractions (exactInputs vals) (fractions .number 1 (pos 0))))
+      (reads-good (letters ofSlots (ofNumber 1 (pos 0))) (letters (asAnswers env) (pairs .number 1 (pos 0))) (letters (exactInputs vals) (fractions .number 1 (pos 0)))
+      (letter-good (ofNumber 1 (pos 0)) (pairs .number 1 (pos 0)) (fractions .number 1 (pos 0)) (good-number 1 (pos 0))) x
+      (ap (λ (P : Profile). P .answered) (x-plain profiles ofSlots (ofNumber 1 (pos 0)) ∙ x-profile)))
 
   -- x is answered and holds the exact x.
-  pub x-answered : (p : Pair) × (plain pairs (λ s. is (env s)) x ≡ is p) × (isPair p ≡ true) × Holds p (plain fractions vals x)
+  pub x-answered : (p : Pair) × (plain pairs (asAnswers env .value) x ≡ is p) × (isPair p ≡ true) × Holds p (plain fractions vals x)
   x-answered = (x-good .answer, x-good .told, x-good .fits .pair, x-good .held)
 
   -- What follows holds where x's high end is at most 64.
-  module _ (p : Pair) (told : plain pairs (λ s. is (env s)) x ≡ is p) (most : value (p .high) ≤ᶠ value sixtyFour) where
-    phi-good : (N : ℕ) → 256 ≤ N → ofPhi .answered ≡ true → Good ofPhi (pairSeries (plain pairs (λ s. is (env s)) x)) (exactSeries N (plain fractions vals x))
+  module _ (p : Pair) (told : plain pairs (asAnswers env .value) x ≡ is p) (most : value (p .high) ≤ᶠ value sixtyFour) where
+    phi-good : (N : ℕ) → 256 ≤ N → ofPhi .answered ≡ true → Good ofPhi (pairSeries (plain pairs (asAnswers env .value) x)) (exactSeries N (plain fractions vals x))
     unfolding ofPhi
     phi-good N n h =
         let i : is (x-good .answer) ≡ is p = sym (x-good .told) ∙ told in
@@ -181,9 +183,9 @@ module _ (env : Slot → Pair) (vals : Slot → Fraction) (inputs : (s : Slot) �
     worked-good : (f : Formula) → ofFormula f .answered ≡ true → (N : ℕ) → 256 ≤ N → Good (ofFormula f) (worked env f) (exactly N vals f)
     unfolding ofFormula worked exactly
     worked-good f h N n =
-        let o : Outcome Pair = pairSeries (plain pairs (λ s. is (env s)) x) in
+        let o : Outcome Pair = pairSeries (plain pairs (asAnswers env .value) x) in
         let v : Fraction = exactSeries N (plain fractions vals x) in
-        reads-good (letters ofSlot ofPhi) (letters (λ s. is (env s)) o) (letters vals v) (letter-good ofPhi o v (phi-good N n)) f h
+        reads-good (letters ofSlots ofPhi) (letters (asAnswers env) o) (letters (exactInputs vals) v) (letter-good ofPhi o v (phi-good N n)) f h
 
     -- Every formula whose profile says so is answered with one pair, which holds the exact value for every N from 256 up.
     pub formula-works : (f : Formula) → ofFormula f .answered ≡ true → (r : Pair) × Works env vals f r
@@ -237,15 +239,15 @@ module _ (env : Slot → Pair) (vals : Slot → Fraction) (inputs : (s : Slot) �
     belowGround-works = medium-works BelowGround
 
 -- A line's high end is at most its low end and one part in 5,000 more.
-few-parts : (u v : Number) (w : ℕ) → w ≤ 9300 → Near w (value u) (value v) → 5000 * value u .num ≤ 5001 * value v .num
+few-parts : (u v : Number) (w : ℕ) → w ≤ 11400 → Near w (value u) (value v) → 5000 * value u .num ≤ 5001 * value v .num
 unfolding value
 few-parts u v w l h =
-    cancel (value u .num) (value v .num) (10 ^ depth) (100000000 ^ 9300) (100000001 ^ 9300) (near-more l h .across) (lit≤ tt) (one-le-pow depth 10 (lit< tt)) (one-le-pow 9300 100000000 (lit< tt))
+    cancel (value u .num) (value v .num) (10 ^ depth) (100000000 ^ 11400) (100000001 ^ 11400) (near-more l h .across) (lit≤ tt) (one-le-pow depth 10 (lit< tt)) (one-le-pow 11400 100000000 (lit< tt))
   where
     cancel : (a b d m n : ℕ) → a * d * m ≤ b * d * n → n * 5000 ≤ m * 5001 → 0 < d → 0 < m → 5000 * a ≤ 5001 * b
     cancel a b d m n p q s t =
         let c : a * m ≤ b * n = le-of-mul-le-mul-right {k = d} (omega arith) s in
         le-of-mul-le-mul-right {k = m} (omega (arith, mul-le-mul-right b q)) t
 
-pub line-narrow : (env : Slot → Pair) (vals : Slot → Fraction) (e : Effect) (p : Pathway) (r : Pair) → Works env vals (page.line e p) r → 5000 * value (r .high) .num ≤ 5001 * value (r .low) .num
+pub line-narrow : (env : Inputs Pair) (vals : Slot → Fraction) (e : Effect) (p : Pathway) (r : Pair) → Works env vals (page.line e p) r → 5000 * value (r .high) .num ≤ 5001 * value (r .low) .num
 line-narrow env vals e p r h = few-parts (r .high) (r .low) (ofFormula (page.line e p) .width) (line-checked e p .1) (h .fits .wide)

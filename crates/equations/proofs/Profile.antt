@@ -1,6 +1,5 @@
 -- A third reading of the formulas, on profiles: what is known of a pair before it is worked. A profile tells how large and how wide the
--- pair can be, whether its low end is above 0, whether it is a share of 1, and whether its calls are all answered. One law for each
--- operation: operands that fit their profiles give an answer that fits its own and holds the exact result. Assumes nothing.
+-- pair can be, whether its low end is above 0, and whether its calls are all answered. One law for each operation: operands that fit their profiles give an answer that fits its own and holds the exact result. Assumes nothing.
 use mathlib.Core.Path.{_≡_, refl, sym, subst}
 use mathlib.Core.Bool.{Bool, true, false, _&&_, _||_, false≢true}
 use mathlib.Core.Logic.{_⊎_, inl, inr}
@@ -14,28 +13,27 @@ use lib.Pow.{pow-add}
 use borrow.Author.Tests.{leb-true, ltb-true}
 use Rattle.pair.specs.declared.Number.{Number}
 use Rattle.pair.specs.declared.Pair.{Pair}
-use Rattle.pair.specs.Fraction.{Fraction, Proper, _≤ᶠ_, plus, times, over, rest}
+use Rattle.pair.specs.Fraction.{Fraction, Proper, plus, times, over}
 use Rattle.pair.specs.Number.{isPair, value, place, depth}
-use Rattle.pair.specs.Calls.{Outcome, is, after, afterOne, entry, oneMinus}
-use Rattle.pair.specs.Promises.{Operation, sums, products, quotients, call, exactResult, lowEnd, highEnd, withLow, withHigh, Holds, Sized, scaled}
+use Rattle.pair.specs.Calls.{Outcome, is, after, entry}
+use Rattle.pair.specs.Promises.{Operation, sums, products, quotients, call, exactResult, lowEnd, highEnd, withLow, withHigh, Holds, Around, grown, Sized, scaled}
 use Rattle.pair.proofs.Promises as promises
 use Rattle.pair.proofs.Promises.{Within, Usable, joint, value-proper, answered-within, rounds, ends-proper, pair-again, holds}
 use Rattle.equations.specs.Formula.{Algebra}
 use Rattle.equations.proofs.Nearness.{Near, near-from, near-through, near-above, near-down, near-up, spread, NearAlong, near-exactly}
 
 -- What is known of a pair: its ends are 0 or from 10^−size to 10^size, its high end is its low end and at most width parts in 10^8 more,
--- its low end is above 0, it has equal ends at most 1, and it is answered.
+-- its low end is above 0, and it is answered.
 pub record Profile : Type 0 where
   pub size : ℕ
   pub width : ℕ
   pub positive : Bool
-  pub share : Bool
   pub answered : Bool
 
--- m × 10^e, of at most nine digits
+-- the constant m × 10^e, of at most nine digits
 unfoldable pub ofNumber : ℕ → ℤ → Profile
 ofNumber m e =
-    record { size = 10 + mag e; width = 0; positive = ltb 0 m; share = false; answered = leb m 999999999 && leb (mag e) 99000 }
+    record { size = 10 + mag e; width = 0; positive = ltb 0 m; answered = leb m 999999999 && leb (mag e) 99000 }
 
 -- where the low end of a result is above 0, and where a divisor may stand
 unfoldable pub positives : Operation → Bool → Bool → Bool
@@ -55,16 +53,11 @@ joined o P Q =
       size = size;
       width = spread o (P .width) (Q .width) + 2;
       positive = positives o (P .positive) (Q .positive);
-      share = false;
       answered = P .answered && (Q .answered && (usable o (Q .positive) && leb size 99991));
     }
 
--- 1 − f, of a share f
-unfoldable pub ofRest : Profile → Profile
-ofRest P = record { size = 9; width = 2; positive = false; share = false; answered = P .answered && P .share }
-
 unfoldable pub profiles : Algebra Profile
-profiles = record { number = ofNumber; plus = joined sums; times = joined products; over = joined quotients; rest = ofRest }
+profiles = record { number = ofNumber; plus = joined sums; times = joined products; over = joined quotients }
 
 -- p is as its profile says
 pub record Fits (P : Profile) (p : Pair) : Type 0 where
@@ -72,7 +65,6 @@ pub record Fits (P : Profile) (p : Pair) : Type 0 where
   pub within : Within (P .size) p
   pub wide : Near (P .width) (value (p .high)) (value (p .low))
   pub positive : P .positive ≡ true → 0 < value (p .low) .num
-  pub share : P .share ≡ true → (p .low ≡ p .high) × (value (p .high) .num ≤ value (p .high) .den)
 
 -- the outcome is a pair that fits its profile and holds the exact value
 pub record Good (P : Profile) (o : Outcome Pair) (x : Fraction) : Type 0 where
@@ -174,41 +166,8 @@ good-op o P Q {x} {y} a b h =
                 λ t.
                 near-above (value-proper (r .0 .low)) (near-down (rounds o p q (r .0) (r .1) .0))
                 (low-above o (P .positive) (Q .positive) p q t (a .fits .positive) (b .fits .positive));
-            share = λ t. absurd (false≢true t);
           };
       held = holds o p q (r .0) x y (r .1) (a .held) (b .held);
-    }
-
-rest-proper : (w : Number) → Proper (rest (value w))
-unfolding rest
-rest-proper w = record { above-zero = value-above w }
-
--- 1 − f of equal ends is two parts wide.
-wide-rest : (f r : Pair) → oneMinus f ≡ is r → f .low ≡ f .high → Near 2 (value (r .high)) (value (r .low))
-wide-rest f r h e =
-    let d = promises.rest-rounds f r h in
-    near-through (rest-proper (f .low)) (near-up (d .1))
-    (subst (λ (w : Number). Near 1 (rest (value w)) (value (r .low))) (sym e) (near-down (d .0)))
-
--- 1 − f.
-pub good-rest : (P : Profile) {f : Outcome Pair} {x : Fraction} → Good P f x → ofRest P .answered ≡ true → Good (ofRest P) (afterOne oneMinus f) (rest x)
-unfolding ofRest afterOne
-good-rest P {f} {x} a h =
-    let p : Pair = a .answer in
-    let s = a .fits .share (both (P .answered) (P .share) h .1) in
-    let r = promises.rest-answered p (a .fits .pair) (s .1) in
-    record {
-      answer = r .0;
-      told = rw (a .told) (r .1);
-      fits =
-          record {
-            pair = promises.rest-pair p (r .0) (r .1);
-            within = promises.rest-within p (r .0) (r .1);
-            wide = wide-rest p (r .0) (r .1) (s .0);
-            positive = λ t. absurd (false≢true t);
-            share = λ t. absurd (false≢true t);
-          };
-      held = promises.rest-holds p (r .0) x (r .1) (a .held);
     }
 
 -- A constant.
@@ -245,12 +204,25 @@ number-size (suc m) (negsuc n) h l =
           );
     }
 
-number-above : (m : ℕ) (e : ℤ) (w : Number) → 0 < m → scaled m e ≤ᶠ value w → 0 < value w .num
-unfolding scaled
-number-above m e w p h = near-above (value-proper w) (near-from h) (mul-pos p (ten-above (place e)))
-
 pub equal-ends : (p : Pair) → p .low ≡ p .high → Near 0 (value (p .high)) (value (p .low))
 equal-ends p e = subst (λ (w : Number). Near 0 (value (p .high)) (value w)) (sym e) (near-from (promises.below-itself (value (p .high))))
+
+-- The pair around an exact value is one part wide.
+pub good-around : (P : Profile) (x : Fraction) (p : Pair) → Proper x → Around x p → Sized (P .size) x → P .size ≤ 99991 → P .width ≡ 1 → (P .positive ≡ true → 0 < x .num) → Good P (is p) x
+unfolding grown
+good-around P x p m a s n w above =
+    record {
+      answer = p;
+      told = refl;
+      fits =
+          record {
+            pair = promises.around-pair a m;
+            within = promises.around-within a m (P .size) s n;
+            wide = subst (λ (k : ℕ). Near k (value (p .high)) (value (p .low))) (sym w) (record { across = omega (arith, a .narrow .across) });
+            positive = λ t. promises.around-above a m (above t);
+          };
+      held = promises.around-holds a m;
+    }
 
 pub good-number : (m : ℕ) (e : ℤ) → ofNumber m e .answered ≡ true → Good (ofNumber m e) (entry m e) (scaled m e)
 unfolding ofNumber
@@ -258,18 +230,19 @@ good-number m e h =
     let a = both (leb m 999999999) (leb (mag e) 99000) h in
     let d : m ≤ 999999999 = leb-true m 999999999 (a .0) in
     let l : mag e ≤ 99000 = leb-true (mag e) 99000 (a .1) in
-    let r = promises.entry-answered m e d l in
-    let x = promises.entry-exact m e (r .0) (r .1) in
+    let r = promises.entry-answered m e (omega arith) l in
+    let around = promises.entry-around m e (r .0) (r .1) in
+    let proper = promises.scaled-proper m e in
+    let x = promises.entry-exact m e (r .0) d (r .1) in
     record {
       answer = r .0;
       told = r .1;
       fits =
           record {
-            pair = promises.entry-pair m e (r .0) (r .1);
-            within = promises.entry-within m e (r .0) (10 + mag e) (r .1) (number-size m e d l) (omega arith);
+            pair = promises.around-pair around proper;
+            within = promises.around-within around proper (10 + mag e) (number-size m e d l) (omega arith);
             wide = equal-ends (r .0) (x .0);
-            positive = λ t. subst (λ (w : Number). 0 < value w .num) (sym (x .0)) (number-above m e (r .0 .high) (ltb-true 0 m t) (x .1 .high));
-            share = λ t. absurd (false≢true t);
+            positive = λ t. promises.entry-above m e (r .0) (r .1) (ltb-true 0 m t);
           };
       held = x .1;
     }

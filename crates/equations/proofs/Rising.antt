@@ -4,38 +4,43 @@ use mathlib.Core.Path.{_≡_, refl, sym, _∙_, ap, ap₂}
 use mathlib.Core.Bool.{Bool, true, false, _&&_, not}
 use Prim.Native.Nat.{ℕ}
 use native.Mathlib.Omega.{arith}
-use lib.IntN.{pos}
+use lib.IntN.{ℤ, pos}
 use borrow.Author.Tests.{not-true}
 use Rattle.pair.specs.declared.Pair.{Pair}
-use Rattle.pair.specs.Calls.{Outcome, is, refused, after, afterOne, sum, product, quotient, oneMinus}
-use Rattle.pair.specs.Promises.{sums, products, quotients, call, _≤ₑ_}
-use Rattle.pair.proofs.Promises.{Toward, rises, ends-itself}
+use Rattle.pair.specs.Fraction.{_≤ᶠ_}
+use Rattle.pair.specs.Calls.{Outcome, is, refused, after, entry, sum, product, quotient}
+use Rattle.pair.specs.Promises.{sums, products, quotients, call, _≤ₑ_, scaled}
+use Rattle.pair.proofs.Promises.{Toward, rises, ends-itself, entry-rises}
 use Rattle.equations.specs.declared.Pathway.{Pathway}
 use Rattle.equations.specs.declared.Pathway.the-variants.{Air, SoilSummer, SoilWinter, Skin, AboveGround, BelowGround}
 use Rattle.equations.specs.declared.Effect.{Effect}
 use Rattle.equations.specs.declared.Effect.the-variants.{Hazard, Cancer}
 use Rattle.slots.specs.Slots.{Slot, same}
-use Rattle.equations.specs.Formula.{phi, Letter, slot, Formula, letter, constant, 1−, _⊕_, _⊗_, _⊘_, read, pairs}
+use Rattle.equations.specs.Formula.{Letter, slot, rest, phi, Formula, letter, constant, _⊕_, _⊗_, _⊘_, read, pairs}
 use Rattle.equations.specs.Series.{pairSeries}
 use Rattle.equations.specs.Page as page
 use Rattle.equations.specs.Page.{x}
-use Rattle.equations.specs.Readings.{letters, plain, worked}
+use Rattle.equations.specs.Readings.{Inputs, letters, plain, asAnswers, worked}
 use Rattle.equations.proofs.Profile.{both}
+use Rattle.equations.proofs.LineLaws.{x-plain}
 
 -- no marked letter stands in the formula
 unfoldable pub steady : (Letter → Bool) → Formula → Bool
 steady mark (letter l) = not (mark l)
 steady mark (constant m e) = true
-steady mark (1− s) = not (mark (slot s))
 steady mark (f ⊕ g) = steady mark f && steady mark g
 steady mark (f ⊗ g) = steady mark f && steady mark g
 steady mark (f ⊘ g) = steady mark f && steady mark g
 
 -- none stands in a divisor or in 1 −
+unfoldable pub risingLetter : (Letter → Bool) → Letter → Bool
+risingLetter mark (slot s) = true
+risingLetter mark (rest s) = not (mark (rest s))
+risingLetter mark phi = true
+
 unfoldable pub rising : (Letter → Bool) → Formula → Bool
-rising mark (letter l) = true
+rising mark (letter l) = risingLetter mark l
 rising mark (constant m e) = true
-rising mark (1− s) = not (mark (slot s))
 rising mark (f ⊕ g) = rising mark f && rising mark g
 rising mark (f ⊗ g) = rising mark f && rising mark g
 rising mark (f ⊘ g) = rising mark f && steady mark g
@@ -63,22 +68,19 @@ operands f (refused n) y r h = absurd (never h)
 same-pair : {o : Outcome Pair} (p q : Pair) → o ≡ is p → o ≡ is q → p ≡ q
 same-pair p q h k = cc
 
-module _ (mark : Letter → Bool) (env env' : Letter → Outcome Pair) (alike : (l : Letter) → mark l ≡ false → env l ≡ env' l) (risen : (l : Letter) (p p' : Pair) → env l ≡ is p → env' l ≡ is p' → _≤ₑ_ p p') where
+module _ (mark : Letter → Bool) (env env' : Letter → Outcome Pair) (alike : (l : Letter) → mark l ≡ false → env l ≡ env' l) (risen : (l : Letter) → risingLetter mark l ≡ true → (p p' : Pair) → env l ≡ is p → env' l ≡ is p' → _≤ₑ_ p p') where
   pub steady-same : (f : Formula) → steady mark f ≡ true → read pairs env f ≡ read pairs env' f
   unfolding steady read pairs
   steady-same (letter l) h = alike l (not-true (mark l) h)
   steady-same (constant m e) h = refl
-  steady-same (1− s) h = ap (afterOne oneMinus) (alike (slot s) (not-true (mark (slot s)) h))
   steady-same (f ⊕ g) h = let t = both (steady mark f) (steady mark g) h in ap₂ (after sum) (steady-same f (t .0)) (steady-same g (t .1))
   steady-same (f ⊗ g) h = let t = both (steady mark f) (steady mark g) h in ap₂ (after product) (steady-same f (t .0)) (steady-same g (t .1))
   steady-same (f ⊘ g) h = let t = both (steady mark f) (steady mark g) h in ap₂ (after quotient) (steady-same f (t .0)) (steady-same g (t .1))
 
   pub formula-rises : (f : Formula) → rising mark f ≡ true → (r r' : Pair) → read pairs env f ≡ is r → read pairs env' f ≡ is r' → _≤ₑ_ r r'
   unfolding rising read pairs call Toward
-  formula-rises (letter l) h r r' a b = risen l r r' a b
+  formula-rises (letter l) h r r' a b = risen l h r r' a b
   formula-rises (constant m e) h r r' a b = rw (same-pair r r' a b) (ends-itself r')
-  formula-rises (1− s) h r r' a b =
-      rw (same-pair r r' (sym (ap (afterOne oneMinus) (alike (slot s) (not-true (mark (slot s)) h))) ∙ a) b) (ends-itself r')
   formula-rises (f ⊕ g) h r r' a b =
       let t = both (rising mark f) (rising mark g) h in
       let c = operands sum (read pairs env f) (read pairs env g) r a in
@@ -102,45 +104,58 @@ module _ (mark : Letter → Bool) (env env' : Letter → Outcome Pair) (alike : 
       (formula-rises f (t .0) (c .first) (d .first) (c .first-is) (d .first-is))
       (rw e (ends-itself (c .second)))
 
+-- marked slots, and with them 1 less their values
+unfoldable pub marked : (Slot → Bool) → Letter → Bool
+marked mark = letters (record { value = mark; rest = mark }) false
+
+-- the inputs are alike but for the marked slots
+pub record Alike (mark : Slot → Bool) (env env' : Inputs Pair) : Type 0 where
+  pub value : (s : Slot) → mark s ≡ false → env .value s ≡ env' .value s
+  pub rest : (s : Slot) → mark s ≡ false → env .rest s ≡ env' .rest s
+
 -- Where the marked slots do not stand in x, a formula rises with them as it is worked.
-module _ (mark : Slot → Bool) (free : steady (letters mark false) x ≡ true) (env env' : Slot → Pair) (alike : (s : Slot) → mark s ≡ false → env s ≡ env' s) (risen : (s : Slot) → _≤ₑ_ (env s) (env' s)) where
-  letter-same : (o o' : Outcome Pair) → o ≡ o' → (l : Letter) → letters mark false l ≡ false → letters (λ s. is (env s)) o l ≡ letters (λ s. is (env' s)) o' l
-  unfolding letters
-  letter-same o o' e (slot s) h = ap (λ (p : Pair). is p) (alike s h)
+module _ (mark : Slot → Bool) (free : steady (marked mark) x ≡ true) (env env' : Inputs Pair) (alike : Alike mark env env') (risen : (s : Slot) → _≤ₑ_ (env .value s) (env' .value s)) where
+  letter-same : (o o' : Outcome Pair) → o ≡ o' → (l : Letter) → marked mark l ≡ false → letters (asAnswers env) o l ≡ letters (asAnswers env') o' l
+  unfolding letters marked asAnswers
+  letter-same o o' e (slot s) h = ap (λ (p : Pair). is p) (alike .value s h)
+  letter-same o o' e (rest s) h = ap (λ (p : Pair). is p) (alike .rest s h)
   letter-same o o' e phi h = e
 
-  letter-risen : (o o' : Outcome Pair) → o ≡ o' → (l : Letter) (p p' : Pair) → letters (λ s. is (env s)) o l ≡ is p → letters (λ s. is (env' s)) o' l ≡ is p' → _≤ₑ_ p p'
-  unfolding letters
-  letter-risen o o' e (slot s) p p' h h' =
-      let i : env s ≡ p = cc in
-      let j : env' s ≡ p' = cc in
+  letter-risen : (o o' : Outcome Pair) → o ≡ o' → (l : Letter) → risingLetter (marked mark) l ≡ true → (p p' : Pair) → letters (asAnswers env) o l ≡ is p → letters (asAnswers env') o' l ≡ is p' → _≤ₑ_ p p'
+  unfolding letters marked asAnswers risingLetter
+  letter-risen o o' e (slot s) t p p' h h' =
+      let i : env .value s ≡ p = cc in
+      let j : env' .value s ≡ p' = cc in
       rw (← i, ← j) (risen s)
-  letter-risen o o' e phi p p' h h' = rw (same-pair p p' (sym e ∙ h) h') (ends-itself p')
+  letter-risen o o' e (rest s) t p p' h h' =
+      rw (same-pair p p' (sym (ap (λ (q : Pair). is q) (alike .rest s (not-true (mark s) t))) ∙ h) h') (ends-itself p')
+  letter-risen o o' e phi t p p' h h' = rw (same-pair p p' (sym e ∙ h) h') (ends-itself p')
 
-  x-same : plain pairs (λ s. is (env s)) x ≡ plain pairs (λ s. is (env' s)) x
-  unfolding plain
+  x-same : plain pairs (asAnswers env .value) x ≡ plain pairs (asAnswers env' .value) x
   x-same =
-      steady-same (letters mark false) (letters (λ s. is (env s)) (pairs .number 1 (pos 0))) (letters (λ s. is (env' s)) (pairs .number 1 (pos 0)))
-      (letter-same (pairs .number 1 (pos 0)) (pairs .number 1 (pos 0)) refl) (letter-risen (pairs .number 1 (pos 0)) (pairs .number 1 (pos 0)) refl) x free
+      let one : Outcome Pair = pairs .number 1 (pos 0) in
+      sym (x-plain pairs (asAnswers env) one)
+      ∙ steady-same (marked mark) (letters (asAnswers env) one) (letters (asAnswers env') one) (letter-same one one refl) (letter-risen one one refl) x free
+      ∙ x-plain pairs (asAnswers env') one
 
-  pub worked-rises : (f : Formula) → rising (letters mark false) f ≡ true → (r r' : Pair) → worked env f ≡ is r → worked env' f ≡ is r' → _≤ₑ_ r r'
+  pub worked-rises : (f : Formula) → rising (marked mark) f ≡ true → (r r' : Pair) → worked env f ≡ is r → worked env' f ≡ is r' → _≤ₑ_ r r'
   unfolding worked
   worked-rises f h r r' a b =
-      let o : Outcome Pair = pairSeries (plain pairs (λ s. is (env s)) x) in
-      let o' : Outcome Pair = pairSeries (plain pairs (λ s. is (env' s)) x) in
+      let o : Outcome Pair = pairSeries (plain pairs (asAnswers env .value) x) in
+      let o' : Outcome Pair = pairSeries (plain pairs (asAnswers env' .value) x) in
       let e : o ≡ o' = ap pairSeries x-same in
-      formula-rises (letters mark false) (letters (λ s. is (env s)) o) (letters (λ s. is (env' s)) o') (letter-same o o' e) (letter-risen o o' e) f h r r' a b
+      formula-rises (marked mark) (letters (asAnswers env) o) (letters (asAnswers env') o') (letter-same o o' e) (letter-risen o o' e) f h r r' a b
 
 -- The emission rate Q
 unfoldable pub emission : Slot → Bool
 emission s = same "Q" s
 
-x-steady : steady (letters emission false) x ≡ true
-unfolding steady letters emission same x page.k page.u page.kse page.ksr page.ksl
+x-steady : steady (marked emission) x ≡ true
+unfolding steady marked letters emission same x page.k page.u page.kse page.ksr page.ksl
 x-steady = refl
 
-line-rising : (e : Effect) (p : Pathway) → rising (letters emission false) (page.line e p) ≡ true
-unfolding rising steady letters emission same page.line page.figureBy page.intake page.intakeBy page.factor page.medium page.byMedium page.exposure page.B page.AT page.reference page.referenceSlot page.byRoute page.A page.C page.D page.g page.aboveGround page.belowGround x page.k page.u page.kse page.ksr page.ksl
+line-rising : (e : Effect) (p : Pathway) → rising (marked emission) (page.line e p) ≡ true
+unfolding rising risingLetter steady marked letters emission same page.line page.figureBy page.intake page.intakeBy page.factor page.medium page.byMedium page.exposure page.B page.AT page.reference page.referenceSlot page.byRoute page.A page.C page.D page.g page.aboveGround page.belowGround x page.k page.u page.kse page.ksr page.ksl
 line-rising Hazard Air = refl
 line-rising Hazard SoilSummer = refl
 line-rising Hazard SoilWinter = refl
@@ -154,7 +169,16 @@ line-rising Cancer Skin = refl
 line-rising Cancer AboveGround = refl
 line-rising Cancer BelowGround = refl
 
--- Each end of every line rises with Q.
-pub line-rises : (env env' : Slot → Pair) → ((s : Slot) → emission s ≡ false → env s ≡ env' s) → ((s : Slot) → _≤ₑ_ (env s) (env' s)) →
+-- Each end of every line rises with the printed Q, where all else is alike.
+pub line-rises : (env env' : Inputs Pair) → Alike emission env env' → (m m' : ℕ) (power power' : ℤ) → scaled m power ≤ᶠ scaled m' power' →
+    ((s : Slot) → emission s ≡ true → (entry m power ≡ is (env .value s)) × (entry m' power' ≡ is (env' .value s))) →
     (e : Effect) (p : Pathway) (r r' : Pair) → worked env (page.line e p) ≡ is r → worked env' (page.line e p) ≡ is r' → _≤ₑ_ r r'
-line-rises env env' same risen e p = worked-rises emission x-steady env env' same risen (page.line e p) (line-rising e p)
+line-rises env env' alike m m' power power' more entered e p =
+    worked-rises emission x-steady env env' alike risen (page.line e p) (line-rising e p)
+  where
+    at : (s : Slot) (t : Bool) → emission s ≡ t → _≤ₑ_ (env .value s) (env' .value s)
+    at s true h = entry-rises m m' power power' (env .value s) (env' .value s) (entered s h .0) (entered s h .1) more
+    at s false h = rw (alike .value s h) (ends-itself (env' .value s))
+
+    risen : (s : Slot) → _≤ₑ_ (env .value s) (env' .value s)
+    risen s = at s (emission s) refl

@@ -2,7 +2,7 @@
 -- once more at the high end, hold every exact sum of 256 terms or more. `seriesProfile` and `series-good` alone say how wide the series
 -- is. Assumes nothing.
 use mathlib.Core.Path.{_≡_, refl, sym, _∙_, ap}
-use mathlib.Core.Bool.{true, false, _&&_, false≢true}
+use mathlib.Core.Bool.{true, _&&_}
 use mathlib.Core.Logic.{inl}
 use Prim.Native.Nat.{ℕ, zero, suc, _+_, _*_, _^_, _≤_, _<_}
 use native.Mathlib.Nat.{mul-le-mul-right, le-of-mul-le-mul-right, mul-pos, one-le-pow, le-dest, add-zero}
@@ -50,7 +50,6 @@ seriesProfile P =
       size = size;
       width = s .total .width + 3;
       positive = s .total .positive;
-      share = false;
       answered = s .total .answered && (leb size 99991 && leb (100000001 ^ s .term .width) (4 * 100000000 ^ s .term .width));
     }
 
@@ -175,7 +174,6 @@ module _ (P : Profile) (T t : Pair) (x : Fraction) (l : Last P T t x) where
         within = s;
         wide = phi-wide r h;
         positive = λ y. above (l .whole .positive y);
-        share = λ y. absurd (false≢true y);
       }
     where
       above : 0 < value (T .low) .num → 0 < value (r .low) .num

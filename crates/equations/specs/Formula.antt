@@ -4,24 +4,28 @@ use lib.IntN.{ℤ}
 use Rattle.pair.specs.declared.Pair.{Pair}
 use Rattle.pair.specs.Fraction as exact
 use Rattle.pair.specs.Fraction.{Fraction}
-use Rattle.pair.specs.Calls.{Outcome, after, afterOne, entry, sum, product, quotient, oneMinus}
+use Rattle.pair.specs.Calls.{Outcome, after, entry, sum, product, quotient}
 use Rattle.pair.specs.Promises.{scaled}
 use Rattle.slots.specs.Slots.{Slot}
 
--- A letter stands for the value of a slot, or for the series φ at x.
+-- A letter stands for the value of a slot, for 1 less that value, or for the series φ at x.
 pub data Letter : Type 0 where
   slot : Slot → Letter
+  rest : Slot → Letter
   phi : Letter
 
--- The written operations: ⊕, ⊗ and ⊘ are document 01's +, × and /, and `1−` its only subtraction, of a slot.
+-- The written operations: ⊕, ⊗ and ⊘ are document 01's +, × and /.
 infixl 65 _⊕_
 infixl 70 _⊗_
 infixl 70 _⊘_
 pub data Formula : Type 0 where
   letter : Letter → Formula
   constant : ℕ → ℤ → Formula
-  1− : Slot → Formula
   _⊕_ _⊗_ _⊘_ : Formula → Formula → Formula
+
+-- 1 less a slot's value: document 01's only subtraction. It is taken from what is printed, so it is a letter and no operation.
+abbrev pub 1− : Slot → Formula
+1− s = letter (rest s)
 
 -- What a reading makes of the operations.
 pub record Algebra (A : Type 0) : Type 1 where
@@ -29,20 +33,18 @@ pub record Algebra (A : Type 0) : Type 1 where
   pub plus : A → A → A
   pub times : A → A → A
   pub over : A → A → A
-  pub rest : A → A
 
 unfoldable pub read : {A : Type 0} → Algebra A → (Letter → A) → Formula → A
 read alg env (letter l) = env l
 read alg env (constant m e) = alg .number m e
-read alg env (1− s) = alg .rest (env (slot s))
 read alg env (f ⊕ g) = alg .plus (read alg env f) (read alg env g)
 read alg env (f ⊗ g) = alg .times (read alg env f) (read alg env g)
 read alg env (f ⊘ g) = alg .over (read alg env f) (read alg env g)
 
 -- On pairs: each operation by the working rule, a refusal carried along.
 unfoldable pub pairs : Algebra (Outcome Pair)
-pairs = record { number = entry; plus = after sum; times = after product; over = after quotient; rest = afterOne oneMinus }
+pairs = record { number = entry; plus = after sum; times = after product; over = after quotient }
 
 -- On exact fractions: m × 10^e and the operations, unrounded.
 unfoldable pub fractions : Algebra Fraction
-fractions = record { number = scaled; plus = exact.plus; times = exact.times; over = exact.over; rest = exact.rest }
+fractions = record { number = scaled; plus = exact.plus; times = exact.times; over = exact.over }

@@ -7,19 +7,24 @@ use Rattle.equations.specs.declared.Values.{Values}
 use Rattle.equations.specs.Formula.{Formula, pairs}
 use Rattle.equations.specs.Page.{x, A, C, aboveGround, belowGround}
 use Rattle.equations.specs.Ranges.{sixtyFour}
-use Rattle.equations.specs.Readings.{plain, worked, inputs, noValues}
+use Rattle.equations.specs.Readings.{Inputs, plain, worked, inputs, noValues}
 use Rattle.media.specs.declared.Media.{Media}
 use Rattle.media.specs.declared.Bounded.{Bounded}
 use Rattle.media.specs.declared.Bounded.the-variants as Bounds
 use Rattle.media.specs.declared.Found.{Found}
 use Rattle.media.specs.declared.Found.the-variants as Founds
 
--- a formula without φ, and one with it, read from the values of a site and a chemical; no formula here has a slot of a receptor
+-- what the media are worked from: the values of a site and a chemical, and the particle share 1 − Fv, which is taken from the printed
+-- digits. No formula here has a slot of a receptor, or 1 less another slot.
+unfoldable pub mediaInputs : Values → Values → Pair → Inputs Pair
+mediaInputs s c particles = record { value = inputs s c noValues; rest = λ i. particles }
+
+-- a formula with neither φ nor 1 −, and any formula
 unfoldable pub ofSlots : Values → Values → Formula → Outcome Pair
 ofSlots s c f = plain pairs (λ i. is (inputs s c noValues i)) f
 
-unfoldable pub ofMedia : Values → Values → Formula → Outcome Pair
-ofMedia s c f = worked (inputs s c noValues) f
+unfoldable pub ofMedia : Values → Values → Pair → Formula → Outcome Pair
+ofMedia s c particles f = worked (mediaInputs s c particles) f
 
 -- each case of an answer in document 01's numbers
 unfoldable pub exponent : Bounded → Outcome Pair
@@ -58,8 +63,8 @@ unfoldable pub given : Outcome Pair → Outcome Media → Outcome Media
 given (is p) m = m
 given (refused n) m = refused n
 
-unfoldable pub mediaOf : (Slot → Pair) → Outcome Media
-mediaOf env = given (exponentOf env) (four (worked env A) (worked env C) (worked env aboveGround) (worked env belowGround))
+unfoldable pub mediaOf : Inputs Pair → Outcome Media
+mediaOf env = given (exponentOf (env .value)) (four (worked env A) (worked env C) (worked env aboveGround) (worked env belowGround))
 
 -- no chemical: 0 in each
 unfoldable pub noMedia : Media

@@ -27,16 +27,15 @@ ghost use mathlib.Core.Path.{_≡_};
 ghost use Rattle.pair.specs.Calls.{answer, is};
 ghost use Rattle.equations.specs.Series.{pairSeries};
 ghost use Rattle.equations.specs.Page as page;
-ghost use Rattle.equations.specs.Page.{x, g, D, C, aboveGround, belowGround, 1−Fv};
+ghost use Rattle.equations.specs.Page.{x, g, D, C, aboveGround, belowGround};
 ghost use Rattle.media.specs.Media.{ofSlots, ofMedia, found, four};
 
 // A. particles is 1 − Fv.
-fn air(s: Values, c: Values, particles: Answer) -> Answer
-    requires { ⌜ answer particles ≡ ofMedia s c 1−Fv ⌝ }
-    ensures { λ r. ⌜ answer r ≡ ofMedia s c page.A ⌝ }
+fn air(s: Values, c: Values, particles: Pair) -> Answer
+    ensures { λ r. ⌜ answer r ≡ ofMedia s c particles page.A ⌝ }
 {
     let vapour = c.at(FV).times(c.at(CYV));
-    let both = vapour.plus(particles.times(c.at(CYP)));
+    let both = vapour.plus(particles.answer().times(c.at(CYP)));
     c.at(Q)
         .times(c.at(HG_A))
         .times(both)
@@ -44,13 +43,12 @@ fn air(s: Values, c: Values, particles: Answer) -> Answer
 }
 
 // D. particles is 1 − Fv.
-fn deposition(s: Values, c: Values, particles: Answer) -> Answer
-    requires { ⌜ answer particles ≡ ofMedia s c 1−Fv ⌝ }
-    ensures { λ r. ⌜ answer r ≡ ofMedia s c D ⌝ }
+fn deposition(s: Values, c: Values, particles: Pair) -> Answer
+    ensures { λ r. ⌜ answer r ≡ ofMedia s c particles D ⌝ }
 {
     let vapour = c.at(FV).times(c.at(DYDV).plus(c.at(DYWV)));
     let fallen = c.at(DYDP).plus(c.at(DYWP));
-    let both = vapour.plus(fallen.times(particles));
+    let both = vapour.plus(fallen.times(particles.answer()));
     let layer = s.at(ZS).times(s.at(BD));
     Pair::entry(100, 0)
         .times(c.at(HG_D))
@@ -60,22 +58,21 @@ fn deposition(s: Values, c: Values, particles: Answer) -> Answer
 }
 
 // g. e is x and phi the series at x.
-fn build_up(s: Values, c: Values, e: Pair, phi: Answer) -> Answer
+fn build_up(s: Values, c: Values, particles: Pair, e: Pair, phi: Answer) -> Answer
     requires { ⌜ is e ≡ ofSlots s c x ⌝ }
     requires { ⌜ answer phi ≡ pairSeries (ofSlots s c x) ⌝ }
-    ensures { λ r. ⌜ answer r ≡ ofMedia s c g ⌝ }
+    ensures { λ r. ⌜ answer r ≡ ofMedia s c particles g ⌝ }
 {
     let one = Pair::entry(1, 0);
     one.over(one.over(phi).plus(e.answer()))
 }
 
 // C.
-fn soil(s: Values, c: Values, particles: Answer, e: Pair) -> Answer
-    requires { ⌜ answer particles ≡ ofMedia s c 1−Fv ⌝ }
+fn soil(s: Values, c: Values, particles: Pair, e: Pair) -> Answer
     requires { ⌜ is e ≡ ofSlots s c x ⌝ }
-    ensures { λ r. ⌜ answer r ≡ ofMedia s c C ⌝ }
+    ensures { λ r. ⌜ answer r ≡ ofMedia s c particles C ⌝ }
 {
-    let g = build_up(s, c, e, sum_of_terms(e));
+    let g = build_up(s, c, particles, e, sum_of_terms(e));
     deposition(s, c, particles).times(s.at(TD)).times(g)
 }
 
@@ -103,12 +100,11 @@ fn all(air: Answer, soil: Answer, above: Answer, below: Answer) -> Found
     })
 }
 
-// e is x.
-pub(crate) fn leave(s: Values, c: Values, e: Pair) -> Found
+// particles is 1 − Fv, and e is x.
+pub(crate) fn leave(s: Values, c: Values, particles: Pair, e: Pair) -> Found
     requires { ⌜ is e ≡ ofSlots s c x ⌝ }
-    ensures { λ r. ⌜ found r ≡ four (ofMedia s c page.A) (ofMedia s c C) (ofMedia s c aboveGround) (ofMedia s c belowGround) ⌝ }
+    ensures { λ r. ⌜ found r ≡ four (ofMedia s c particles page.A) (ofMedia s c particles C) (ofMedia s c particles aboveGround) (ofMedia s c particles belowGround) ⌝ }
 {
-    let particles = c.at(FV).one_minus();
     let ground = soil(s, c, particles, e);
     let leaves = ground.times(c.at(BR));
     let roots = ground.times(c.at(RCF)).times(s.at(VG)).over(c.at(KDS));

@@ -97,12 +97,12 @@ pub fn series(x: Pair) -> Answer
     sum_of_terms(x)
 }
 
-// The concentrations that a chemical leaves in the media.
-pub fn concentrations(site: Values, chemical: Values) -> Found
-    ensures { λ r. ⌜ specs.found r ≡ specs.mediaOf (inputs site chemical noValues) ⌝ }
+// The concentrations that a chemical leaves in the media. particles is 1 − Fv, from the printed digits.
+pub fn concentrations(site: Values, chemical: Values, particles: Pair) -> Found
+    ensures { λ r. ⌜ specs.found r ≡ specs.mediaOf (specs.mediaInputs site chemical particles) ⌝ }
 {
     match slow(exponent_of(site, chemical)) {
-        Bounded::Is(x) => leave(site, chemical, x),
+        Bounded::Is(x) => leave(site, chemical, particles, x),
         Bounded::TooFast => Found::TooFast,
         Bounded::Refused => Found::Refused,
     }

@@ -6,9 +6,9 @@ use Rattle.equations.specs.declared.Pathway.{Pathway}
 use Rattle.equations.specs.declared.Effect.{Effect}
 use Rattle.equations.specs.declared.Effect.the-variants.{Hazard, Cancer}
 use Rattle.equations.specs.declared.Values.{Values}
-use Rattle.equations.specs.Formula.{Formula}
+use Rattle.equations.specs.Formula.{Formula, pairs}
 use Rattle.equations.specs.Page.{factor, byMedium, intakeBy, byRoute, figureBy}
-use Rattle.equations.specs.Readings.{worked, inputs}
+use Rattle.equations.specs.Readings.{plain, inputs}
 use Rattle.media.specs.declared.Conc.{Conc}
 use Rattle.media.specs.declared.Media.{Media}
 use Rattle.pathway.specs.declared.Factor.{Factor}
@@ -55,9 +55,9 @@ unfoldable pub csfGiven : GivenCsf → Optional Csf
 csfGiven (Csfs.Is f) = some f
 csfGiven Csfs.Absent = none
 
--- a formula read from the values of a site, a chemical and a receptor
+-- a formula read from the values of a site, a chemical and a receptor; no factor has φ or 1 − in it
 unfoldable pub workedFor : Values → Values → Values → Formula → Outcome Pair
-workedFor s c r f = worked (inputs s c r) f
+workedFor s c r f = plain pairs (λ n. is (inputs s c r n)) f
 
 -- the intake factor, as the page writes it
 unfoldable pub factorOf : Effect → Pathway → Values → Values → Values → Outcome Factor

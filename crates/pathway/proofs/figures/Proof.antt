@@ -3,7 +3,7 @@ use mathlib.Core.Path.{refl}
 use borrow.Author.Needs.{needs}
 use Rattle.equations.specs.Formula.{read, pairs}
 use Rattle.equations.specs.Page.{factor}
-use Rattle.equations.specs.Readings.{worked}
+use Rattle.equations.specs.Readings.{plain}
 use Rattle.pathway.specs.Lines.{workedFor, factorOf, figured, figuresOf}
 use Rattle.pathway.proofs.figures.Statement.{statement}
 use Rattle.pathway.proofs.figures.Tie as tie
@@ -45,7 +45,7 @@ risk-of-requires : tie.Need-risk-of-requires
 risk-of-requires c κs = search needs
 
 returns : tie.Need-returns
-unfolding figured figuresOf factorOf workedFor worked read pairs factor
+unfolding figured figuresOf factorOf workedFor plain read pairs factor
 returns c = rw (c .risk-of .ensures, c .before .csf-of .ensures, c .before .before .dose-of2 .ensures, c .before .before .before .quotient-of .ensures, c .before .before .before .before .rfd-of .ensures, c .before .before .before .before .before .dose-of .ensures, c .before .before .before .before .before .before .medium-of .ensures, c .before .before .before .before .before .before .before .factor-of2 .ensures, c .before .before .before .before .before .before .before .before .base-of2 .ensures, c .before .before .before .before .before .before .before .before .before .factor-of .ensures, c .before .before .before .before .before .before .before .before .before .before .base-of .ensures, c .before .before .before .before .before .before .before .before .before .before .before .exposure-of .ensures)
     refl
 

@@ -3,7 +3,7 @@ use mathlib.Core.Path.{refl}
 use borrow.Author.Needs.{needs}
 use Rattle.equations.specs.Formula.{read, pairs}
 use Rattle.equations.specs.Page.{factor}
-use Rattle.equations.specs.Readings.{worked}
+use Rattle.equations.specs.Readings.{plain}
 use Rattle.pathway.specs.Lines.{workedFor, factorOf}
 use Rattle.pathway.proofs.intake_factor.Statement.{statement}
 use Rattle.pathway.proofs.intake_factor.Tie as tie
@@ -18,7 +18,7 @@ factor-of-requires : tie.Need-factor-of-requires
 factor-of-requires c κs = search needs
 
 returns : tie.Need-returns
-unfolding factorOf workedFor worked read pairs factor
+unfolding factorOf workedFor plain read pairs factor
 returns c = rw (c .factor-of .ensures, c .before .base-of .ensures, c .before .before .exposure-of .ensures) refl
 
 pub intake-factor-spec : {M : Type 1} → statement M

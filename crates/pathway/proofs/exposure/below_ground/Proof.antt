@@ -3,7 +3,7 @@ use mathlib.Core.Path.{refl}
 use borrow.Author.Needs.{needs}
 use Rattle.equations.specs.Formula.{read, pairs}
 use Rattle.equations.specs.Page.{exposure}
-use Rattle.equations.specs.Readings.{worked, letters, inputs, byOwner, valueIn}
+use Rattle.equations.specs.Readings.{plain, letters, inputs, byOwner, valueIn}
 use Rattle.pathway.specs.Lines.{workedFor}
 use Rattle.slots.specs.Slots.{table, same, isIn, placeIn, ownerOf, placeOf}
 use Rattle.pathway.proofs.exposure.below_ground.Statement.{statement}
@@ -43,7 +43,7 @@ times-requires-5 : tie.Need-times-requires-5
 times-requires-5 c κs = search needs
 
 returns : tie.Need-returns
-unfolding workedFor worked read letters inputs byOwner valueIn ownerOf placeOf table same isIn placeIn pairs exposure
+unfolding workedFor plain read letters inputs byOwner valueIn ownerOf placeOf table same isIn placeIn pairs exposure
 returns c = rw (c .times5 .ensures, c .before .at6 .ensures, c .before .before .times4 .ensures, c .before .before .before .at5 .ensures, c .before .before .before .before .times3 .ensures, c .before .before .before .before .before .at4 .ensures, c .before .before .before .before .before .before .times2 .ensures, c .before .before .before .before .before .before .before .at3 .ensures, c .before .before .before .before .before .before .before .before .times .ensures, c .before .before .before .before .before .before .before .before .before .at2 .ensures, c .before .before .before .before .before .before .before .before .before .before .at .ensures)
     refl
 
