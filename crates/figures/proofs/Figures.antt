@@ -6,7 +6,7 @@ use Rattle.pair.specs.declared.Pair.{Pair}
 use Rattle.pair.specs.Number.{nineFigures, inReach, zeroExponent, isZero, isNumber, zero, one, lesser, rise, unitsAt, lower, atMost, isPair}
 use Rattle.pair.specs.Rounding.{extra, divided, excessFrom, excess, carried, rounded, sumEnd, productEnd, quotientEnd, restEnd, unitsEnd}
 use Rattle.pair.specs.Calls as calls
-use Rattle.pair.specs.Calls.{Outcome, is, mapped, provided, after, afterOne, zeroPair, onePair, entry, sum, product, quotient, oneMinus, compared, inUnits}
+use Rattle.pair.specs.Calls.{Outcome, is, mapped, provided, after, afterOne, zeroPair, onePair, entry, sum, product, quotient, oneMinusEntry, compared, inUnits}
 use Rattle.pair.specs.Figures.{_⊗_, _⊘_, whole, bothEnds, figures}
 use Rattle.pair.proofs.Figures.{figures-hold}
 use Rattle.slots.specs.Slots.{table, same, isIn, placeIn, entryRule, ruleAt, lineRules, ownerOf, placeOf}
@@ -18,9 +18,9 @@ use Rattle.equations.specs.Letters.{φ}
 use Rattle.equations.specs.Series.{terms, fromZero, pairSeries}
 use Rattle.equations.specs.Page.{x, u, kse, ksr, ksl, k, g, A, D, C, aboveGround, belowGround, AT, B, exposure, factor, byMedium, medium, intakeBy, intake, byRoute, referenceSlot, reference, figureBy, line}
 use Rattle.equations.specs.Ranges.{sixtyFour}
-use Rattle.equations.specs.Readings.{letters, plain, worked, valueIn, byOwner, inputs, noValues}
+use Rattle.equations.specs.Readings.{letters, plain, asAnswers, worked, valueIn, byOwner, inputs, noValues}
 use Rattle.equations.proofs.Figures.{series-at-zero, g-at-zero}
-use Rattle.media.specs.Media.{ofSlots, ofMedia}
+use Rattle.media.specs.Media.{mediaInputs, ofSlots, ofMedia}
 use Rattle.pathway.specs.Lines.{workedFor, factorOf}
 use Rattle.deck.specs.declared.Status.{Status}
 use Rattle.deck.specs.declared.Status.the-variants.{Read}
@@ -32,31 +32,31 @@ use Rattle.deck.specs.Conditions.{first, upTo, misspelled, misplaced, outOfRang
 use Rattle.deck.specs.Cases.{tabulate, valueOf, slotSpelled, recordOf, recordsOf, caseWith, caseOf, valueAt, chemicalAt, receptorAt, ownersRecord, printed}
 use Rattle.totals.specs.Totals.{_added_}
 use Rattle.text.specs.Text.{digits, decimal, justified, number, columnsText, rowText, linesText}
-use Rattle.sheet.specs.Values.{orOne, pairOf, valuesOf, pairsAt}
+use Rattle.sheet.specs.Values.{orOne, pairOf, restOf, valuesOf, pairsAt}
 use Rattle.sheet.specs.Sheet.{pathwayAt, isPrinted, hasReference, figureAt, unitOf, capOf, counted, countedIn, columnsAt, addedOver, totalAt, chained, linesPerReceptor, isAbove, highAbove, exponentAt, tooFast, overCap, lineTooLarge, fastChemicals, largeLines}
 use Rattle.report.specs.Report.{rowAt, totalRow, rowsAt, rowsOf, linesOfReport, reportConditions, allConditions, statusOf, lengthOf, outcomeFor, outcomeOf}
 use Rattle.figures.specs.Figures.{bytes, lines, deckLines, deck, printedLines, printedText, row, rows, Winter, cases, CheckedFigures}
 
 -- x = 0
-at-zero : (site chemical : Values) → ofSlots site chemical x ≡ is zeroPair → (ofMedia site chemical φ ≡ is onePair) × (ofMedia site chemical g ≡ is onePair)
-unfolding ofSlots ofMedia worked read letters
-at-zero site chemical h = (ap pairSeries h ∙ series-at-zero, g-at-zero (inputs site chemical noValues) h)
+at-zero : (site chemical : Values) (particles : Pair) → ofSlots site chemical x ≡ is zeroPair → (ofMedia site chemical particles φ ≡ is onePair) × (ofMedia site chemical particles g ≡ is onePair)
+unfolding ofSlots ofMedia mediaInputs worked asAnswers read letters
+at-zero site chemical particles h = (ap pairSeries h ∙ series-at-zero, g-at-zero (mediaInputs site chemical particles) h)
 
 -- 365 × 4.5, and the winter factor as the page writes it
 year : (site chemical receptor : Values) → is (inputs site chemical receptor "ED") ≡ entry 45 (negsuc 0) → workedFor site chemical receptor (AT Hazard) ≡ bothEnds 164250000 164250000 (negsuc 4)
-unfolding workedFor worked read letters pairs AT figures _⊗_ whole
+unfolding workedFor plain read letters pairs AT figures _⊗_ whole
 year site chemical receptor h = rw h (figures-hold .1 .1 .0)
 
 winter : (site chemical receptor : Values) → Winter (inputs site chemical receptor) →
     factorOf Cancer SoilWinter site chemical receptor ≡ mapped (λ (q : Pair). record { 0 = q }) (bothEnds 996667315 996667316 (negsuc 15))
-unfolding factorOf workedFor worked read letters pairs factor exposure B AT figures _⊗_ _⊘_ whole
+unfolding factorOf workedFor plain read letters pairs factor exposure B AT figures _⊗_ _⊘_ whole
 winter site chemical receptor w =
     ap (mapped (λ (q : Pair). record { 0 = q }))
     (rw (w .IRsoil, w .AForal, w .FRsnow, w .ETsoil, w .EFw, w .ED, w .BW, w .ATc) (figures-hold .1 .1 .1 .0))
 
 -- the deck: its report's lines, their text, and that none of the conditions holds
 lines-are : rowsOf (caseOf deck) ≡ rows
-unfolding bytes lines deckLines deck within leading linesOf lineOf fieldIn fieldOf digitsValue idSpelled idIn signSpelled exponentSpelled powerOf digitsRead endedOf pointedOf spelledOf loneDash wordOf kindOf idOf countOf tabulate valueOf slotSpelled recordOf recordsOf caseWith caseOf table same isIn placeIn ownerOf placeOf valueAt chemicalAt receptorAt ownersRecord printed orOne pairOf valuesOf valueIn byOwner inputs pairsAt nineFigures inReach zeroExponent isZero isNumber zero one lesser rise unitsAt lower atMost isPair extra divided excessFrom excess carried rounded sumEnd productEnd quotientEnd restEnd provided calls.ends after afterOne zeroPair onePair entry sum product quotient oneMinus pairs read letters plain worked terms fromZero pairSeries u kse ksr ksl k x g A D C aboveGround belowGround AT B exposure factor byMedium medium intakeBy intake byRoute referenceSlot reference figureBy line pathwayAt isPrinted hasReference figureAt chained unitsEnd inUnits unitOf counted countedIn columnsAt _added_ addedOver totalAt rowAt totalRow rowsAt rowsOf row rows
+unfolding bytes lines deckLines deck within leading linesOf lineOf fieldIn fieldOf digitsValue idSpelled idIn signSpelled exponentSpelled powerOf digitsRead endedOf pointedOf spelledOf loneDash wordOf kindOf idOf countOf tabulate valueOf slotSpelled recordOf recordsOf caseWith caseOf table same isIn placeIn ownerOf placeOf valueAt chemicalAt receptorAt ownersRecord printed orOne pairOf restOf valuesOf valueIn byOwner inputs pairsAt asAnswers nineFigures inReach zeroExponent isZero isNumber zero one lesser rise unitsAt lower atMost isPair extra divided excessFrom excess carried rounded sumEnd productEnd quotientEnd restEnd provided calls.ends after afterOne zeroPair onePair entry sum product quotient oneMinusEntry pairs read letters plain worked terms fromZero pairSeries u kse ksr ksl k x g A D C aboveGround belowGround AT B exposure factor byMedium medium intakeBy intake byRoute referenceSlot reference figureBy line pathwayAt isPrinted hasReference figureAt chained unitsEnd inUnits unitOf counted countedIn columnsAt _added_ addedOver totalAt rowAt totalRow rowsAt rowsOf row rows
 lines-are = refl
 
 text-is : linesText rows ≡ printedText
@@ -64,7 +64,7 @@ unfolding bytes lines printedLines printedText row rows linesText rowText column
 text-is = refl
 
 read-whole : first (allConditions deck 665) ≡ Read
-unfolding bytes lines deckLines deck within leading linesOf lineOf fieldIn fieldOf digitsValue idSpelled idIn signSpelled exponentSpelled powerOf digitsRead endedOf pointedOf spelledOf loneDash wordOf kindOf idOf countOf tabulate valueOf slotSpelled recordOf recordsOf caseWith caseOf table same isIn placeIn ownerOf placeOf valueAt chemicalAt receptorAt ownersRecord printed orOne pairOf valuesOf valueIn byOwner inputs pairsAt nineFigures inReach zeroExponent isZero isNumber zero one lesser rise unitsAt lower atMost isPair extra divided excessFrom excess carried rounded sumEnd productEnd quotientEnd restEnd provided calls.ends after afterOne zeroPair onePair entry sum product quotient oneMinus pairs read letters plain worked terms fromZero pairSeries u kse ksr ksl k x g A D C aboveGround belowGround AT B exposure factor byMedium medium intakeBy intake byRoute referenceSlot reference figureBy line pathwayAt isPrinted hasReference figureAt chained kindOrder befores among kinds rulesIn rulesOf entryRule ruleAt lineRules above below valueAtMost valueAtLeast inRange first upTo misspelled misplaced outOfRange fieldConditions fieldAt badBytes badKind begins sameLetter wrongId badId lineConditionsAfter lineConditions badLength noEnd conditions compared sixtyFour capOf linesPerReceptor linesOfReport isAbove highAbove exponentAt tooFast overCap lineTooLarge fastChemicals largeLines reportConditions allConditions lengthOf
+unfolding bytes lines deckLines deck within leading linesOf lineOf fieldIn fieldOf digitsValue idSpelled idIn signSpelled exponentSpelled powerOf digitsRead endedOf pointedOf spelledOf loneDash wordOf kindOf idOf countOf tabulate valueOf slotSpelled recordOf recordsOf caseWith caseOf table same isIn placeIn ownerOf placeOf valueAt chemicalAt receptorAt ownersRecord printed orOne pairOf restOf valuesOf valueIn byOwner inputs pairsAt asAnswers nineFigures inReach zeroExponent isZero isNumber zero one lesser rise unitsAt lower atMost isPair extra divided excessFrom excess carried rounded sumEnd productEnd quotientEnd restEnd provided calls.ends after afterOne zeroPair onePair entry sum product quotient oneMinusEntry pairs read letters plain worked terms fromZero pairSeries u kse ksr ksl k x g A D C aboveGround belowGround AT B exposure factor byMedium medium intakeBy intake byRoute referenceSlot reference figureBy line pathwayAt isPrinted hasReference figureAt chained kindOrder befores among kinds rulesIn rulesOf entryRule ruleAt lineRules above below valueAtMost valueAtLeast inRange first upTo misspelled misplaced outOfRange fieldConditions fieldAt badBytes badKind begins sameLetter wrongId badId lineConditionsAfter lineConditions badLength noEnd conditions compared sixtyFour capOf linesPerReceptor linesOfReport isAbove highAbove exponentAt tooFast overCap lineTooLarge fastChemicals largeLines reportConditions allConditions lengthOf
 read-whole = refl
 
 answer-is : outcomeOf deck 665 ≡ record { number = 0; line = 665; field = 0 }
@@ -73,7 +73,7 @@ answer-is = ap (λ (s : Status). outcomeFor s (caseOf deck)) read-whole
 
 -- What the cases x = 0, ED 4.5 and winter ask of the values is met: by the deck, and by these values.
 deck-at-zero : ofSlots (valuesOf (caseOf deck .site)) (valuesOf (chemicalAt (caseOf deck) 0)) x ≡ is zeroPair
-unfolding bytes lines deckLines deck within leading linesOf lineOf fieldIn fieldOf digitsValue idSpelled idIn signSpelled exponentSpelled powerOf digitsRead endedOf pointedOf spelledOf loneDash wordOf kindOf idOf countOf tabulate valueOf slotSpelled recordOf recordsOf caseWith caseOf table same isIn placeIn ownerOf placeOf valueAt chemicalAt receptorAt ownersRecord printed orOne pairOf valuesOf valueIn byOwner inputs pairsAt nineFigures inReach zeroExponent isZero isNumber zero one lesser rise unitsAt lower atMost isPair extra divided excessFrom excess carried rounded sumEnd productEnd quotientEnd restEnd provided calls.ends after afterOne zeroPair onePair entry sum product quotient oneMinus pairs read letters plain u kse ksr ksl k x ofSlots noValues
+unfolding bytes lines deckLines deck within leading linesOf lineOf fieldIn fieldOf digitsValue idSpelled idIn signSpelled exponentSpelled powerOf digitsRead endedOf pointedOf spelledOf loneDash wordOf kindOf idOf countOf tabulate valueOf slotSpelled recordOf recordsOf caseWith caseOf table same isIn placeIn ownerOf placeOf valueAt chemicalAt receptorAt ownersRecord printed orOne pairOf restOf valuesOf valueIn byOwner inputs pairsAt asAnswers nineFigures inReach zeroExponent isZero isNumber zero one lesser rise unitsAt lower atMost isPair extra divided excessFrom excess carried rounded sumEnd productEnd quotientEnd restEnd provided calls.ends after afterOne zeroPair onePair entry sum product quotient oneMinusEntry pairs read letters plain u kse ksr ksl k x ofSlots noValues
 deck-at-zero = refl
 
 -- 1 in every place but those of a receptor's first ten slots, and so of the site's eleventh
@@ -100,4 +100,4 @@ year-met = refl
 -- the single list
 pub checked-figures : CheckedFigures
 unfolding CheckedFigures cases figures
-checked-figures = (figures-hold .0, (figures-hold .1 .0, (at-zero, (year, (winter, (read-whole, (answer-is, (lines-are, (ap linesText lines-are ∙ text-is, tt)))))))))
+checked-figures = (figures-hold .0, (figures-hold .1 .0, (at-zero, (year, (winter, (figures-hold .1 .1 .1 .1 .0, (figures-hold .1 .1 .1 .1 .1 .0, (read-whole, (answer-is, (lines-are, (ap linesText lines-are ∙ text-is, tt)))))))))))

@@ -5,9 +5,9 @@ use mathlib.Core.List.{List, [], _∷_, _++_}
 use Prim.Native.Nat.{ℕ}
 use Prim.Native.Char.{code}
 use Prim.Native.String.{String, [] as ε, _∷_ as _◂_}
-use lib.IntN.{negsuc}
+use lib.IntN.{pos, negsuc}
 use Rattle.pair.specs.declared.Pair.{Pair}
-use Rattle.pair.specs.Calls.{is, mapped, afterOne, entry, oneMinus, zeroPair, onePair}
+use Rattle.pair.specs.Calls.{is, mapped, afterOne, entry, oneMinus, oneMinusEntry, zeroPair, onePair}
 use Rattle.pair.specs.Figures.{_⊘_, whole, bothEnds}
 use Rattle.equations.specs.declared.Pathway.the-variants.{SoilWinter}
 use Rattle.equations.specs.declared.Effect.the-variants.{Hazard, Cancer}
@@ -103,7 +103,7 @@ pub record Winter (env : Slot → Pair) : Type 0 where
   pub BW : is (env "BW") ≡ entry 633 (negsuc 0)
   pub ATc : is (env "ATc") ≡ whole 27375
 
--- document 01's cases
+-- document 01's cases, and the figures of its change P1
 unfoldable pub cases : List (Type 0)
 cases =
     -- 2 / 3
@@ -112,12 +112,15 @@ cases =
     ∷ (afterOne oneMinus (entry 1 (negsuc 19))
     ≡ is (record { low = record { significand = 999999999; exponent = negsuc 8 }; high = record { significand = 100000000; exponent = negsuc 7 } }))
     -- x = 0: φ and g are 1, as the media read them
-    ∷ ((site chemical : Values) → ofSlots site chemical x ≡ is zeroPair → (ofMedia site chemical φ ≡ is onePair) × (ofMedia site chemical g ≡ is onePair))
+    ∷ ((site chemical : Values) (particles : Pair) → ofSlots site chemical x ≡ is zeroPair → (ofMedia site chemical particles φ ≡ is onePair) × (ofMedia site chemical particles g ≡ is onePair))
     -- ED 4.5: AT is 1642.5, as the pathways read it
     ∷ ((site chemical receptor : Values) → is (inputs site chemical receptor "ED") ≡ entry 45 (negsuc 0) → workedFor site chemical receptor (AT Hazard) ≡ bothEnds 164250000 164250000 (negsuc 4))
     -- 002's winter factor
     ∷ ((site chemical receptor : Values) → Winter (inputs site chemical receptor) →
     factorOf Cancer SoilWinter site chemical receptor ≡ mapped (λ (q : Pair). record { 0 = q }) (bothEnds 996667315 996667316 (negsuc 15)))
+    -- 999999999.5, and 1 − 0.99999999999, as printed numbers of more than nine digits are taken
+    ∷ (entry 9999999995 (negsuc 0) ≡ is (record { low = record { significand = 999999999; exponent = pos 0 }; high = record { significand = 100000000; exponent = pos 1 } }))
+    ∷ (oneMinusEntry 99999999999 (negsuc 10) ≡ bothEnds 100000000 100000000 (negsuc 18))
     -- the deck: no condition holds, with a buffer of 665 bytes; its answer, its report's lines, and their bytes
     ∷ (first (allConditions deck 665) ≡ Read)
     ∷ (outcomeOf deck 665 ≡ record { number = 0; line = 665; field = 0 })

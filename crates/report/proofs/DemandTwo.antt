@@ -26,7 +26,7 @@ use Rattle.sheet.specs.Sheet.{pathwayAt, hasReference, chained, linesPerRecepto
 use Rattle.report.specs.Report.{rowAt, totalRow, rowsAt, rowsOf, linesOfReport, lengthOf, reportConditions, allConditions, statusOf, outcomeFor, outcomeOf, bufferFor, bufferOf}
 use Rattle.report.specs.DemandTwo.{lineIn, ByRule, Printed, Reported, Refused, Demand2}
 use Rattle.sheet.proofs.CaseLaws.{line-by-rule}
-use Rattle.sheet.proofs.Inputs.{entered}
+use Rattle.sheet.proofs.Inputs.{entered, rested}
 use Rattle.sheet.proofs.Chains.{chained-split, chained-length}
 use Rattle.report.proofs.Fitting.{SmallIds, small-ids, row-fits, total-row-fits}
 
@@ -175,6 +175,7 @@ module _ (case : Case) where
           line-fits = row-fits case ids ranged slow small;
           total-fits = total-row-fits case ids ranged slow small;
           entered = entered case ranged;
+          rested = rested case ranged;
         }
 
 -- none of the conditions after the deck's own holds

@@ -21,11 +21,11 @@ use Rattle.equations.specs.Formula.{pairs, read}
 use Rattle.equations.specs.Page as page
 use Rattle.equations.specs.Page.{byMedium}
 use Rattle.equations.specs.Ranges.{sixtyFour}
-use Rattle.equations.specs.Readings.{letters, plain, worked, exactly, inputs, byOwner, noValues}
+use Rattle.equations.specs.Readings.{letters, plain, asAnswers, worked, exactly, inputs, byOwner, noValues}
 use Rattle.equations.proofs.LineLaws.{x-answered, medium-works}
 use Rattle.slots.specs.Slots.{table, same, isIn, placeIn, ownerOf, placeOf}
 use Rattle.media.specs.declared.Media.{Media}
-use Rattle.media.specs.Media.{bounded, slow, exponentOf, four, given, mediaOf}
+use Rattle.media.specs.Media.{mediaInputs, bounded, slow, exponentOf, four, given, mediaOf}
 use Rattle.deck.specs.declared.Case.{Case}
 use Rattle.deck.specs.declared.Status.{Status}
 use Rattle.deck.specs.declared.Status.the-variants.{Read}
@@ -35,7 +35,7 @@ use Rattle.deck.specs.Ranged.{Ranged}
 use Rattle.totals.specs.declared.Columns.{Columns}
 use Rattle.totals.specs.declared.Columns.the-variants as Cols
 use Rattle.totals.specs.Totals.{_added_}
-use Rattle.sheet.specs.Values.{valuesOf, pairsAt, exactAt}
+use Rattle.sheet.specs.Values.{valuesOf, particlesOf, pairsAt, exactAt}
 use Rattle.sheet.specs.Sheet.{pathwaysPerChemical, pathwayAt, hasReference, figureAt, unitOf, counted, countedIn, columnsAt, addedOver, totalAt, isAbove, highAbove, exponentAt, tooFast, overCap, capOf, fastChemicals, largeLines, chained}
 use Rattle.sheet.specs.Counts.{tooMany, isRefused, mediaFor, noMediaAt, caseConditions, Part, Mark, Low, High, cellOf, cellsOf, totalIn, CountsMost}
 use Rattle.sheet.proofs.Inputs.{inputs-ranged}
@@ -67,7 +67,7 @@ module _ (case : Case) (ranged : Ranged case) (i : ℕ) (i-small : i < case .che
   x-is = refl
 
   x-told : (p : Pair) × (exponentAt case i ≡ is p) × (compared (p .high) sixtyFour ≡ is (atMost (p .high) sixtyFour))
-  unfolding exponentAt
+  unfolding exponentAt asAnswers
   x-told =
       let a = x-answered (pairsAt case 0 i) (exactAt case 0 i) (inputs-ranged case ranged 0 i (ranged .some-receptors) i-small) in
       (a .0, a .1, compared-answered (a .0 .high) sixtyFour (high-number (a .0) (a .2)) sixty-four-number)
@@ -77,11 +77,11 @@ module _ (case : Case) (ranged : Ranged case) (i : ℕ) (i-small : i < case .che
 
   fourOf : Outcome Media
   fourOf =
-      let v = inputs (valuesOf (case .site)) (valuesOf (chemicalAt case i)) noValues in
+      let v = mediaInputs (valuesOf (case .site)) (valuesOf (chemicalAt case i)) (particlesOf (chemicalAt case i)) in
       four (worked v page.A) (worked v page.C) (worked v page.aboveGround) (worked v page.belowGround)
 
   media-is : mediaFor case i ≡ given (bounded (is is-slow) (x-told .0)) fourOf
-  unfolding mediaFor mediaOf exponentOf slow is-slow fourOf
+  unfolding mediaFor mediaOf mediaInputs exponentOf slow is-slow fourOf
   media-is =
       ap (λ (o : Outcome Pair). given (slow o) fourOf) (x-is ∙ x-told .1) ∙ ap (λ (o : Outcome Bool). given (bounded o (x-told .0)) fourOf) (x-told .2)
 
@@ -89,12 +89,11 @@ module _ (case : Case) (ranged : Ranged case) (i : ℕ) (i-small : i < case .che
   unfolding highAbove isAbove is-slow
   above-is = ap (highAbove sixtyFour) (x-told .1) ∙ ap isAbove (x-told .2)
 
-  medium-is : highAbove sixtyFour (exponentAt case i) ≡ false → (p : Pathway) → (r : Pair) × (worked (inputs (valuesOf (case .site)) (valuesOf (chemicalAt case i)) noValues) (page.medium p) ≡ is r)
-  unfolding pairsAt
+  medium-is : highAbove sixtyFour (exponentAt case i) ≡ false → (p : Pathway) → (r : Pair) × (worked (mediaInputs (valuesOf (case .site)) (valuesOf (chemicalAt case i)) (particlesOf (chemicalAt case i))) (page.medium p) ≡ is r)
   medium-is h p =
       let x = x-most case ranged 0 i (ranged .some-receptors) i-small h in
       let w = medium-works (pairsAt case 0 i) (exactAt case 0 i) (inputs-ranged case ranged 0 i (ranged .some-receptors) i-small) (x .0) (x .1) (x .2) p in
-      (w .0, medium-read p (valuesOf (case .site)) (valuesOf (chemicalAt case i)) (valuesOf (receptorAt case 0)) ∙ w .1 .told)
+      (w .0, medium-read p case 0 i ∙ w .1 .told)
 
   four-is : highAbove sixtyFour (exponentAt case i) ≡ false → isRefused fourOf ≡ false
   unfolding fourOf page.medium byMedium

@@ -1,18 +1,18 @@
 -- A chemical's source: what the media call found is what the case's records give, and 41 holds where it found nothing.
 -- Assumes nothing.
-use mathlib.Core.Path.{_≡_, refl, sym, ap, _∙_}
+use mathlib.Core.Path.{_≡_, refl, sym, ap, ap₂, _∙_}
 use mathlib.Core.Bool.{Bool, true, false}
 use mathlib.Core.List.{List}
 use Prim.Native.Nat.{ℕ, _+_, _-_, _<_}
 use native.Mathlib.Numerals.{add-one}
 use lib.ListN.{length, getD, replicate}
+use Rattle.pair.specs.declared.Pair.{Pair}
 use Rattle.equations.specs.declared.Values.{Values}
-use Rattle.equations.specs.Readings.{inputs, noValues}
 use Rattle.equations.proofs.ValueLaws.{read-any}
 use Rattle.media.specs.declared.Media.{Media}
 use Rattle.media.specs.declared.Found.{Found}
 use Rattle.media.specs.declared.Found.the-variants as Founds
-use Rattle.media.specs.Media.{found, mediaOf}
+use Rattle.media.specs.Media.{found, mediaInputs, mediaOf}
 use Rattle.deck.specs.declared.Chemicals.{Chemicals}
 use Rattle.deck.specs.declared.Record.{Record}
 use Rattle.deck.specs.declared.Status.{Status}
@@ -22,21 +22,21 @@ use Rattle.deck.specs.Conditions.{first}
 use Rattle.deck.specs.Cases.{noRecord}
 use Rattle.deck.proofs.Accepted.{filled-at}
 use Rattle.sheet.specs.declared.Source.{Source}
-use Rattle.sheet.specs.Values.{valuesOf}
+use Rattle.sheet.specs.Values.{valuesOf, particlesOf}
 use Rattle.sheet.specs.Sheet.{chained}
 use Rattle.sheet.specs.Counts.{isRefused}
 use Rattle.sheet.specs.Inner.{mediaFrom, mediaWith, sourceWith, sourceOf, noSource, sourcesOf, sourceAt, refusedSource}
 use Rattle.sheet.proofs.Chains as chains
 
-module _ (site′ : Values) (records : List Record) (blank : Record) (i : ℕ) (here : i < length records) (values′ : Values) (r : Found)
-    (of-chemical : values′ ≡ valuesOf (getD records i blank)) (worked : found r ≡ mediaOf (inputs site′ values′ noValues)) where
+module _ (site′ : Values) (records : List Record) (blank : Record) (i : ℕ) (here : i < length records) (values′ : Values) (particles′ : Pair) (r : Found)
+    (of-chemical : values′ ≡ valuesOf (getD records i blank)) (share : particles′ ≡ particlesOf (getD records i blank)) (worked : found r ≡ mediaOf (mediaInputs site′ values′ particles′)) where
   record-is : getD records i blank ≡ getD records i noRecord
   record-is = read-any records i here blank noRecord
 
   media-is : found r ≡ mediaWith site′ (getD records i noRecord)
   unfolding mediaWith
   media-is =
-      worked ∙ ap (λ (v : Values). mediaOf (inputs site′ v noValues)) (of-chemical ∙ ap valuesOf record-is)
+      worked ∙ ap₂ (λ (v : Values) (q : Pair). mediaOf (mediaInputs site′ v q)) (of-chemical ∙ ap valuesOf record-is) (share ∙ ap particlesOf record-is)
 
   pub source-is : (m : Media) → r ≡ Founds.Is m → (s : Source) → s ≡ sourceWith (getD records i blank) m → s ≡ sourceOf site′ (getD records i noRecord)
   unfolding sourceOf mediaFrom found

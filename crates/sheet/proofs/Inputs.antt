@@ -1,5 +1,5 @@
--- A slot's value as a pair and as an exact fraction: what is printed in its range is a pair with equal ends that holds the exact value,
--- as the equations ask of their inputs. Assumes nothing.
+-- A slot's value as a pair and as an exact fraction: what is printed in its range is entered as the pair around the exact value, and 1 less
+-- it likewise, as the equations ask of their inputs. Assumes nothing.
 use mathlib.Core.Path.{_≡_, refl, sym, _∙_, ap, subst}
 use mathlib.Core.Bool.{true}
 use mathlib.Core.Logic.{_⊎_, inl, inr, ⊎-elim}
@@ -13,17 +13,18 @@ use lib.Pow.{pow-add}
 use lib.Signed.{mag}
 use borrow.Author.Tests.{leb-true, not-true}
 use Rattle.pair.specs.declared.Pair.{Pair}
-use Rattle.pair.specs.Number.{value, depth, place}
-use Rattle.pair.specs.Calls.{Outcome, is, entry, onePair}
-use Rattle.pair.specs.Promises.{Holds, Sized, scaled}
-use Rattle.pair.proofs.Promises.{Within, one-entry, entry-answered, entry-exact, entry-pair, entry-within}
+use Rattle.pair.specs.Fraction.{rest}
+use Rattle.pair.specs.Number.{depth, place}
+use Rattle.pair.specs.Calls.{is, entry, oneMinusEntry, zeroPair, onePair}
+use Rattle.pair.specs.Promises.{Sized, scaled}
+use Rattle.pair.proofs.Promises.{one-entry, one-less-one, entry-answered, entry-around, scaled-proper, rest-entry-answered, rest-entry-around, rest-scaled-proper, rest-scaled-sized}
 use Rattle.slots.specs.Slots.{Slot, ownerOf, placeOf, ruleOf, neverZero, atMostOne}
 use Rattle.slots.specs.declared.Owner.{Owner}
 use Rattle.slots.specs.declared.Owner.the-variants.{Site, Chemical, Receptor}
 use Rattle.slots.proofs.Laws.{most-rule}
 use Rattle.equations.specs.declared.Values.{Values}
-use Rattle.equations.specs.Readings.{valueIn, byOwner, inputs}
-use Rattle.equations.specs.Ranges.{InRange}
+use Rattle.equations.specs.Readings.{Inputs, valueIn, byOwner, inputs}
+use Rattle.equations.specs.Ranges.{Taken, InRange}
 use Rattle.deck.specs.declared.Case.{Case}
 use Rattle.deck.specs.declared.Value.{Value}
 use Rattle.deck.specs.declared.Value.the-variants.{Absent, Printed}
@@ -33,11 +34,11 @@ use Rattle.deck.specs.Ranges.{above, below, inRange}
 use Rattle.deck.specs.Cases.{noSlot, valueAt, chemicalAt, receptorAt, ownersRecord, printed}
 use Rattle.deck.specs.Ranged.{Spelled, Fits, Ranged}
 use Rattle.deck.proofs.Accepted.{range-positive, range-bounds}
-use Rattle.sheet.specs.Values.{orOne, pairOf, valuesOf, pairsAt, fractionOf, exactAt}
+use Rattle.sheet.specs.Values.{orOne, pairOf, restOf, valuesOf, pairsAt, fractionOf, exactAt}
 
 -- digits × 10^power as a field spells it, in the range of slot s
 pub record Printable (s : Slot) (digits : ℕ) (power : ℤ) : Type 0 where
-  pub nine : digits ≤ 999999999
+  pub twelve : digits ≤ 999999999999
   pub high : above power ≤ 200
   pub low : below power ≤ 200
   pub least : (digits ≡ 0) ⊎ (10 ^ below power ≤ digits * 10 ^ (above power + 20))
@@ -66,16 +67,6 @@ at-least : (m a b p d k : ℕ) → p * b ≡ d * a → 0 < b → b ≤ m * (a * 
 at-least m a b p d k e z h =
     le-of-mul-le-mul-right {k = b} (omega (arith, mul-le-mul-right d h, ap (λ (n : ℕ). m * k * n) e)) z
 
--- a pair with equal ends that holds m × 10^e is above 0, or at most 1, where m × 10^e is
-holds-some : (m : ℕ) (e : ℤ) (p : Pair) → p .low ≡ p .high → Holds p (scaled m e) → 0 < m → 0 < value (p .low) .num
-unfolding value scaled
-holds-some m e p q h l =
-    rw q (omega (arith, le-of-mul-le-mul-right {k = 10 ^ depth} (h .high .across) (ten-above depth), mul-pos l (ten-above (place e))))
-
-holds-share : (m : ℕ) (e : ℤ) (p : Pair) → p .low ≡ p .high → Holds p (scaled m e) → m * 10 ^ place e ≤ 1 * 10 ^ depth → value (p .high) .num ≤ value (p .high) .den
-unfolding value scaled
-holds-share m e p q h l = rw (← q) (omega (arith, le-of-mul-le-mul-right {k = 10 ^ depth} (h .low .across) (ten-above depth)))
-
 mag-small : (e : ℤ) → above e ≤ 200 → below e ≤ 200 → mag e ≤ 99000
 unfolding above below
 mag-small (pos n) h l = omega arith
@@ -100,32 +91,35 @@ module _ {s : Slot} {m : ℕ} {e : ℤ} (r : Printable s m e) where
             (r .least);
       }
 
-  -- the entry, and the exact value that it holds
-  printed-good : (p : Pair) → entry m e ≡ is p → InRange s p (scaled m e)
-  printed-good p t =
-      let x = entry-exact m e p t in
-      let w : Within 20 p = entry-within m e p 20 t scaled-sized (lit≤ tt) in
-      record {
-        pair = entry-pair m e p t;
-        held = x .1;
-        same = x .0;
-        low-sized = w .low;
-        high-sized = w .high;
-        above = λ z. holds-some m e p (x .0) (x .1) (r .some z);
-        most = λ z. holds-share m e p (x .0) (x .1) (scaled-most 1 (r .share z));
-      }
+  -- the entry is taken around the exact value, and 1 less it around what is left
+  entry-taken : (p : Pair) → entry m e ≡ is p → Taken 20 (scaled m e) p
+  entry-taken p t = record { proper = scaled-proper m e; around = entry-around m e p t; sized = scaled-sized }
 
-  printed-in-range : InRange s (orOne (entry m e)) (scaled m e)
+  rest-taken : (p : Pair) → oneMinusEntry m e ≡ is p → atMostOne s ≡ true → Taken 12 (rest (scaled m e)) p
+  unfolding scaled
+  rest-taken p t z =
+      record { proper = rest-scaled-proper m e; around = rest-entry-around m e p t; sized = rest-scaled-sized m e (r .twelve) (omega (arith, scaled-most 1 (r .share z))) }
+
+  scaled-some : neverZero s ≡ true → 0 < scaled m e .num
+  unfolding scaled
+  scaled-some z = mul-pos (r .some z) (ten-above (place e))
+
+  -- both are answered, so that `orOne` does nothing
+  entry-is : entry m e ≡ is (orOne (entry m e))
   unfolding orOne
-  printed-in-range =
-      let a = entry-answered m e (r .nine) (mag-small e (r .high) (r .low)) in
-      rw (a .1) (printed-good (a .0) (a .1))
+  entry-is = let a = entry-answered m e (r .twelve) (mag-small e (r .high) (r .low)) in rw (a .1) refl
+
+  rest-is : atMostOne s ≡ true → oneMinusEntry m e ≡ is (orOne (oneMinusEntry m e))
+  unfolding orOne scaled
+  rest-is z =
+      let a = rest-entry-answered m e (r .twelve) (mag-small e (r .high) (r .low)) (omega (arith, scaled-most 1 (r .share z))) in
+      rw (a .1) refl
 
 one-printable : (s : Slot) → Printable s 1 (pos 0)
 unfolding above below
 one-printable s =
     record {
-      nine = lit≤ tt;
+      twelve = lit≤ tt;
       high = lit≤ tt;
       low = lit≤ tt;
       least = inr (lit≤ tt);
@@ -145,7 +139,7 @@ printable : (s : Slot) (m : ℕ) (e : ℤ) → inRange (ruleOf s) m e ≡ true �
 unfolding neverZero atMostOne
 printable s m e r d =
     record {
-      nine = omega (arith, d .nine);
+      twelve = omega (arith, d .twelve);
       high = omega (arith, d .high);
       low = omega (arith, d .low);
       least = ⊎-elim (λ z. inl z) (λ h. inr (range-bounds (ruleOf s) m e r h .0)) (eq-zero-or-pos m);
@@ -155,10 +149,23 @@ printable s m e r d =
     }
 
 -- A value as its slot's rule asks, or a missing one, is an input that the equations take.
-value-in-range : (s : Slot) (v : Value) → Fits (ruleOf s) v → InRange s (pairOf v) (fractionOf v)
-unfolding pairOf fractionOf
-value-in-range s Absent f = printed-good (one-printable s) onePair one-entry
-value-in-range s (Printed m e) f = printed-in-range (printable s m e (f .1) (f .2))
+module _ (s : Slot) (env : Inputs Pair) where
+  value-in-range : (v : Value) → Fits (ruleOf s) v → env .value s ≡ pairOf v → env .rest s ≡ restOf v → InRange s env (fractionOf v)
+  unfolding pairOf restOf fractionOf
+  value-in-range Absent f p q =
+      let one : Printable s 1 (pos 0) = one-printable s in
+      record {
+        value = rw p (entry-taken one onePair one-entry);
+        above = scaled-some one;
+        rest = λ z. rw q (rest-taken one zeroPair one-less-one z);
+      }
+  value-in-range (Printed m e) f p q =
+      let r : Printable s m e = printable s m e (f .1) (f .2) in
+      record {
+        value = rw p (entry-taken r (orOne (entry m e)) (entry-is r));
+        above = scaled-some r;
+        rest = λ z. rw q (rest-taken r (orOne (oneMinusEntry m e)) (rest-is r z) z);
+      }
 
 -- ---- the pair at a slot is the pair of what is printed there
 value-at : (r : Record) (k : ℕ) → valueIn (valuesOf r) k ≡ pairOf (valueAt r k)
@@ -171,25 +178,24 @@ owners-values Site case j i = refl
 owners-values Chemical case j i = refl
 owners-values Receptor case j i = refl
 
-pub pair-printed : (case : Case) (j i : ℕ) (s : Slot) → pairsAt case j i s ≡ pairOf (printed case j i s)
+pub pair-printed : (case : Case) (j i : ℕ) (s : Slot) → pairsAt case j i .value s ≡ pairOf (printed case j i s)
 unfolding pairsAt inputs printed
 pair-printed case j i s =
     ap (λ (v : Values). valueIn v (placeOf s)) (owners-values (ownerOf s) case j i) ∙ value-at (ownersRecord (ownerOf s) case j i) (placeOf s)
 
-pub inputs-ranged : (case : Case) → Ranged case → (j i : ℕ) → j < case .receptors .count → i < case .chemicals .count → (s : Slot) → InRange s (pairsAt case j i s) (exactAt case j i s)
-unfolding exactAt
-inputs-ranged case r j i h l s = rw (pair-printed case j i s) (value-in-range s (printed case j i s) (r .fits j i h l s))
+pub inputs-ranged : (case : Case) → Ranged case → (j i : ℕ) → j < case .receptors .count → i < case .chemicals .count → (s : Slot) → InRange s (pairsAt case j i) (exactAt case j i s)
+unfolding exactAt pairsAt
+inputs-ranged case r j i h l s = value-in-range s (pairsAt case j i) (printed case j i s) (r .fits j i h l s) (pair-printed case j i s) refl
 
--- `orOne` never acts in a case in range: each slot's pair is the entry of what is printed there.
-entry-told : (s : Slot) (m : ℕ) (e : ℤ) → Fits (ruleOf s) (Printed m e) → entry m e ≡ is (orOne (entry m e))
-unfolding orOne
-entry-told s m e f =
-    let p = printable s m e (f .1) (f .2) in
-    let a = entry-answered m e (p .nine) (mag-small e (p .high) (p .low)) in
-    a .1 ∙ ap (λ (o : Outcome Pair). is (orOne o)) (sym (a .1))
+-- In a case in range each slot's pair is the entry of what is printed there, and 1 less a slot that is at most 1 is taken from its digits.
+module _ (case : Case) (ranged : Ranged case) (j i : ℕ) (j-small : j < case .receptors .count) (i-small : i < case .chemicals .count) (s : Slot) (digits : ℕ) (power : ℤ) (there : printed case j i s ≡ Printed digits power) where
+  fitting : Printable s digits power
+  fitting = let f = subst (Fits (ruleOf s)) there (ranged .fits j i j-small i-small s) in printable s digits power (f .1) (f .2)
 
-pub entered : (case : Case) → Ranged case → (j i : ℕ) → j < case .receptors .count → i < case .chemicals .count → (s : Slot) (digits : ℕ) (power : ℤ) →
-    printed case j i s ≡ Printed digits power → entry digits power ≡ is (pairsAt case j i s)
-unfolding pairOf
-entered case r j i h l s m e p =
-    entry-told s m e (subst (Fits (ruleOf s)) p (r .fits j i h l s)) ∙ ap (λ (q : Pair). is q) (sym (pair-printed case j i s ∙ ap pairOf p))
+  pub entered : entry digits power ≡ is (pairsAt case j i .value s)
+  unfolding pairOf
+  entered = entry-is fitting ∙ ap (λ (q : Pair). is q) (sym (pair-printed case j i s ∙ ap pairOf there))
+
+  pub rested : atMostOne s ≡ true → oneMinusEntry digits power ≡ is (pairsAt case j i .rest s)
+  unfolding pairsAt restOf
+  rested z = rest-is fitting z ∙ ap (λ (v : Value). is (restOf v)) (sym there)

@@ -23,7 +23,7 @@ use Rattle.equations.specs.declared.Effect.the-variants.{Hazard, Cancer}
 use Rattle.equations.specs.Formula.{read, pairs}
 use Rattle.equations.specs.Page as page
 use Rattle.equations.specs.Page.{x, line}
-use Rattle.equations.specs.Readings.{letters, plain, exactly, inputs, byOwner, valueIn}
+use Rattle.equations.specs.Readings.{letters, plain, asAnswers, exactly, inputs, byOwner, valueIn}
 use Rattle.equations.specs.Ranges.{sixtyFour}
 use Rattle.equations.proofs.LineLaws.{Works, x-answered, line-works, line-narrow}
 use Rattle.deck.specs.declared.Case.{Case}
@@ -156,11 +156,11 @@ pub record Figure (case : Case) (j i : ℕ) (e : Effect) (w : Pathway) : Type 0 
 
 module _ (case : Case) (ranged : Ranged case) (j i : ℕ) (j-small : j < case .receptors .count) (i-small : i < case .chemicals .count) (slow : highAbove sixtyFour (exponentAt case i) ≡ false) where
   -- x names no receptor's slot
-  x-same : plain pairs (λ s. is (pairsAt case j i s)) x ≡ exponentAt case i
-  unfolding exponentAt plain read letters x page.k page.u page.kse page.ksr page.ksl pairs pairsAt inputs byOwner ownerOf placeOf table same isIn placeIn
+  x-same : plain pairs (asAnswers (pairsAt case j i) .value) x ≡ exponentAt case i
+  unfolding exponentAt plain asAnswers read letters x page.k page.u page.kse page.ksr page.ksl pairs pairsAt inputs byOwner ownerOf placeOf table same isIn placeIn
   x-same = refl
 
-  pub x-most : (p : Pair) × (plain pairs (λ s. is (pairsAt case j i s)) x ≡ is p) × (value (p .high) ≤ᶠ value sixtyFour)
+  pub x-most : (p : Pair) × (plain pairs (asAnswers (pairsAt case j i) .value) x ≡ is p) × (value (p .high) ≤ᶠ value sixtyFour)
   x-most =
       let a = x-answered (pairsAt case j i) (exactAt case j i) (inputs-ranged case ranged j i j-small i-small) in
       let t : highAbove sixtyFour (is (a .0)) ≡ false = subst (λ (o : Outcome Pair). highAbove sixtyFour o ≡ false) (sym x-same ∙ a .1) slow in

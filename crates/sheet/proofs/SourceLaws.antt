@@ -1,11 +1,11 @@
 -- What the crates below work for a chemical and for its lines is the page read from the case's slots: for every case in which the chemical's
 -- media are worked, each line's columns and its cap are those of the definitions. Assumes nothing.
-use mathlib.Core.Path.{_≡_, refl, sym, _∙_, ap}
+use mathlib.Core.Path.{_≡_, refl, sym, _∙_, ap, ap₂}
 use mathlib.Core.Bool.{Bool, true, false, cond, _&&_, true≢false}
 use Prim.Native.Nat.{ℕ, _<_}
 use Rattle.pair.specs.declared.Pair.{Pair}
 use Rattle.pair.specs.Calls.{Outcome, is, refused, mapped, checked, after, afterOne, product, quotient}
-use Rattle.slots.specs.Slots.{Slot, table, same, isIn, placeIn, ownerOf, placeOf}
+use Rattle.slots.specs.Slots.{table, same, isIn, placeIn, ownerOf, placeOf}
 use Rattle.equations.specs.declared.Pathway.{Pathway}
 use Rattle.equations.specs.declared.Pathway.the-variants.{Air, SoilSummer, SoilWinter, Skin, AboveGround, BelowGround}
 use Rattle.equations.specs.declared.Effect.{Effect}
@@ -14,10 +14,10 @@ use Rattle.equations.specs.declared.Values.{Values}
 use Rattle.equations.specs.Formula.{read, pairs}
 use Rattle.equations.specs.Page as page
 use Rattle.equations.specs.Page.{byRoute, byMedium, figureBy, intakeBy, referenceSlot}
-use Rattle.equations.specs.Readings.{letters, plain, worked, valueIn, byOwner, inputs, noValues}
+use Rattle.equations.specs.Readings.{Inputs, letters, plain, asAnswers, worked, byOwner, inputs}
 use Rattle.media.specs.declared.Conc.{Conc}
 use Rattle.media.specs.declared.Media.{Media}
-use Rattle.media.specs.Media.{exponentOf, four, given, mediaOf}
+use Rattle.media.specs.Media.{mediaInputs, exponentOf, four, given, mediaOf}
 use Rattle.pathway.specs.declared.Factor.{Factor}
 use Rattle.pathway.specs.declared.Dose.{Dose}
 use Rattle.pathway.specs.declared.References.{References}
@@ -28,7 +28,7 @@ use Rattle.deck.specs.declared.Value.{Value}
 use Rattle.deck.specs.declared.Value.the-variants.{Absent, Printed}
 use Rattle.deck.specs.Cases.{valueAt, chemicalAt, receptorAt, ownersRecord, printed}
 use Rattle.totals.specs.declared.Columns.the-variants as Cols
-use Rattle.sheet.specs.Values.{pairOf, valuesOf, pairsAt}
+use Rattle.sheet.specs.Values.{pairOf, valuesOf, particlesOf, pairsAt}
 use Rattle.sheet.specs.Sheet.{isPrinted, hasReference, figureAt, unitOf, capOf, countedIn, columnsAt, highAbove, overCap}
 use Rattle.sheet.specs.Counts.{isRefused, mediaFor}
 use Rattle.sheet.specs.Inner.{columnsOf, aboveCap, mediaFrom, mediaWith, rfdOf, csfOf, referencesOf, sourceWith, sourceOf, figuresFrom, figureFor}
@@ -55,22 +55,43 @@ unfolding given isRefused
 given-told (is p) a c f r m h e = four-told a c f r m h e
 given-told (refused n) a c f r m h e = absurd (true≢false h)
 
-pub medium-read : (p : Pathway) (s c r : Values) → worked (inputs s c noValues) (page.medium p) ≡ worked (inputs s c r) (page.medium p)
-unfolding worked plain read letters pairs inputs byOwner ownerOf placeOf table same isIn placeIn page.medium byMedium page.A page.D page.C page.aboveGround page.belowGround page.g page.x page.k page.u page.kse page.ksr page.ksl
-medium-read Air s c r = refl
-medium-read SoilSummer s c r = refl
-medium-read SoilWinter s c r = refl
-medium-read Skin s c r = refl
-medium-read AboveGround s c r = refl
-medium-read BelowGround s c r = refl
+-- the page's media are read alike from what the media call takes and from the case's slots
+pub medium-read : (p : Pathway) (case : Case) (j i : ℕ) →
+    worked (mediaInputs (valuesOf (case .site)) (valuesOf (chemicalAt case i)) (particlesOf (chemicalAt case i))) (page.medium p) ≡ worked (pairsAt case j i) (page.medium p)
+unfolding worked plain read letters pairs asAnswers mediaInputs pairsAt particlesOf printed ownersRecord inputs byOwner ownerOf placeOf table same isIn placeIn page.medium byMedium page.A page.D page.C page.aboveGround page.belowGround page.g page.x page.k page.u page.kse page.ksr page.ksl
+medium-read Air case j i = refl
+medium-read SoilSummer case j i = refl
+medium-read SoilWinter case j i = refl
+medium-read Skin case j i = refl
+medium-read AboveGround case j i = refl
+medium-read BelowGround case j i = refl
 
-module _ (s c : Values) (told : isRefused (mediaOf (inputs s c noValues)) ≡ false) where
-  env : Slot → Pair
-  env = inputs s c noValues
+-- and so are its factors, in which neither φ nor 1 − stands
+exposure-read : (p : Pathway) (case : Case) (j i : ℕ) →
+    workedFor (valuesOf (case .site)) (valuesOf (chemicalAt case i)) (valuesOf (receptorAt case j)) (page.exposure p) ≡ worked (pairsAt case j i) (page.exposure p)
+unfolding workedFor worked plain read letters pairs asAnswers pairsAt page.exposure
+exposure-read Air case j i = refl
+exposure-read SoilSummer case j i = refl
+exposure-read SoilWinter case j i = refl
+exposure-read Skin case j i = refl
+exposure-read AboveGround case j i = refl
+exposure-read BelowGround case j i = refl
 
+base-read : (e : Effect) (case : Case) (j i : ℕ) →
+    workedFor (valuesOf (case .site)) (valuesOf (chemicalAt case i)) (valuesOf (receptorAt case j)) (page.B e) ≡ worked (pairsAt case j i) (page.B e)
+unfolding workedFor worked plain read letters pairs asAnswers pairsAt page.B page.AT
+base-read Hazard case j i = refl
+base-read Cancer case j i = refl
+
+factor-read : (e : Effect) (p : Pathway) (case : Case) (j i : ℕ) →
+    workedFor (valuesOf (case .site)) (valuesOf (chemicalAt case i)) (valuesOf (receptorAt case j)) (page.factor e p) ≡ worked (pairsAt case j i) (page.factor e p)
+unfolding workedFor worked plain read pairs page.factor
+factor-read e p case j i = ap₂ (after quotient) (exposure-read p case j i) (base-read e case j i)
+
+module _ (env : Inputs Pair) (told : isRefused (mediaOf env) ≡ false) where
   parts : Told (worked env page.A) (worked env page.C) (worked env page.aboveGround) (worked env page.belowGround) (mediaFrom (mediaOf env))
-  unfolding mediaOf env
-  parts = given-told (exponentOf env) (worked env page.A) (worked env page.C) (worked env page.aboveGround) (worked env page.belowGround) (mediaFrom (mediaOf env)) told refl
+  unfolding mediaOf
+  parts = given-told (exponentOf (env .value)) (worked env page.A) (worked env page.C) (worked env page.aboveGround) (worked env page.belowGround) (mediaFrom (mediaOf env)) told refl
 
   medium-told : (p : Pathway) → worked env (page.medium p) ≡ is (concentrationFor p (mediaFrom (mediaOf env)) .0)
   unfolding page.medium byMedium concentrationFor
@@ -93,17 +114,21 @@ dose-again (is p) = refl
 dose-again (refused n) = refl
 
 -- the dose as a pair is the page's intake
-module _ (s c r : Values) (e : Effect) (p : Pathway) (m : Conc) (medium-is : worked (inputs s c r) (page.medium p) ≡ is (m .0)) where
-  dose-is : mapped (λ (g : Dose). g .0) (doseOf (factorOf e p s c r) m) ≡ worked (inputs s c r) (page.intake e p)
-  unfolding doseOf factorOf workedFor page.intake intakeBy worked read pairs
+module _ (case : Case) (j i : ℕ) (e : Effect) (p : Pathway) (m : Conc) (medium-is : worked (pairsAt case j i) (page.medium p) ≡ is (m .0)) where
+  factor : Outcome Factor
+  factor = factorOf e p (valuesOf (case .site)) (valuesOf (chemicalAt case i)) (valuesOf (receptorAt case j))
+
+  dose-is : mapped (λ (g : Dose). g .0) (doseOf factor m) ≡ worked (pairsAt case j i) (page.intake e p)
+  unfolding factor doseOf factorOf page.intake intakeBy worked read pairs
   dose-is =
-      dose-again (after product (mapped (λ (g : Factor). g .0) (factorOf e p s c r)) (is (m .0)))
-      ∙ ap (λ (o : Outcome Pair). after product o (is (m .0))) (factor-again (worked (inputs s c r) (page.factor e p)))
-      ∙ ap (λ (o : Outcome Pair). after product (worked (inputs s c r) (page.factor e p)) o) (sym medium-is)
+      dose-again (after product (mapped (λ (g : Factor). g .0) factor) (is (m .0)))
+      ∙ ap (λ (o : Outcome Pair). after product o (is (m .0)))
+      (factor-again (workedFor (valuesOf (case .site)) (valuesOf (chemicalAt case i)) (valuesOf (receptorAt case j)) (page.factor e p)) ∙ factor-read e p case j i)
+      ∙ ap (λ (o : Outcome Pair). after product (worked (pairsAt case j i) (page.factor e p)) o) (sym medium-is)
 
 -- ---- a figure
-line-by : (e : Effect) (p : Pathway) (v : Slot → Pair) → worked v (page.line e p) ≡ figureBy (after product) (after quotient) e (worked v (page.intake e p)) (is (v (referenceSlot e p)))
-unfolding worked read pairs letters page.line figureBy page.reference
+line-by : (e : Effect) (p : Pathway) (v : Inputs Pair) → worked v (page.line e p) ≡ figureBy (after product) (after quotient) e (worked v (page.intake e p)) (is (v .value (referenceSlot e p)))
+unfolding worked asAnswers read pairs letters page.line figureBy page.reference
 line-by Hazard p v = refl
 line-by Cancer p v = refl
 
@@ -213,8 +238,8 @@ module _ (case : Case) (j i : ℕ) (p : Pathway) (told : isRefused (mediaFor cas
   figured = figure-for e p S C R media (chemicalAt case i) ∙ ap (λ (v : Value). figureOf e dose (optional v)) (sym (reference-printed case j i e p))
 
   intake-is : mapped (λ (g : Dose). g .0) dose ≡ worked (pairsAt case j i) (page.intake e p)
-  unfolding mediaFor S C R media dose pairsAt env
-  intake-is = dose-is S C R e p (concentrationFor p media) (sym (medium-read p S C R) ∙ medium-told S C told p)
+  unfolding mediaFor S C R media dose factor
+  intake-is = dose-is case j i e p (concentrationFor p media) (sym (medium-read p case j i) ∙ medium-told (mediaInputs S C (particlesOf (chemicalAt case i))) told p)
 
   figure-is : figureBy (after product) (after quotient) e (mapped (λ (g : Dose). g .0) dose) (is (pairOf value)) ≡ figureAt e case j i p
   unfolding figureAt value

@@ -8,9 +8,8 @@ use lib.ListN.{length, getD, take, drop}
 use Rattle.pair.specs.Calls.{Outcome, is, refused}
 use Rattle.equations.specs.declared.Effect.{Effect}
 use Rattle.equations.specs.declared.Effect.the-variants.{Hazard, Cancer}
-use Rattle.equations.specs.Readings.{inputs, noValues}
 use Rattle.media.specs.declared.Media.{Media}
-use Rattle.media.specs.Media.{mediaOf}
+use Rattle.media.specs.Media.{mediaInputs, mediaOf}
 use Rattle.deck.specs.declared.Case.{Case}
 use Rattle.deck.specs.declared.Status.{Status}
 use Rattle.deck.specs.declared.Status.the-variants.{Read, Stopped}
@@ -21,7 +20,7 @@ use Rattle.totals.specs.declared.Columns.{Columns}
 use Rattle.totals.specs.declared.Columns.the-variants as Cols
 use Rattle.totals.specs.Totals.{totalOf}
 use Rattle.sheet.specs.declared.Counts.{Counts}
-use Rattle.sheet.specs.Values.{valuesOf}
+use Rattle.sheet.specs.Values.{valuesOf, particlesOf}
 use Rattle.sheet.specs.Sheet.{pathwaysPerChemical, pathwayAt, columnsAt, chained, largeLines}
 
 -- ---- what stops a case: more records than a deck holds (21), a chemical whose media are refused (41), a line above its cap (42). In a case
@@ -34,7 +33,7 @@ isRefused (is m) = false
 isRefused (refused n) = true
 
 unfoldable pub mediaFor : Case → ℕ → Outcome Media
-mediaFor case i = mediaOf (inputs (valuesOf (case .site)) (valuesOf (chemicalAt case i)) noValues)
+mediaFor case i = mediaOf (mediaInputs (valuesOf (case .site)) (valuesOf (chemicalAt case i)) (particlesOf (chemicalAt case i)))
 
 unfoldable pub noMediaAt : Case → ℕ → List Condition
 noMediaAt case i = at 41 (suc i) 0 (isRefused (mediaFor case i)) ∷ []

@@ -12,9 +12,8 @@ use Rattle.equations.specs.declared.Pathway.{Pathway}
 use Rattle.equations.specs.declared.Effect.{Effect}
 use Rattle.equations.specs.declared.Effect.the-variants.{Hazard, Cancer}
 use Rattle.equations.specs.declared.Values.{Values}
-use Rattle.equations.specs.Readings.{inputs, noValues}
 use Rattle.media.specs.declared.Media.{Media}
-use Rattle.media.specs.Media.{mediaOf, noMedia}
+use Rattle.media.specs.Media.{mediaInputs, mediaOf, noMedia}
 use Rattle.pathway.specs.declared.GivenRfd.{GivenRfd}
 use Rattle.pathway.specs.declared.GivenRfd.the-variants as Rfds
 use Rattle.pathway.specs.declared.GivenCsf.{GivenCsf}
@@ -33,7 +32,7 @@ use Rattle.totals.specs.declared.Columns.{Columns}
 use Rattle.totals.specs.declared.Columns.the-variants as Cols
 use Rattle.sheet.specs.declared.Source.{Source}
 use Rattle.sheet.specs.declared.Sources.{Sources}
-use Rattle.sheet.specs.Values.{pairOf, valuesOf}
+use Rattle.sheet.specs.Values.{pairOf, valuesOf, particlesOf}
 use Rattle.sheet.specs.Sheet.{pathwayAt, pathwaysPerChemical, unitOf, capOf, countedIn, highAbove, chained}
 use Rattle.sheet.specs.Counts.{Part, Mark, Low, High, cellOf, sideOf, mostLines, effectCells, receptorCells, isRefused}
 
@@ -58,7 +57,7 @@ mediaFrom (is m) = m
 mediaFrom (refused n) = noMedia
 
 unfoldable pub mediaWith : Values → Record → Outcome Media
-mediaWith site′ chemical′ = mediaOf (inputs site′ (valuesOf chemical′) noValues)
+mediaWith site′ chemical′ = mediaOf (mediaInputs site′ (valuesOf chemical′) (particlesOf chemical′))
 
 unfoldable pub rfdOf : Value → GivenRfd
 rfdOf Absent = Rfds.Absent

@@ -96,7 +96,7 @@ highAbove bound (refused n) = false
 
 -- x, in which no slot of a receptor stands
 unfoldable pub exponentAt : Case → ℕ → Outcome Pair
-exponentAt case i = plain pairs (λ s. is (pairsAt case 0 i s)) x
+exponentAt case i = plain pairs (λ s. is (pairsAt case 0 i .value s)) x
 
 unfoldable pub tooFast : Case → ℕ → List Condition
 tooFast case i = at 41 (suc i) 0 (highAbove sixtyFour (exponentAt case i)) ∷ []

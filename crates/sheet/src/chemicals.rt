@@ -22,6 +22,7 @@ ghost use Rattle.sheet.specs.Inner.{noSource, sourceWith, sourcesOf, ref
 use crate::Prepared;
 use crate::Source;
 use crate::Sources;
+use crate::values::particles_of;
 use crate::values::references_of;
 use crate::values::values_of;
 
@@ -80,7 +81,7 @@ pub(crate) fn sources_of(site: Values, chemicals: Chemicals) -> Prepared
         let next = i + 1;
         let chemical = records[i];
         let values = values_of(chemical);
-        match concentrations(site, values) {
+        match concentrations(site, values, particles_of(chemical)) {
             Found::Is(media) => list[i] = source_with(chemical, values, media),
             Found::TooFast => return stopped_at(next),
             Found::Refused => return stopped_at(next),

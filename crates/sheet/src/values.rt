@@ -11,13 +11,14 @@ use pathway::References;
 use pathway::Rfd;
 use slots::CSF_I;
 use slots::CSF_O;
+use slots::FV;
 use slots::RFD_I;
 use slots::RFD_O;
 use slots::SLOTS;
 ghost use mathlib.Core.Path.{_≡_};
 ghost use Prim.Native.Nat.{_<_};
 ghost use Rattle.deck.specs.Cases.{valueAt};
-ghost use Rattle.sheet.specs.Values.{pairOf, valuesOf};
+ghost use Rattle.sheet.specs.Values.{pairOf, restOf, valuesOf, particlesOf};
 ghost use Rattle.sheet.specs.Inner.{rfdOf, csfOf, referencesOf};
 
 // A printed value as a pair; a missing reference value reads as 1.
@@ -27,10 +28,32 @@ fn pair_of(v: Value) -> Pair
     let Value::Printed { digits, power } = v else {
         return Pair::ONE;
     };
-    let Answer::Is(p) = Pair::entry(digits as u64, power) else {
+    let Answer::Is(p) = Pair::entry(digits, power) else {
         return Pair::ONE;
     };
     p
+}
+
+// 1 less a printed value, from its digits.
+fn rest_of(v: Value) -> Pair
+    ensures { λ r. ⌜ r ≡ restOf v ⌝ }
+{
+    let Value::Printed { digits, power } = v else {
+        return Pair::ZERO;
+    };
+    let Answer::Is(p) = Pair::one_minus_entry(digits, power) else {
+        return Pair::ONE;
+    };
+    p
+}
+
+// 1 − Fv.
+pub(crate) fn particles_of(chemical: Record) -> Pair
+    ensures { λ p. ⌜ p ≡ particlesOf chemical ⌝ }
+{
+    let slot = chemical.slots[FV];
+    let v = slot.value;
+    rest_of(v)
 }
 
 pub(crate) fn values_of(r: Record) -> Values

@@ -50,6 +50,9 @@ array-copy-out-chemical c = search needs
 values-of-requires : tie.Need-values-of-requires Inv-loop μ-loop
 values-of-requires c κs = search needs
 
+particles-of-requires : tie.Need-particles-of-requires Inv-loop μ-loop
+particles-of-requires c κs = search needs
+
 concentrations-requires : tie.Need-concentrations-requires Inv-loop μ-loop
 concentrations-requires c κs = search needs
 
@@ -57,13 +60,13 @@ enum-known-media : tie.Need-enum-known-media Inv-loop μ-loop
 enum-known-media c = search needs
 
 source-with-requires : tie.Need-source-with-requires Inv-loop μ-loop
-source-with-requires c κs = c .before .before .before .before .values-of .ensures
+source-with-requires c κs = c .before .before .before .before .before .values-of .ensures
 
 mul-list : tie.Need-mul-list Inv-loop μ-loop
-mul-list c = record { fits = omega (arith, c .before .before .before .before .before .before .before .loop-test .taken, c .before .before .before .before .before .before .before .before .before .before .before .pre) }
+mul-list c = record { fits = omega (arith, c .before .before .before .before .before .before .before .before .loop-test .taken, c .before .before .before .before .before .before .before .before .before .before .before .before .pre) }
 
 array-set-from-list : tie.Need-array-set-from-list Inv-loop μ-loop
-array-set-from-list c = omega (arith, c .before .before .before .before .before .before .before .loop-test .taken, c .before .before .before .before .before .before .before .before .before .before .before .pre)
+array-set-from-list c = omega (arith, c .before .before .before .before .before .before .before .before .loop-test .taken, c .before .before .before .before .before .before .before .before .before .before .before .before .pre)
 
 enum-told : tie.Need-enum-told Inv-loop μ-loop
 enum-told c = search needs
@@ -74,15 +77,15 @@ stopped-at-requires c κs = search needs
 returns : tie.Need-returns Inv-loop μ-loop
 unfolding found isRefused
 returns c =
-    let s = c .before .before .before .before .before .before .before .before .before .before in
-    let l = c .before .before .before .before .before .before .before .loop in
-    let test = c .before .before .before .before .before .before .loop-test .taken in
+    let s = c .before .before .before .before .before .before .before .before .before .before .before in
+    let l = c .before .before .before .before .before .before .before .before .loop in
+    let test = c .before .before .before .before .before .before .before .loop-test .taken in
     let long : length (s .args .chemicals .records) ≡ 16 = sym (length-map (s .args .chemicals .records) _) ∙ s .good .1 .0 .1 .1 .1 .0 .1 .0 .1 in
     let here : l .i < length (s .args .chemicals .records) = omega (arith, test, s .pre) in
     let media = c .before .before .before .concentrations in
     let none : isRefused (found (media .result)) ≡ true = rw (c .before .enum-told .given .1) refl in
     let stop = c .stopped-at .ensures in (
-      stops (s .args .site) (s .args .chemicals .records) _ (l .i) here _ (media .result) (c .before .before .before .before .values-of .ensures) (media .ensures) (l .inv .2) none (s .args .chemicals .count) test _ stop,
+      stops (s .args .site) (s .args .chemicals .records) _ (l .i) here _ _ (media .result) (c .before .before .before .before .before .values-of .ensures) (c .before .before .before .before .particles-of .ensures) (media .ensures) (l .inv .2) none (s .args .chemicals .count) test _ stop,
       λ e. absurd (never _ 41 _ 0 stop e),
     )
 
@@ -95,15 +98,15 @@ stopped-at-requires-2 c κs = search needs
 returns-2 : tie.Need-returns-2 Inv-loop μ-loop
 unfolding found isRefused
 returns-2 c =
-    let s = c .before .before .before .before .before .before .before .before .before .before in
-    let l = c .before .before .before .before .before .before .before .loop in
-    let test = c .before .before .before .before .before .before .loop-test .taken in
+    let s = c .before .before .before .before .before .before .before .before .before .before .before in
+    let l = c .before .before .before .before .before .before .before .before .loop in
+    let test = c .before .before .before .before .before .before .before .loop-test .taken in
     let long : length (s .args .chemicals .records) ≡ 16 = sym (length-map (s .args .chemicals .records) _) ∙ s .good .1 .0 .1 .1 .1 .0 .1 .0 .1 in
     let here : l .i < length (s .args .chemicals .records) = omega (arith, test, s .pre) in
     let media = c .before .before .before .concentrations in
     let none : isRefused (found (media .result)) ≡ true = rw (c .before .enum-told2 .given .1) refl in
     let stop = c .stopped-at2 .ensures in (
-      stops (s .args .site) (s .args .chemicals .records) _ (l .i) here _ (media .result) (c .before .before .before .before .values-of .ensures) (media .ensures) (l .inv .2) none (s .args .chemicals .count) test _ stop,
+      stops (s .args .site) (s .args .chemicals .records) _ (l .i) here _ _ (media .result) (c .before .before .before .before .before .values-of .ensures) (c .before .before .before .before .particles-of .ensures) (media .ensures) (l .inv .2) none (s .args .chemicals .count) test _ stop,
       λ e. absurd (never _ 41 _ 0 stop e),
     )
 
@@ -112,18 +115,19 @@ loop-less c = search needs
 
 loop-again : tie.Need-loop-again Inv-loop μ-loop
 loop-again c =
-    let s = c .before .before .before .before .before .before .before .before .before .before .before in
-    let l = c .before .before .before .before .before .before .before .before .loop in
-    let test = c .before .before .before .before .before .before .before .loop-test .taken in
+    let s = c .before .before .before .before .before .before .before .before .before .before .before .before in
+    let l = c .before .before .before .before .before .before .before .before .before .loop in
+    let test = c .before .before .before .before .before .before .before .before .loop-test .taken in
     let long : length (s .args .chemicals .records) ≡ 16 = sym (length-map (s .args .chemicals .records) _) ∙ s .good .1 .0 .1 .1 .1 .0 .1 .0 .1 in
     let here : l .i < length (s .args .chemicals .records) = omega (arith, test, s .pre) in
-    let values = c .before .before .before .before .before .values-of .ensures in
+    let values = c .before .before .before .before .before .before .values-of .ensures in
+    let share = c .before .before .before .before .before .particles-of .ensures in
     let media = c .before .before .before .before .concentrations in
     let is = c .before .before .media .given .1 in (
       omega (arith, test),
       filled-more (λ k. sourceOf (s .args .site) (getD (s .args .chemicals .records) k noRecord)) noSource 16 (l .i) (omega (arith, test, s .pre)) (l .list) (l .inv .1) _
-          (source-is (s .args .site) (s .args .chemicals .records) _ (l .i) here _ (media .result) values (media .ensures) _ is _ (c .source-with .ensures)),
-      goes-on (s .args .site) (s .args .chemicals .records) _ (l .i) here _ (media .result) values (media .ensures) (l .inv .2) _ is,
+          (source-is (s .args .site) (s .args .chemicals .records) _ (l .i) here _ _ (media .result) values share (media .ensures) _ is _ (c .source-with .ensures)),
+      goes-on (s .args .site) (s .args .chemicals .records) _ (l .i) here _ _ (media .result) values share (media .ensures) (l .inv .2) _ is,
     )
 
 returns-3 : tie.Need-returns-3 Inv-loop μ-loop
@@ -146,6 +150,7 @@ sources-of-spec =
     mul-chemical
     array-copy-out-chemical
     values-of-requires
+    particles-of-requires
     concentrations-requires
     enum-known-media
     source-with-requires

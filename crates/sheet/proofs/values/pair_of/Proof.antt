@@ -20,9 +20,6 @@ returns : tie.Need-returns
 unfolding pairOf onePair one
 returns c = rw (c .enum-told .given .1) refl
 
-cast-entry : tie.Need-cast-entry
-cast-entry c = search needs
-
 entry-requires : tie.Need-entry-requires
 entry-requires c κs = search needs
 
@@ -49,7 +46,6 @@ pair-of-spec =
     enum-known-v
     enum-told
     returns
-    cast-entry
     entry-requires
     enum-known-p
     enum-told-2
