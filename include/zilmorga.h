@@ -20,7 +20,7 @@
  * Memory. The caller owns all of it. A call reads its const arguments and writes its other pointers' targets during the call, keeps no
  * pointer, allocates nothing and frees nothing. No pointer may be null, not even with a length of 0; each must be aligned for its type
  * and good for the whole length given. What a call writes must not overlap anything else that is passed to the same call, so
- * zilmorga_sum(a, b, a) is wrong, and line and field must be two objects. zilmorga_report takes some 55 KB of stack.
+ * zilmorga_sum(a, b, a) is wrong, and line and field must be two objects. zilmorga_report takes some 89 KB of stack.
  *
  * Threads. There is no state: no global variable, no setting, no errno. Calls may run at the same time in any threads, as long as no
  * call writes what another reads or writes.
@@ -68,8 +68,13 @@ uint32_t zilmorga_total(const uint64_t *list, size_t n, uint64_t *sum);
  * Each call works once and rounds once, the low end down and the high end up. Its only refusal is 53, and what it would write stays as
  * it was: an argument that is no pair or no working number, or a result whose exponent would be out of reach; and what is said below. */
 
-/* The pair of a printed number, digits x 10^power. 53: more than nine digits; power not from -99,999 to 99,999. */
+/* The pair of a printed number, digits x 10^power: the working numbers next to it, which are one where it is one, as every number of at
+ * most nine digits is. 53: more than twelve digits; power not from -99,999 to 99,999. */
 uint32_t zilmorga_entry(uint64_t digits, int32_t power, int64_t out[4]);
+
+/* 1 - digits x 10^power, taken from the printed digits and rounded once. 53: more than twelve digits; power not from -99,999 to 99,999; a
+ * value above 1. */
+uint32_t zilmorga_one_minus_entry(uint64_t digits, int32_t power, int64_t out[4]);
 
 /* a + b, a x b, and a / b: low by high, high by low. 53: b's low end is 0 in a quotient. */
 uint32_t zilmorga_sum(const int64_t a[4], const int64_t b[4], int64_t out[4]);

@@ -78,6 +78,14 @@ pub extern "C" fn zilmorga_entry(digits: u64, power: i32, out: &mut [i64; 4]) ->
     put(Pair::entry(digits, power), out)
 }
 
+// 1 less a number as printed, from its digits.
+#[no_mangle]
+pub extern "C" fn zilmorga_one_minus_entry(digits: u64, power: i32, out: &mut [i64; 4]) -> u32
+    ensures { λ r. ⌜ left r (now (out .exit)) ≡ leaves numbersOf (calls.oneMinusEntry digits power) (now (out .entry)) ⌝ }
+{
+    put(Pair::one_minus_entry(digits, power), out)
+}
+
 #[no_mangle]
 pub extern "C" fn zilmorga_sum(a: &[i64; 4], b: &[i64; 4], out: &mut [i64; 4]) -> u32
     ensures { λ r. ⌜ left r (now (out .exit)) ≡ onTwoPairs calls.sum (now (a .entry)) (now (b .entry)) (now (out .entry)) ⌝ }
