@@ -1,17 +1,20 @@
 #!/usr/bin/env python3
-"""Makes the stored vectors: make_vectors.py ORACLE SEED DATA, ORACLE the folder that holds pairs.py.
+"""Makes the stored vectors: make_vectors.py ORACLE SEED DATA, ORACLE the folder that holds oracle.py and pairs.py.
 
 A vector is a line: an operation's word, its operands, =, and the answer, 53 where the call is refused.
 
     add | mul | div  lo.m lo.e hi.m hi.e  lo.m lo.e hi.m hi.e  =  lo.m lo.e hi.m hi.e
     rest             lo.m lo.e hi.m hi.e                       =  lo.m lo.e hi.m hi.e     (1 - f)
     entry            m e                                       =  lo.m lo.e hi.m hi.e
+    less             m e                                       =  lo.m lo.e hi.m hi.e     (1 - m x 10^e, from the printed digits)
     compare          m e  m e                                  =  1 (at most) | 0 (above)
     units            lo.m lo.e hi.m hi.e  u                    =  low high                (counts of 10^u)
 
-0 is written 0 0. The answers of add, mul, div, rest and entry are those of the project's independent oracle, pairs.py, written from
-document 01 alone on Python's whole numbers and fractions: its random vectors as they come, and its answers to the edges below.
-The answers of compare and units are worked here, from document 01, on fractions.
+0 is written 0 0. The answers come from the project's independent oracle, written from the documents alone on Python's whole numbers and
+fractions. Those of add, mul, div and rest are pairs.py's: its random vectors as they come, and its answers to the edges below. Those of
+entry are oracle.py's at level 1, of twelve digits (request P1), also where pairs.py drew the operands; where these have at most nine
+digits both must agree. Those of less are what oracle.py makes of 1 - a printed value; which operands are refused is said here, since the
+oracle has no such call. The answers of compare and units are worked here, from document 01, on fractions.
 """
 import math
 import random
@@ -23,6 +26,7 @@ from itertools import product
 LO, HI, REACH = 100_000_000, 999_999_999, 99_999
 ZERO = (0, 0)
 SIZE = 60_000
+LEVEL = 1
 
 
 # ---- compare and units, on fractions ----
@@ -50,6 +54,34 @@ def units(lo, hi, u):
         return "53"
     low, high = math.floor(in_units(lo, u)), math.ceil(in_units(hi, u))
     return "53" if high >= 10 ** 19 else f"{low} {high}"
+
+
+# ---- entry and less, by the oracle ----
+
+def entry(oracle, m, e):
+    """the oracle's answer to an entry; pairs.py is document 01's, of nine digits, and must agree there"""
+    import pairs
+    try:
+        answer = pairs.show(oracle.entry(m, e, LEVEL))
+    except oracle.Refusal:
+        answer = "53"
+    assert m > HI or answer == pairs.entry(m, e)
+    return answer
+
+
+def above_one(m, e):
+    """whether m x 10^e, m of at most twelve digits, is above 1"""
+    return m > 0 and e > 0 or e <= 0 and m > 10 ** min(-e, 12)
+
+
+def less(oracle, m, e):
+    """1 - m x 10^e. Past 10^-60 one power serves for all: 1 - v lies between the same two numbers for every v above 0 and below 10^-9."""
+    import pairs
+    assert m >= 0
+    if m >= 10 ** 12 or not -REACH <= e <= REACH or above_one(m, e):
+        return "53"
+    value = m * Fraction(10) ** max(e, -60) if m else 0
+    return pairs.show(oracle.Pairs().less(1, value))
 
 
 # ---- edges ----
@@ -128,6 +160,62 @@ def entries():
         yield m, -12
 
 
+# Ten to twelve digits: with equal ends, with unequal ends, whose nine figures carry; thirteen digits and more.
+EQUAL = [10 ** 9, 2_500_000_000, 9_999_999_990, 123_456_789_000, 999_999_999_000, 10 ** 11]
+UNEQUAL = [10 ** 9 + 1, 1_234_567_891, 9_999_999_989, 10 ** 10 + 1, 12_345_678_901, 10 ** 11 + 1, 123_456_789_001, 123_456_789_999, 999_999_998_999]
+CARRY = [9_999_999_991, 9_999_999_995, 9_999_999_999, 99_999_999_901, 99_999_999_950, 99_999_999_999, 999_999_999_001, 999_999_999_500, 999_999_999_999]
+LONGER = [10 ** 12, 10 ** 12 + 1, 1_234_567_890_123, 10 ** 13 - 1, 10 ** 13, 4_294_967_296_000, 10 ** 19 - 1]
+
+
+def long_entries(r):
+    """of ten digits and more, at exponents where the figures beyond nine, or a carry, move a result in or out of reach"""
+    for m in EQUAL + UNEQUAL + CARRY:
+        figures = len(str(m)) - 9
+        for e in [0, -3, REACH - figures - 1, REACH - figures, REACH - figures + 1, -REACH, -REACH - 1]:
+            yield m, e
+    for m, e in product(LONGER, [0, -4, -REACH]):
+        yield m, e
+    for m, e in product([1, 99_999_999, LO, HI, 10 ** 9, 10 ** 12 - 1], [REACH, REACH + 1, -REACH, -REACH - 1, 999_999, -999_999]):
+        yield m, e
+    for _ in range(100):
+        m = r.randint(10 ** r.randint(9, 11), 10 ** 12 - 1) // 10 ** (k := r.choice([0, 0, 1, 2, 3])) * 10 ** k
+        yield m, r.choice([0, -8, -10, -11, r.randint(-40, 40), r.randint(-REACH, REACH), REACH - r.randint(0, 4), -REACH + r.randint(0, 4)])
+
+
+def printed_shares(r):
+    """m and e with m x 10^e near 1, near 0, between, above 1, and none"""
+    for k in range(13):
+        for m in [10 ** k, 10 ** k - 1, 10 ** k + 1, 10 ** k // 2, 9 * 10 ** k // 10, 9 * 10 ** k // 10 + 1]:
+            yield m, -k
+    for k, j in [(k, j) for k in [10, 11, 12] for j in range(10, k + 1)]:
+        last = 10 ** (j - 9)                                       # the rest is 10^j - n: its nine figures carry, or just do not
+        for n in [1, last // 2, last - 1, last, last + 1]:
+            yield 10 ** k - 10 ** j + n, -k
+    for m, e in product([1, 10, HI, 123_456_789_012, 10 ** 12 - 1], [-9, -10, -11, -19, -20, -21, -59, -60, -61, -500, -REACH + 1, -REACH]):
+        yield m, e
+    for e in [0, 1, -1, 5, -20, REACH, -REACH, REACH + 1, -REACH - 1, 999_999, -999_999]:
+        yield 0, e
+    for m, e in product([1, 10, 10 ** 11, 10 ** 12 - 1], [1, 12, REACH, REACH + 1, -REACH - 1, -999_999]):
+        yield m, e
+    for m, e in product(LONGER, [0, -12, -13, -30]):
+        yield m, e
+    for m, e in [(2, 0), (11, -1), (10 ** 12 - 1, -11), (10 ** 11 + 1, -11), (10 ** 12 - 1, 0), (10, 0)]:
+        yield m, e
+    for _ in range(130):
+        m = r.randint(0, 10 ** r.choice([9, 10, 11, 12, 12]) - 1)
+        yield m, -len(str(m)) - r.choice([0, 0, 0, 0, 1, 2, 3, 8, 9, 10])
+    for _ in range(40):                                            # a small rest
+        k = r.choice([10, 11, 12, 12])
+        yield 10 ** k - r.randint(1, 10 ** r.randint(1, k - 1)), -k
+    for _ in range(20):                                            # ten digits and more whose rest is a working number
+        m = r.randint(LO, HI) * 10 ** r.randint(1, 3)
+        yield m, -len(str(m))
+
+
+def once(pairs):
+    return list(dict.fromkeys(pairs))
+
+
 def no_pairs(r):
     """Pairs that are none, beside one that is."""
     good = wide((123_456_789, -8))
@@ -179,24 +267,33 @@ def show(*words):
 
 def lines(oracle, seed):
     sys.path.insert(0, oracle)
+    import oracle as level_1
     import pairs
 
     def plain(p):
         return tuple(None if w == ZERO else w for w in p)
 
+    def entered(line):
+        m, e = map(int, line.split()[1:3])
+        return f"entry {m} {e} = {entry(level_1, m, e)}"
+
     def asked(op, ps):
         return " ".join([op] + [show(*p) for p in ps] + ["=", pairs.answer(op, [plain(p) for p in ps])])
 
     r = random.Random(seed)
-    yield from subprocess.run([sys.executable, oracle + "/pairs.py", str(seed), "3100"], capture_output=True, text=True, check=True).stdout.splitlines()
+    drawn = subprocess.run([sys.executable, oracle + "/pairs.py", str(seed), "3100"], capture_output=True, text=True, check=True).stdout.splitlines()
+    yield from (entered(x) if x.startswith("entry ") else x for x in drawn)
     for op, edges in [("add", sums()), ("mul", products()), ("div", quotients()), ("rest", rests())]:
         yield from (asked(op, ps) for ps in edges)
     for op in ["add", "mul", "div"]:
         yield from (asked(op, ps) for ps in no_pairs(r))
     yield from (asked("rest", ps[:1]) for ps in no_pairs(r))
-    yield from (f"entry {m} {e} = {pairs.entry(m, e)}" for m, e in entries())
+    yield from (f"entry {m} {e} = {entry(level_1, m, e)}" for m, e in entries())
     yield from (f"compare {show(a, b)} = {compare(a, b)}" for a, b in comparisons(r, 700))
     yield from (f"units {show(lo, hi)} {u} = {units(lo, hi, u)}" for lo, hi, u in counts(r, 800))
+    r = random.Random(seed + 1)
+    yield from (f"entry {m} {e} = {entry(level_1, m, e)}" for m, e in once(long_entries(r)))
+    yield from (f"less {m} {e} = {less(level_1, m, e)}" for m, e in once(printed_shares(r)))
 
 
 def main(oracle, seed, data):
@@ -209,7 +306,7 @@ def main(oracle, seed, data):
     for k, part in enumerate(files, 1):
         with open(f"{data}/vectors_{k}", "w") as f:
             f.write("\n".join(part) + "\n")
-    for op in ["add", "mul", "div", "rest", "entry", "compare", "units"]:
+    for op in ["add", "mul", "div", "rest", "entry", "compare", "units", "less"]:
         own = [x for x in made if x.startswith(op + " ")]
         print(op, len(own), "of these refused", sum(x.endswith("= 53") for x in own))
     print("total", len(made), "of these refused", sum(x.endswith("= 53") for x in made), "in", len(files), "files")

@@ -1,5 +1,9 @@
 #!/usr/bin/env python3
-"""make_decks.py ORACLE SEED FILE: stored decks with the answers of the independent reading in the folder ORACLE."""
+"""make_decks.py ORACLE SEED FILE: stored decks with the answers of the independent reading in the folder ORACLE.
+
+The answers are those of level 1: document 01 with request P1. The decks of document 01 are still chosen by their answers at level 0, so they
+stay the ones they were; a deck whose numbers have at most nine digits must have the same answer at both levels, else the script stops.
+"""
 import collections
 import random
 import sys
@@ -11,15 +15,18 @@ from oracle import SITE, CHEM, REC, NOVALUE, NONZERO, ATMOST1, ATMOST366, deck_t
 SEED = int(sys.argv[2])
 rng = random.Random(SEED)
 LINE = 95
+LEVEL = 1
+chosen_at = 0           # the level whose answers choose the decks
 stored, kinds, have = [], collections.Counter(), set()
+short_decks, long_decks, moved = collections.Counter(), collections.Counter(), collections.Counter()
 numbers = collections.Counter()
 by_kind = collections.defaultdict(collections.Counter)
 
 
-def answer(deck, room):
+def answer(deck, room, level=None):
     """(number, line, field), report"""
     try:
-        r = report(deck, room)
+        r = report(deck, room, chosen_at if level is None else level)
         return (0, len(r), 0), r
     except Refusal as e:
         return e.answer, b""
@@ -28,7 +35,7 @@ def answer(deck, room):
 def need(deck):
     """bytes of its report, or None where the deck itself is refused"""
     try:
-        site, chems, recs = oracle.read_deck(deck)
+        site, chems, recs = oracle.read_deck(deck, chosen_at)
     except Refusal:
         return None
     return LINE * len(recs) * (6 * len(chems) + 1)
@@ -41,14 +48,32 @@ def any_room(deck):
     return rng.choice([n, n, n + 1, n + rng.randint(2, 700), n + 95, n + rng.randint(100, 900)])
 
 
+def most_digits(deck):
+    """the most digits that a field has before an exponent"""
+    fields = [deck[i + 8 + 12 * f:i + 20 + 12 * f] for i in range(0, len(deck), 81) for f in range(6)]
+    return max([sum(48 <= c <= 57 for c in x.split(b"E")[0]) for x in fields], default=0)
+
+
+def held(deck, room):
+    """the answer at level 1, which is the one at level 0 where no number has more than nine digits"""
+    before, now = answer(deck, room, 0), answer(deck, room, LEVEL)
+    if most_digits(deck) <= 9:
+        assert before == now
+        short_decks[chosen_at] += 1
+    else:
+        long_decks[chosen_at] += 1
+        moved[chosen_at, before[0][0], now[0][0]] += before != now
+    return now
+
+
 def put(kind, deck, room=None, want=None):
     if room is None:
         room = any_room(deck)
     if (deck, room) in have:
         return False
-    told, rep = answer(deck, room)
-    if want is not None and told[0] not in want:
+    if want is not None and answer(deck, room)[0][0] not in want:
         return False
+    told, rep = held(deck, room)
     assert len(deck) <= 8192 and room <= 40000, (len(deck), room)
     have.add((deck, room))
     stored.append("".join(f"{x:>6}" for x in (len(deck), room) + told).encode() + b"\n" + deck + rep)
@@ -237,9 +262,9 @@ def nine(k):
     return t
 
 
-def adjacent(make, lo, hi):
-    """the two neighbouring nine-digit values between which make's deck turns from one answer to the other"""
-    ok = lambda k: answer(make(nine(k)), None)[0][0]
+def adjacent(make, lo, hi, spelled=nine):
+    """the two neighbouring values between which make's deck turns from one answer to the other"""
+    ok = lambda k: answer(make(spelled(k)), None)[0][0]
     a = ok(lo)
     while hi - lo > 1:
         mid = (lo + hi) // 2
@@ -407,16 +432,256 @@ put(K, deck_text((1, S0), [(1, C0)], [(9, R0), (9, R0)]), None, {22})
 put(K, deck_text((1, S0), [(1, C0)], [(10, R0), (9, R0)]), None, {22})
 put(K, deck_text((7, S0), [(7, C0), (999999, C0)], [(7, R0), (8, R0)]))
 for number, count in ((11, 2), (12, 12), (21, 4), (22, 10), (31, 16), (32, 14), (33, 14)):
-    fill(K, count, lambda: decks.damage(rng, some_deck()), {number})
-fill(K, 8, lambda: decks.damage(rng, some_deck()), {0})
+    fill(K, count, lambda: decks.damage(rng, some_deck(), 0), {number})
+fill(K, 8, lambda: decks.damage(rng, some_deck(), 0), {0})
 
-order = list(range(len(stored)))
+
+# ---- request P1: as many digits as twelve columns hold ----
+chosen_at = LEVEL
+RECORD = {name: kind for kind, names in NAMES for name in names}
+PLAIN = {**dict(zip(SITE, S0)), **dict(zip(CHEM, C0)), **dict(zip(REC, R0)), "Q": "1000"}     # all nine figures are printed
+
+
+def at(**texts):
+    """the plain deck with these fields"""
+    parts = [{k: v for k, v in {**PLAIN, **texts}.items() if RECORD[k] == kind} for kind in "SCR"]
+    return one(S(**parts[0]), C(**parts[1]), R(**parts[2]))
+
+
+def value_of(text):
+    return oracle.read_number(text.rjust(12).encode(), LEVEL)
+
+
+def ends_of(text):
+    return oracle.around(value_of(text))
+
+
+def nine_figures(w):
+    """a working number of 0.1 to 1E+09 as a field"""
+    m, e = w
+    t = str(m).rjust(1 - e, "0")
+    return f"{t[:e]}.{t[e:]}" if e < 0 else str(m * 10 ** e)
+
+
+def lively(name):
+    """a realistic value, seldom 0 or 1"""
+    v = decks.typical(rng, name)
+    return decks.typical(rng, name) if v in (0, 1) and rng.random() < .9 else v
+
+
+def long(v):
+    """v in ten to twelve digits"""
+    if v is None:
+        return "-"
+    if v == 0:
+        return rng.choice(["0.0000000000", "000000000000", "0.000000000", "00000.000000"])
+    if v >= 1 and rng.random() < .08:
+        return f"{round(v):012}"
+    width = rng.choice([11, 12, 12, 12])
+    return f"{v:.{width - 1 - len(str(int(v)))}f}"
+
+
+def long_deck(nc, nr):
+    record = lambda names: [long(lively(n)) for n in names]
+    return deck_text((rng.randint(1, 999999), record(SITE)), [(i, record(CHEM)) for i in decks.ids(rng, nc)],
+                     [(i, record(REC)) for i in decks.ids(rng, nr)])
+
+
+K = "P1: ten to twelve digits in all fields"
+for count, nc, nr in ((8, 1, 1), (4, 3, 2), (1, 16, 4)):
+    fill(K, count, lambda: long_deck(nc, nr), {0})
+fill(K, 2, lambda: (long_deck(2, 1), 95 * 13 - 1), {51})
+
+# each slot in turn: eleven digits whose two ends, written as the field, each give another report
+K = "P1: each slot in turn with eleven digits"
+
+
+def eleven_digits(name, wide):
+    """a share of 0.1 to 1, days of 100 to 365; else near the plain deck's value, or wide of it"""
+    b = float(PLAIN[name])
+    if name in ATMOST1 or b < .1 and not wide:
+        v = rng.uniform(.1, 1)
+    elif name in ATMOST366:
+        v = rng.uniform(100, 365)
+    else:
+        v = 10 ** rng.uniform(0, 4) if wide else rng.uniform(.8, 1.2) * max(b, 1.3)
+    return f"{v:.{11 - len(str(int(v)))}f}"
+
+
+def telling(name):
+    """a deck that tells its value from the working numbers next to it"""
+    for k in range(400):
+        t = eleven_digits(name, k > 60)
+        assert len(t) == 12, t
+        low, high = ends_of(t)
+        deck = at(**{name: t})
+        told, rep = answer(deck, None)
+        if low != high and told[0] == 0 and rep not in [answer(at(**{name: nine_figures(w)}), None)[1] for w in (low, high)]:
+            return deck
+    raise SystemExit(f"{name}: no value tells its ends")
+
+
+for kind, names in NAMES:
+    for name in names:
+        assert put(K, telling(name), None, {0})
+
+# nine figures that carry
+K = "P1: nine figures that carry"
+for name, t in (("Zs", "9.9999999999"), ("Zs", "99.999999999"), ("tD", "9.9999999995"), ("tD", "99.999999991"), ("BD", "0.9999999999"),
+                ("Kds", "999.99999999"), ("Kds", "999999999.5"), ("Kds", "999999999.99"), ("Q", "0.9999999995"), ("HgA", "0.9999999999"),
+                ("Cyp", "0.9999999991"), ("RfDo", "999999999.5"), ("RfDi", "0.9999999999"), ("CSFo", "9.9999999999"), ("BW", "99.999999999"),
+                ("ED", "9.9999999999"), ("ATc", "99999.999995"), ("ATc", "999999999.1"), ("SAb", "9999.9999999"), ("EFs", "99.999999999"), ("WP", "0.9999999995")):
+    low, high = ends_of(t)
+    assert low[0] == oracle.HI and high[0] == oracle.LO
+    assert put(K, at(**{name: t}))
+
+# ten digits and more that are one working number: the report is that of the short spelling
+K = "P1: equal ends in ten digits and more"
+
+
+def same_as(short_deck, long_deck):
+    assert answer(short_deck, None) == answer(long_deck, None)
+    assert put(K, long_deck, None, {0})
+
+
+def stretched(t, how):
+    """another spelling of the same value"""
+    if t == "-" or "E" in t:
+        return t
+    w, p = (t.split(".") + [""])[:2]
+    return {"before": (w + ("." + p if p else "")).rjust(12, "0"), "behind": f"{w}.{p}".ljust(12, "0"),
+            "both": f"{w.rjust(5, '0')}.{p}".ljust(12, "0"), "ten": f"{w}.{p}".ljust(11, "0") if p else w.rjust(10, "0")}[how]
+
+
+for how in ("before", "behind", "both", "ten"):
+    same_as(one(), one(*[[stretched(t, how) for t in f] for f in (S0, C0, R0)]))
+    same_as(EX, one(*[[stretched(t, how) for t in f] for f in (XS, XC, XR)]))
+for name, t, plain in (("Zs", "20.000000000", "20"), ("BD", "1.234567890", "1.23456789"), ("tD", "000000000030", "30"), ("HgD", "1.0000000000", "1"),
+                       ("Kds", "123456789.00", "123456789"), ("Kds", "001000000000", "1E+09"), ("Fv", "0.1234567800", "0.12345678"),
+                       ("CSFo", "0.0000000120", "12E-09"), ("ATc", "0025000000.0", "25E+06"), ("EFs", "0000000366.0", "366")):
+    same_as(at(**{name: plain}), at(**{name: t}))
+
+# the vapour share: 1 - Fv from the printed digits, with particles that count
+K = "P1: the vapour share near 1, near 0 and between"
+PARTICLES = dict(Cyv="0", Dydv="0", Dywv="0")
+untold = collections.Counter()
+# not P1's: the low end for both, the high end for both, 1 - the pair of the field
+OTHER_WAYS = (lambda A, one, f: (oracle.of(one - f, False),) * 2, lambda A, one, f: (oracle.of(one - f, True),) * 2,
+              lambda A, one, f: oracle.one_minus(oracle.around(f)))
+
+
+def otherwise(deck, way):
+    """the report with 1 - Fv taken another way"""
+    kept, oracle.Pairs.less = oracle.Pairs.less, way
+    told = answer(deck, None)[1]
+    oracle.Pairs.less = kept
+    return told
+
+
+def share(t, **more):
+    """a deck that tells 1 - Fv from as many other ways as can be; the less is left for the particles the more of them there are"""
+    f = value_of(t)
+    s = len(str(int(1 / (1 - f)))) - 1 if f < 1 else 0
+    q, s = (3, s - 1) if s >= 2 else (2, s)
+    ways = [w for w in OTHER_WAYS if w(None, 1, f) != oracle.around(1 - f)]
+    best = -1
+    for _ in range(150):
+        figures = {k: f"{rng.choice([100, rng.randint(100, 999)])}E{e - 2:+03d}" for k, e in (("Cyp", s - 1), ("Dydp", s - 2), ("Dywp", s - 2), ("Q", q))}
+        deck = at(Fv=t, **figures, **more)
+        told, rep = answer(deck, None)
+        apart = sum(rep != otherwise(deck, w) for w in ways)
+        if told[0] == 0 and apart > best:
+            best, kept = apart, deck
+        if best == len(ways):
+            break
+    assert put(K, kept)
+    untold[t] += len(ways) - best
+
+
+for t in ("0.9999999999", "0.9999999998", "0.9999999995", "0.9999999989", "0.999999999", "0.9999999990", "0.99999999", "0.9000000001",
+          "0.8999999999", "0.8999999991", "0.9876543211", "0.5000000005", "0.3456789012", "0.0000000001", "0.0000000005", "0.0000000011", "0.0000000010",
+          "1E-20", "1E-11", "5E-10", "1.000000E-09"):
+    share(t, **PARTICLES)
+for t in ("0.9999999999", "0.9999999997", "0.9999999901", "0.8999999999", "0.6666666667", "0.0000000001", "1.00000000", "1.0000000000", "000000000001",
+          "10E-01", "0.0000000000", "000000000000"):
+    share(t)
+share("1.0000000000", **PARTICLES)
+print("other ways to take 1 - Fv that a deck does not tell:", {t: n for t, n in untold.items() if n})
+
+# ranges by the printed digits
+K = "P1: ranges by the printed digits"
+for name in sorted(ATMOST1 & RECORD.keys()):
+    assert put(K, at(**{name: rng.choice(["1.0000000001", "1.000000001", "01.000000001"])}), None, {33})
+for name in sorted(ATMOST366 & RECORD.keys()):
+    assert put(K, at(**{name: rng.choice(["366.0000001", "366.00000001"])}), None, {33})
+    assert put(K, at(**{name: rng.choice(["366.00000000", "365.99999999"])}), None, {0})
+for name, t in (("tD", "1000000000.1"), ("Kds", "1000000000.1"), ("ATc", "1000000001"), ("RfDo", "1000000000.1"), ("CSFi", "999999999999"), ("BW", "001000000001"),
+                ("Zs", "0.0000000000"), ("RfDi", "000000000000"), ("ED", "00000.000000")):
+    assert put(K, at(**{name: t}), None, {33})
+for name, t in (("Kds", "1000000000.0"), ("ATc", "1000000000.0"), ("BW", "1000000000"), ("RfDo", "01000000000"), ("Br", "0.0000000000"), ("ksv", "000000000000"),
+                ("AFderm", "0.9999999999"), ("Fbg", "1.0000000000")):
+    assert put(K, at(**{name: t}), None, {0})
+
+# x at 64 and on both sides of it, told by ten digits and more
+K = "P1: x near 64"
+for tD, ksg, ksv in (("1", "64.000000000", "0"), ("1", "64.000000001", "0"), ("1", "63.999999999", "0"), ("1.0000000000", "64", "0"),
+                     ("1.0000000001", "64", "0"), ("0.9999999999", "64", "0"), ("0.9999999999", "64.000000001", "0"), ("30.000000000", "2.1333333300", "0"),
+                     ("30.000000000", "2.1333333333", "0"), ("29.999999999", "2.1333333333", "0"), ("31.999999999", "2.0000000000", "0"), ("32.000000001", "2", "0"),
+                     ("32", "2.0000000001", "0"), ("1", "32.000000000", "32.000000000"), ("1", "32.000000001", "31.999999998"), ("1", "63.999999999", "0.0000000001"),
+                     ("1", "63.999999900", "0.0000000999"), ("1", "63.999999900", "0.0000001001"), ("1000000000.0", "0.0000000640", "0.0000000000"),
+                     ("1000000000.0", "0.0000000640", "1E-20")):
+    assert put(K, one(S(tD=tD, **ONLY), C(ksg=ksg, ksv=ksv)), None, {0, 41})
+for place in (2, 3):
+    cs = [(i, C(ksg="63.999999999" if i < place else "64.000000001", ksv="0")) for i in (1, 2, 3)]
+    assert put(K, deck_text((1, S(tD="1", **ONLY)), cs, [(1, R0)]), None, {41})
+
+# a quotient at 10,000 and a risk at 1, and eleven digits on both sides of the cap
+K = "P1: figures near their caps"
+for q in ("20000.000000", "20000.000001", "19999.999999", "0000020000.0"):
+    assert put(K, one(XS, with_(XC, CHEM, Q=q), XR))
+for csf in ("2000.0000000", "2000.0000001", "1999.9999999"):
+    assert put(K, one(XS, with_(XC, CHEM, Q="10", CSFo="-", CSFi=csf), with_(XR, REC, ATc="18250.000000")))
+
+
+def eleven(k):
+    t = str(10_000_000_000 + k)
+    return f"{t[0]}.{t[1:]}"
+
+
+MOST = 89_999_999_999
+for p in range(1, 7):
+    for field in ("RfD", "CSF"):
+        name = field + ("i" if p == 1 else "o")
+        refs = {k: "-" for k in REFS}
+        for q in range(-9, 10):
+            make = lambda t: one(None, C(**{**refs, "Q": f"1E{q:+03d}", "RCF": "1E+04", "Dydp": "1E+04", name: t}), R(**ALONE[p]))
+            if len({answer(make(eleven(k)), None)[0][0] for k in (0, MOST)}) == 2:
+                break
+        for k, number in zip(adjacent(make, 0, MOST, eleven), (42, 0) if field == "RfD" else (0, 42)):
+            assert put(K, make(eleven(k)), None, {number})
+
+# misspelled, of ten digits and more
+K = "P1: misspelled"
+for name, t in zip(rng.sample(SITE + CHEM + REC, 20),
+                   ("1234567890.", ".1234567890", "12345.67890.", "1.2345.67890", "1234567890E", "1234567890E1", "1234567890E+", "12345678901 ", "+1234567890",
+                    "-1234567890", "1 2345678901", "1,2345678901", "00000000010.", "123456789E01", "1234567890e0", "12345678901-", "0x1234567890", "E+0123456789",
+                    "0.99999999.9", ".99999999999")):
+    assert put(K, at(**{name: t}), None, {31})
+
+# damaged decks of long numbers
+K = "P1: damaged decks"
+for number, count in ((0, 3), (31, 4), (32, 2), (33, 4), (22, 1), (21, 1)):
+    fill(K, count, lambda: decks.damage(rng, long_deck(1, 1), LEVEL), {number})
+
 data = b"".join(stored)
 open(sys.argv[3], "wb").write(data)
 acc = numbers[0]
 print(len(stored), "decks", len(data), "bytes; accepted", acc, "refused", len(stored) - acc)
 print(sorted(numbers.items()))
 for k in by_kind:
-    print(f"{k:40} {kinds[k]:4}", dict(sorted(by_kind[k].items())))
+    print(f"{k:56} {kinds[k]:4}", dict(sorted(by_kind[k].items())))
+for level, whose in enumerate(("document 01's decks", "decks for P1")):
+    print(f"{whose}: at most nine digits {short_decks[level]}, all as at level 0; more digits {long_decks[level]}, of these changed:",
+          {f"{a} to {b}": n for (l, a, b), n in sorted(moved.items()) if l == level and n})
 with open(sys.argv[3] + ".out", "w") as f:
     f.write(f"decks {len(stored)}\naccepted {acc}\nrefused {len(stored) - acc}\ndiffering 0\n")

@@ -14,9 +14,9 @@ ghost use mathlib.Core.Path.{_≡_};
 ghost use mathlib.Core.Bool.{true};
 ghost use Prim.Native.Nat.{_≤_};
 
-// The place of a line's operation among the seven, or 7 where it names none.
+// The place of a line's operation among the eight, or 8 where it names none.
 pub fn operation(s: &[u8]) -> usize
-    ensures { λ r. ⌜ r ≤ 7 ⌝ }
+    ensures { λ r. ⌜ r ≤ 8 ⌝ }
 {
     if starts(s, b"add ") {
         return 0;
@@ -39,7 +39,10 @@ pub fn operation(s: &[u8]) -> usize
     if starts(s, b"units ") {
         return 6;
     }
-    7
+    if starts(s, b"less ") {
+        return 7;
+    }
+    8
 }
 
 // Where the answer begins, after " =" at a place, or the line's end, where no answer is, if that does not stand there.
@@ -178,6 +181,16 @@ fn of_units(s: &[u8]) -> bool {
     }
 }
 
+// 1 − a printed number: a significand and an exponent.
+fn of_less(s: &[u8]) -> bool {
+    let m = read_whole(s, 4, true);
+    let e = read_exponent(s, m.at, m.good);
+    if e.good {
+        return same_answer(s, e.at, Pair::one_minus_entry(m.value, e.value));
+    }
+    false
+}
+
 // Whether the library answers a line as it is written there.
 pub fn agrees(operation: usize, s: &[u8]) -> bool {
     match operation {
@@ -186,6 +199,7 @@ pub fn agrees(operation: usize, s: &[u8]) -> bool {
         4 => of_entry(s),
         5 => of_compare(s),
         6 => of_units(s),
+        7 => of_less(s),
         _ => false,
     }
 }

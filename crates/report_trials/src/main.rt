@@ -51,7 +51,8 @@ fn column(head: &[u8], k: usize) -> u32
     }
     let word = deck::number(&head[from..to]);
     match word {
-        Word::Number { digits, power: _ } => digits,
+        // Six columns hold six digits at most.
+        Word::Number { digits, power: _ } => (digits % 1_000_000) as u32,
         _ => 0,
     }
 }
