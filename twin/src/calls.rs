@@ -2,7 +2,7 @@
 //!
 //! A pair travels as low significand, low exponent, high significand, high exponent.
 
-use crate::pairs::{self, Pair, Working, LEAST, MOST, REACH};
+use crate::pairs::{self, Pair, Working, LEAST, MOST, MOST_PRINTED, REACH};
 
 /// A pair call's refusal.
 pub const REFUSED: u32 = 53;
@@ -41,11 +41,15 @@ fn result(p: Pair) -> Answer<Raw> {
 }
 
 /// Document 01 says of an entry only "e out of reach in operand or result": both are tested, for 0 too.
-pub fn entry(digits: u64, power: i32) -> Answer<Raw> {
-    if digits > MOST as u64 || !in_reach(power as i64) {
+fn printed(digits: u64, power: i32) -> Answer<Pair> {
+    if digits > MOST_PRINTED || !in_reach(power as i64) {
         return Err(REFUSED);
     }
-    result(Pair::entry(digits as u32, power))
+    Ok(Pair::entry(digits, power))
+}
+
+pub fn entry(digits: u64, power: i32) -> Answer<Raw> {
+    result(printed(digits, power)?)
 }
 
 pub fn sum(a: &Raw, b: &Raw) -> Answer<Raw> {
@@ -70,6 +74,15 @@ pub fn one_minus(f: &Raw) -> Answer<Raw> {
         return Err(REFUSED);
     }
     result(f.one_minus())
+}
+
+/// The entry's own pair may be out of reach: only 1 − the printed number is handed back.
+pub fn one_minus_entry(digits: u64, power: i32) -> Answer<Raw> {
+    // 1 is a working number, so the printed number is above it exactly where its high end is.
+    if !printed(digits, power)?.high.at_most(Working::ONE) {
+        return Err(REFUSED);
+    }
+    result(Pair::one_minus_entry(digits, power))
 }
 
 pub fn series(x: &Raw) -> Answer<Raw> {
@@ -103,7 +116,11 @@ mod tests {
 
     #[test]
     fn refusals() {
-        assert_eq!(entry(1_000_000_000, 0), Err(53));
+        assert_eq!(entry(1_000_000_000_000, 0), Err(53));
+        assert_eq!(entry(999_999_999_999, 0), Ok([999_999_999, 3, 100_000_000, 4]));
+        // The low end alone is in reach.
+        assert_eq!(entry(999_999_999_500, 99_996), Err(53));
+        assert_eq!(entry(999_999_999_000, 99_996), Ok([999_999_999, 99_999, 999_999_999, 99_999]));
         assert_eq!(entry(0, 100_000), Err(53));
         assert_eq!(entry(0, 99_999), Ok([0; 4]));
         assert_eq!(entry(1, -99_992), Err(53));
@@ -114,6 +131,15 @@ mod tests {
         assert_eq!(quotient(&ONE, &[0, 0, 100_000_000, 0]), Err(53));
         assert_eq!(one_minus(&[100_000_000, -8, 100_000_001, -8]), Err(53));
         assert_eq!(one_minus(&ONE), Ok([0; 4]));
+        assert_eq!(one_minus_entry(1_000_000_000_000, -12), Err(53));
+        assert_eq!(one_minus_entry(100_000_000_001, -11), Err(53));
+        assert_eq!(one_minus_entry(1, 1), Err(53));
+        assert_eq!(one_minus_entry(1, -100_000), Err(53));
+        assert_eq!(one_minus_entry(0, 100_000), Err(53));
+        assert_eq!(one_minus_entry(0, 99_999), Ok(ONE));
+        assert_eq!(one_minus_entry(10, -1), Ok([0; 4]));
+        assert_eq!(one_minus_entry(1, -99_999), Ok([999_999_999, -9, 100_000_000, -8]));
+        assert_eq!(one_minus_entry(99_999_999_999, -11), Ok([100_000_000, -19, 100_000_000, -19]));
         let top = [999_999_999, 99_999, 999_999_999, 99_999];
         assert_eq!(sum(&top, &ONE), Err(53));
         assert_eq!(sum(&top, &[0; 4]), Ok(top));

@@ -1,6 +1,6 @@
 //! A deck read into a case, or where it stops.
 
-use crate::pairs::Working;
+use crate::pairs::{Pair, Working};
 use crate::Outcome;
 
 pub const LINE: usize = 81;
@@ -14,6 +14,18 @@ pub struct Slot {
     pub never_0: bool,
     /// A lone - is allowed.
     pub may_lack: bool,
+}
+
+impl Slot {
+    /// Whether a printed number is in range, by the pair around it. Both ends of the range are working numbers, so the
+    /// number is beyond one of them exactly where the pair's end on that side is: its last digit still decides.
+    pub fn takes(&self, value: Pair) -> bool {
+        if value.high.m == 0 {
+            !self.never_0
+        } else {
+            LEAST_VALUE.at_most(value.low) && value.high.at_most(self.cap)
+        }
+    }
 }
 
 const LEAST_VALUE: Working = Working::entry(1, -20);
@@ -48,40 +60,55 @@ pub const RECEPTOR: [Slot; 21] = [
 
 /// A chemical's slots before its reference values.
 pub const CHEMICAL_VALUES: usize = 18;
+/// The place of Fv among them.
+pub const FV: usize = 3;
+
+/// A number as a field prints it: digits × 10^power.
+pub type Printed = (u64, i32);
 
 #[derive(Clone, Copy, Debug)]
 pub struct Chemical {
     pub id: u32,
-    pub value: [Working; CHEMICAL_VALUES],
+    pub value: [Pair; CHEMICAL_VALUES],
+    /// Fv once more, for 1 − Fv.
+    pub fv: Printed,
     /// RfDo, RfDi, CSFo, CSFi.
-    pub reference: [Option<Working>; 4],
+    pub reference: [Option<Pair>; 4],
 }
 
 #[derive(Clone, Copy, Debug)]
 pub struct Receptor {
     pub id: u32,
-    pub value: [Working; 21],
+    pub value: [Pair; 21],
 }
 
 /// What an accepted deck says.
 #[derive(Clone, Debug)]
 pub struct Case {
-    pub site: [Working; 11],
+    pub site: [Pair; 11],
     pub chemicals: usize,
     pub receptors: usize,
     chemical: [Chemical; MOST_CHEMICALS],
     receptor: [Receptor; MOST_RECEPTORS],
 }
 
+impl Chemical {
+    pub const EMPTY: Chemical =
+        Chemical { id: 0, value: [Pair::ZERO; CHEMICAL_VALUES], fv: (0, 0), reference: [None; 4] };
+}
+
+impl Receptor {
+    pub const EMPTY: Receptor = Receptor { id: 0, value: [Pair::ZERO; 21] };
+}
+
 impl Case {
     pub fn empty() -> Case {
         Case {
-            site: [Working::ZERO; 11],
+            site: [Pair::ZERO; 11],
             chemicals: 0,
             receptors: 0,
-            chemical: [Chemical { id: 0, value: [Working::ZERO; CHEMICAL_VALUES], reference: [None; 4] };
-                MOST_CHEMICALS],
-            receptor: [Receptor { id: 0, value: [Working::ZERO; 21] }; MOST_RECEPTORS],
+            chemical: [Chemical::EMPTY; MOST_CHEMICALS],
+            receptor: [Receptor::EMPTY; MOST_RECEPTORS],
         }
     }
 
@@ -183,22 +210,26 @@ pub fn read_case(deck: &[u8], case: &mut Case) -> Result<(), Outcome> {
         };
         for f in 0..6 {
             let slot = slots.get(first + f);
-            let value = fill(slot, mark(field(text, f))).map_err(|number| stop(number, f + 1))?;
+            let mark = mark(field(text, f));
+            let value = fill(slot, mark).map_err(|number| stop(number, f + 1))?;
             if slot.is_none() {
                 continue;
             }
             let at = first + f;
             match kind {
-                Kind::Site(_) => case.site[at] = value.unwrap_or(Working::ZERO),
+                Kind::Site(_) => case.site[at] = value.unwrap_or(Pair::ZERO),
                 Kind::Chemical(_) => {
                     let c = &mut case.chemical[case.chemicals - 1];
                     if at < CHEMICAL_VALUES {
-                        c.value[at] = value.unwrap_or(Working::ZERO);
+                        c.value[at] = value.unwrap_or(Pair::ZERO);
                     } else {
                         c.reference[at - CHEMICAL_VALUES] = value;
                     }
+                    if let (FV, Mark::Number(printed)) = (at, mark) {
+                        c.fv = printed;
+                    }
                 }
-                _ => case.receptor[case.receptors - 1].value[at] = value.unwrap_or(Working::ZERO),
+                _ => case.receptor[case.receptors - 1].value[at] = value.unwrap_or(Pair::ZERO),
             }
         }
         before = kind;
@@ -264,8 +295,7 @@ fn field(text: &[u8], f: usize) -> &[u8] {
 enum Mark {
     Blank,
     Dash,
-    /// digits × 10^power
-    Number(u32, i32),
+    Number(Printed),
     Misspelled,
 }
 
@@ -273,30 +303,26 @@ fn mark(field: &[u8]) -> Mark {
     match after_spaces(field) {
         [] => Mark::Blank,
         [b'-'] => Mark::Dash,
-        text => number(text).map_or(Mark::Misspelled, |(digits, power)| Mark::Number(digits, power)),
+        text => number(text).map_or(Mark::Misspelled, Mark::Number),
     }
 }
 
-/// Digits, or digits point digits, nine digits at most; optionally E, a sign, two digits.
-fn number(text: &[u8]) -> Option<(u32, i32)> {
-    let (mut digits, mut power, mut taken) = (0u32, 0, 0);
+/// Digits, or digits point digits; optionally E, a sign, two digits. Twelve columns hold at most twelve digits.
+fn number(text: &[u8]) -> Option<Printed> {
+    let (mut digits, mut power) = (0u64, 0);
     let mut at = 0;
-    let run = |at: &mut usize, digits: &mut u32, taken: &mut usize| -> Option<i32> {
+    let run = |at: &mut usize, digits: &mut u64| -> Option<i32> {
         let from = *at;
         while *at < text.len() && text[*at].is_ascii_digit() {
-            *taken += 1;
-            if *taken > 9 {
-                return None;
-            }
-            *digits = *digits * 10 + (text[*at] - b'0') as u32;
+            *digits = *digits * 10 + (text[*at] - b'0') as u64;
             *at += 1;
         }
         (*at > from).then_some((*at - from) as i32)
     };
-    run(&mut at, &mut digits, &mut taken)?;
+    run(&mut at, &mut digits)?;
     if text.get(at) == Some(&b'.') {
         at += 1;
-        power = -run(&mut at, &mut digits, &mut taken)?;
+        power = -run(&mut at, &mut digits)?;
     }
     match text[at..] {
         [] => {}
@@ -314,18 +340,17 @@ fn number(text: &[u8]) -> Option<(u32, i32)> {
 }
 
 /// What a slot takes from a field (`None`: no value), or the refusal's number. A later slot has no `slot`.
-fn fill(slot: Option<&Slot>, mark: Mark) -> Result<Option<Working>, u32> {
+fn fill(slot: Option<&Slot>, mark: Mark) -> Result<Option<Pair>, u32> {
     let (digits, power) = match (slot, mark) {
         (_, Mark::Misspelled) => return Err(31),
         (None, Mark::Blank) => return Ok(None),
         (Some(slot), Mark::Dash) if slot.may_lack => return Ok(None),
         (None, _) | (_, Mark::Blank | Mark::Dash) => return Err(32),
-        (Some(_), Mark::Number(digits, power)) => (digits, power),
+        (Some(_), Mark::Number(printed)) => printed,
     };
     let slot = slot.ok_or(32u32)?;
-    let value = Working::entry(digits, power);
-    let in_range = if value.m == 0 { !slot.never_0 } else { LEAST_VALUE.at_most(value) && value.at_most(slot.cap) };
-    if in_range {
+    let value = Pair::entry(digits, power);
+    if slot.takes(value) {
         Ok(Some(value))
     } else {
         Err(33)
@@ -344,30 +369,51 @@ mod tests {
     fn spellings() {
         assert_eq!(m(""), Mark::Blank);
         assert_eq!(m("-"), Mark::Dash);
-        assert_eq!(m("0.2"), Mark::Number(2, -1));
-        assert_eq!(m("000000001"), Mark::Number(1, 0));
-        assert_eq!(m("12345678E-05"), Mark::Number(12_345_678, -5));
+        assert_eq!(m("0.2"), Mark::Number((2, -1)));
+        assert_eq!(m("000000001"), Mark::Number((1, 0)));
+        assert_eq!(m("12345678E-05"), Mark::Number((12_345_678, -5)));
         assert_eq!(m("1.2345678E+0"), Mark::Misspelled);
-        assert_eq!(m("0.12345678"), Mark::Number(12_345_678, -8));
-        for bad in [
-            "0.123456789",
-            "1234567890",
-            "+1",
-            "-1",
-            ".5",
-            "5.",
-            "1E5",
-            "1e+05",
-            "1E+005",
-            "1 2",
-            "1 ",
-            "- ",
-            "--",
-            "E+01",
-            "1.E+01",
-            "1..2",
-        ] {
+        assert_eq!(m("0.12345678"), Mark::Number((12_345_678, -8)));
+        assert_eq!(m("0.123456789"), Mark::Number((123_456_789, -9)));
+        assert_eq!(m("1.2345678912"), Mark::Number((12_345_678_912, -10)));
+        assert_eq!(m("1234567890"), Mark::Number((1_234_567_890, 0)));
+        assert_eq!(m("999999999999"), Mark::Number((999_999_999_999, 0)));
+        assert_eq!(m("000000000001"), Mark::Number((1, 0)));
+        for bad in ["+1", "-1", ".5", "5.", "1E5", "1e+05", "1E+005", "1 2", "1 ", "- ", "--", "E+01", "1.E+01", "1..2"]
+        {
             assert_eq!(m(bad), Mark::Misspelled, "{bad}");
+        }
+    }
+
+    #[test]
+    fn ranges_go_by_the_printed_digits() {
+        let fits = |slot: &Slot, s: &str| match fill(Some(slot), m(s)) {
+            Ok(value) => value.is_some(),
+            Err(number) => {
+                assert_eq!(number, 33, "{s}");
+                false
+            }
+        };
+        for s in ["1", "1.0000000000", "0.9999999999", "0.0000000001", "1E-20", "0", "000000000001"] {
+            assert!(fits(&SHARE, s), "{s}");
+        }
+        for s in ["1.0000000001", "1.00000001", "9.99999E-21", "000000000002", "123456789012"] {
+            assert!(!fits(&SHARE, s), "{s}");
+        }
+        assert!(fits(&DAYS, "366.00000000") && fits(&DAYS, "365.99999999") && !fits(&DAYS, "366.00000001"));
+        assert!(fits(&ANY, "999999999.5") && fits(&ANY, "1000000000.0") && fits(&ANY, "001000000000"));
+        assert!(!fits(&ANY, "1000000000.1") && !fits(&ANY, "1000000001"));
+        assert!(!fits(&POS, "0.0000000000") && fits(&POS, "0.0000000001"));
+        // By multiplying across.
+        let rng = &mut crate::rng::Rng::new(2);
+        for _ in 0..100_000 {
+            let caps = [(SHARE, 1), (DAYS, 366), (ANY, 1_000_000_000)];
+            let ((slot, cap), (_, other)) = (rng.one_of(&caps), rng.one_of(&caps));
+            let decimals = rng.between(0, 10) as u32;
+            let ten = 10u64.pow(decimals);
+            let digits = (rng.one_of(&[cap, other]) * ten).saturating_add_signed(rng.between(-3, 3));
+            let value = Pair::entry(digits, -(decimals as i32));
+            assert_eq!(slot.takes(value), digits <= cap * ten, "{digits} {decimals}");
         }
     }
 

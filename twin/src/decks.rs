@@ -1,6 +1,6 @@
 //! Trial decks from a seed: realistic, extreme and damaged, each with a report buffer of its own length and earlier content.
 
-use crate::deck::{Chemical, Receptor, Slot, CHEMICAL, CHEMICAL_VALUES, LINE, RECEPTOR, SITE};
+use crate::deck::{Chemical, Printed, Receptor, Slot, CHEMICAL, CHEMICAL_VALUES, FV, LINE, RECEPTOR, SITE};
 use crate::page::{pathways, Body, Figures, Media, Site};
 use crate::pairs::{Pair, Working};
 use crate::rng::Rng;
@@ -29,14 +29,35 @@ pub fn trial(seed: u64, place: u64) -> Trial {
 
 /// A sound deck of this many chemicals and receptors with everyday values, for timing.
 pub fn everyday(seed: u64, chemicals: usize, receptors: usize) -> Vec<u8> {
-    let mut rng = Rng::new(seed);
+    everyday_draft(&mut Rng::new(seed), chemicals, receptors).1
+}
+
+/// The same deck with eleven digits and a point in every field that has a number, each moved by less than its last place.
+pub fn everyday_eleven(seed: u64, chemicals: usize, receptors: usize) -> Vec<u8> {
+    let rng = &mut Rng::new(seed);
+    let (draft, _) = everyday_draft(rng, chemicals, receptors);
     loop {
-        let draft = Draft::new(&mut rng, chemicals, receptors, 0);
-        let deck = draft.deck(&mut rng);
-        if crate::report(&deck, &mut [0; LONGEST_REPORT]).0 == 0 {
+        let mut draft = draft.clone();
+        draft.each(|slot, v| lengthened(rng, slot, v, 11));
+        let deck = draft.written(plain);
+        if accepted(&deck) {
             return deck;
         }
     }
+}
+
+fn everyday_draft(rng: &mut Rng, chemicals: usize, receptors: usize) -> (Draft, Vec<u8>) {
+    loop {
+        let draft = Draft::new(rng, chemicals, receptors, 0);
+        let deck = draft.deck(rng);
+        if accepted(&deck) {
+            return (draft, deck);
+        }
+    }
+}
+
+fn accepted(deck: &[u8]) -> bool {
+    crate::report(deck, &mut [0; LONGEST_REPORT]).0 == 0
 }
 
 fn room(rng: &mut Rng, deck: &[u8]) -> usize {
@@ -59,20 +80,15 @@ fn room(rng: &mut Rng, deck: &[u8]) -> usize {
     }
 }
 
-/// What a slot is to say: digits × 10^power, or - for `None`.
-type Value = Option<(u32, i32)>;
+/// What a slot is to say: a number, or - for `None`.
+type Value = Option<Printed>;
 
-fn working(v: Value) -> Working {
-    v.map_or(Working::ZERO, |(digits, power)| Working::entry(digits, power))
+fn pair(v: Value) -> Pair {
+    v.map_or(Pair::ZERO, |(digits, power)| Pair::entry(digits, power))
 }
 
-fn in_range(slot: &Slot, v: (u32, i32)) -> bool {
-    let w = Working::entry(v.0, v.1);
-    if w.m == 0 {
-        !slot.never_0
-    } else {
-        Working::entry(1, -20).at_most(w) && w.at_most(slot.cap)
-    }
+fn in_range(slot: &Slot, v: Printed) -> bool {
+    slot.takes(pair(Some(v)))
 }
 
 /// Everyday values of a slot: whole numbers of 10^power between two ends.
@@ -112,8 +128,40 @@ fn usual(rng: &mut Rng, slot: &Slot, (low, high, power): Usual) -> Value {
     let more = rng.one_of(&[0, 0, 0, 1, 2, 3, 4]);
     let scale = 10i64.pow(more);
     let n = rng.between(low * scale, high * scale).min(999_999_999);
-    let v = (n as u32, power - more as i32);
+    let v = (n as u64, power - more as i32);
     Some(if in_range(slot, v) { v } else { (1, 0) })
+}
+
+/// Digits before the point.
+fn whole_digits((digits, power): Printed) -> i32 {
+    (digits.to_string().len() as i32 + power).max(1)
+}
+
+/// The number with decimals added at random until it has so many digits, zeros counted: up to eleven fit beside a point.
+/// Where that would leave the slot's range they are subtracted, and where this would too they are zeros. 0 stays 0.
+fn lengthened(rng: &mut Rng, slot: &Slot, v: Printed, most: i32) -> Printed {
+    let decimals = most - whole_digits(v);
+    let added = decimals + v.1;
+    if decimals < 1 || added < 1 {
+        return v;
+    }
+    let ten = 10u64.pow(added as u32);
+    let same = v.0 * ten;
+    let more = if v.0 == 0 { 0 } else { rng.below(ten as usize) as u64 };
+    let all = [same + more, same.saturating_sub(more), same];
+    (all.into_iter().find(|&n| in_range(slot, (n, -decimals))).unwrap_or(same), -decimals)
+}
+
+/// A number just below the slot's cap, by a little of the last decimal that fits.
+fn below_cap(rng: &mut Rng, slot: &Slot) -> Printed {
+    // 0.9999999999, 365.99999999 or 999999999.99.
+    let decimals = match slot.cap {
+        Working::ONE => 10,
+        Working { e: -6, .. } => 8,
+        _ => 2,
+    };
+    let cap = slot.cap.m as u64 * 10u64.pow((slot.cap.e + decimals) as u32);
+    (cap - rng.between(1, 20) as u64, -decimals)
 }
 
 /// A value anywhere in the slot's range, its ends above all.
@@ -121,17 +169,20 @@ fn far(rng: &mut Rng, slot: &Slot) -> Value {
     if slot.may_lack && rng.chance(15) {
         return None;
     }
-    let cap = (slot.cap.m, slot.cap.e);
+    let cap = (slot.cap.m as u64, slot.cap.e);
     for _ in 0..20 {
-        let v = match rng.below(8) {
+        let v = match rng.below(11) {
             0 => (0, rng.between(-99, 99) as i32),
             1 => (1, -20),
-            2 => (rng.between(100_000, 100_009) as u32, -25),
+            2 => (rng.between(100_000, 100_009) as u64, -25),
             3 => cap,
-            4 => (rng.between(99_999_990, 99_999_999) as u32, rng.between(-10, 1) as i32),
-            5 => (cap.0 / 10 - rng.below(3) as u32, cap.1 + 1),
-            6 => (rng.between(1, 999_999) as u32, rng.between(-8, 0) as i32),
-            _ => (rng.figures(1, 9) as u32, rng.between(-28, 8) as i32),
+            4 => (rng.between(99_999_990, 99_999_999) as u64, rng.between(-10, 1) as i32),
+            5 => (cap.0 / 10 - rng.below(3) as u64, cap.1 + 1),
+            6 => (rng.between(1, 999_999) as u64, rng.between(-8, 0) as i32),
+            7 => (rng.figures(1, 9) as u64, rng.between(-28, 8) as i32),
+            8 => below_cap(rng, slot),
+            9 => (rng.between(1, 20) as u64, -10),
+            _ => (rng.figures(9, 11) as u64, rng.between(-10, -1) as i32),
         };
         if in_range(slot, v) {
             return Some(v);
@@ -141,7 +192,10 @@ fn far(rng: &mut Rng, slot: &Slot) -> Value {
 }
 
 /// What a sound deck is to say.
+#[derive(Clone)]
 struct Draft {
+    /// Digits of a number at most, zeros counted.
+    most: usize,
     site_id: u32,
     site: Vec<Value>,
     chemicals: Vec<(u32, Vec<Value>)>,
@@ -180,6 +234,7 @@ impl Draft {
             each.map(|(slot, &u)| if rng.chance(odd) { far(rng, slot) } else { usual(rng, slot, u) }).collect()
         }
         Draft {
+            most: 9,
             site_id: rng.between(1, 999_999) as u32,
             site: values(rng, &SITE, &SITE_USUAL, odd),
             chemicals: ids(rng, chemicals)
@@ -207,7 +262,7 @@ impl Draft {
             (20, 0), (5, 0), (27_375, 0), (10, 0), (1, 0), (365, 0), (80, 0), (1, 0), (73, 0), (146, 0), (1000, 0),
             (2, -2), (400, 0), (1, -1), (1, 0), (1, -1), (5, -1), (2, -1), (5, -1), (1, 0), (365, 0),
         ];
-        fn varied(rng: &mut Rng, values: &[(u32, i32)], slots: &[Slot]) -> Vec<Value> {
+        fn varied(rng: &mut Rng, values: &[Printed], slots: &[Slot]) -> Vec<Value> {
             let each = values.iter().zip(slots);
             each.map(|(&(digits, power), slot)| {
                 let other = (digits, power - rng.one_of(&[1, 2, -1]));
@@ -216,6 +271,7 @@ impl Draft {
             .collect()
         }
         let mut draft = Draft {
+            most: 9,
             site_id: 1,
             site: varied(rng, &site, &SITE),
             chemicals: ids(rng, chemicals).into_iter().map(|id| (id, varied(rng, &chemical, &CHEMICAL))).collect(),
@@ -233,7 +289,7 @@ impl Draft {
         let mut d = Draft::round_figures(rng, chemicals, receptors);
         d.site[9] = Some((1, 0));
         d.site[FRSNOW] = Some((1, 0));
-        let soil = rng.between(1, 99_999) as u32;
+        let soil = rng.between(1, 99_999) as u64;
         for (_, c) in &mut d.chemicals {
             #[rustfmt::skip]
             let same = [
@@ -243,7 +299,7 @@ impl Draft {
                 c[at] = Some(v);
             }
         }
-        let days = Some((rng.between(1, 366) as u32, 0));
+        let days = Some((rng.between(1, 366) as u64, 0));
         for (_, r) in &mut d.receptors {
             for at in [5, 8, 9, 20] {
                 r[at] = days;
@@ -262,20 +318,50 @@ impl Draft {
         d
     }
 
+    /// Changes every number.
+    fn each(&mut self, mut change: impl FnMut(&Slot, Printed) -> Printed) {
+        let mut record = |values: &mut [Value], slots: &[Slot]| {
+            values.iter_mut().zip(slots).for_each(|(value, slot)| *value = value.map(|v| change(slot, v)));
+        };
+        record(&mut self.site, &SITE);
+        self.chemicals.iter_mut().for_each(|(_, c)| record(c, &CHEMICAL));
+        self.receptors.iter_mut().for_each(|(_, r)| record(r, &RECEPTOR));
+    }
+
+    /// As many digits as twelve columns hold, `percent` in 100 numbers lengthened, and Fv often next to 1 or 0.
+    fn lengthen(&mut self, rng: &mut Rng, percent: usize) {
+        self.most = 12;
+        self.each(|slot, v| {
+            let most = rng.one_of(&[10, 11, 11]);
+            if rng.chance(percent) {
+                lengthened(rng, slot, v, most)
+            } else {
+                v
+            }
+        });
+        for (_, c) in &mut self.chemicals {
+            match rng.below(10) {
+                0..=2 => c[FV] = Some(below_cap(rng, &CHEMICAL[FV])),
+                3 => c[FV] = Some((rng.between(1, 99) as u64, -10)),
+                _ => {}
+            }
+        }
+    }
+
     fn site(&self) -> Site {
-        let mut value = [Working::ZERO; 11];
-        value.iter_mut().zip(&self.site).for_each(|(w, &v)| *w = working(v));
+        let mut value = [Pair::ZERO; 11];
+        value.iter_mut().zip(&self.site).for_each(|(p, &v)| *p = pair(v));
         Site::new(&value)
     }
 
     fn chemical(&self, i: usize) -> Chemical {
         let (id, values) = &self.chemicals[i];
-        let mut c = Chemical { id: *id, value: [Working::ZERO; CHEMICAL_VALUES], reference: [None; 4] };
+        let mut c = Chemical { id: *id, fv: values[FV].unwrap_or((0, 0)), ..Chemical::EMPTY };
         for (at, &v) in values.iter().enumerate() {
             if at < CHEMICAL_VALUES {
-                c.value[at] = working(v);
+                c.value[at] = pair(v);
             } else {
-                c.reference[at - CHEMICAL_VALUES] = v.map(|_| working(v));
+                c.reference[at - CHEMICAL_VALUES] = v.map(|_| pair(v));
             }
         }
         c
@@ -283,8 +369,8 @@ impl Draft {
 
     fn receptor(&self, i: usize) -> Receptor {
         let (id, values) = &self.receptors[i];
-        let mut r = Receptor { id: *id, value: [Working::ZERO; 21] };
-        r.value.iter_mut().zip(values).for_each(|(w, &v)| *w = working(v));
+        let mut r = Receptor { id: *id, ..Receptor::EMPTY };
+        r.value.iter_mut().zip(values).for_each(|(p, &v)| *p = pair(v));
         r
     }
 
@@ -310,10 +396,10 @@ impl Draft {
             self.chemicals[i].1[12] = Some((0, 0));
             64.0
         };
-        let (digits, power) = decimal(wanted / real(working(self.site[TD])), 9);
-        let near = (digits as i64 + rng.between(-3, 3)).clamp(1, 999_999_999) as u32;
-        // Nine figures fit a field only without an exponent.
-        let near = if (-8..=0).contains(&power) { (near, power) } else { (near / 10, power + 1) };
+        let figures = self.most.min(11);
+        let (digits, power) = decimal(wanted / real(pair(self.site[TD]).high), figures);
+        let near = digits.saturating_add_signed(rng.between(-3, 3)).clamp(1, 10u64.pow(figures as u32) - 1);
+        let near = self.fitted((near, power));
         if in_range(&CHEMICAL[KSG], near) {
             self.chemicals[i].1[KSG] = Some(near);
         }
@@ -334,20 +420,42 @@ impl Draft {
         let figure = real_figure(&figures[line]);
         let at = RFDO + if hazard { 0 } else { 2 } + usize::from(line == 0);
         let Some(now) = self.chemicals[i].1[at] else { return };
-        let now = real(working(Some(now)));
+        let now = real(pair(Some(now)).high);
         let wanted = if hazard { now * figure / 10_000.0 } else { now / figure };
         if !(1e-20..=1e9).contains(&wanted) {
             return;
         }
-        let (digits, power) = decimal(wanted, 8);
-        let near = ((digits as i64 + rng.one_of(&[0, 0, 0, 1, -1, 2, -2])).max(1) as u32, power);
+        let figures = if self.most == 9 { 8 } else { 11 };
+        let (digits, power) = decimal(wanted, figures);
+        let near = digits.saturating_add_signed(rng.one_of(&[0, 0, 0, 1, -1, 2, -2])).max(1);
+        let near = self.fitted((near, power));
         if in_range(&CHEMICAL[at], near) {
             self.chemicals[i].1[at] = Some(near);
         }
     }
 
+    /// The number, without the last of its digits where it has more than fit: more than eight do without an exponent only.
+    fn fitted(&self, (mut digits, mut power): Printed) -> Printed {
+        loop {
+            let figures = digits.to_string().len();
+            let fits = match power {
+                -10..=0 => figures.max((1 - power) as usize) <= self.most.min(11),
+                _ => figures <= 8,
+            };
+            if fits {
+                return (digits, power);
+            }
+            digits /= 10;
+            power += 1;
+        }
+    }
+
     /// The deck, its numbers spelled at random.
     fn deck(&self, rng: &mut Rng) -> Vec<u8> {
+        self.written(|v| spelled(rng, v, self.most))
+    }
+
+    fn written(&self, mut spell: impl FnMut(Printed) -> String) -> Vec<u8> {
         let mut deck = Vec::new();
         let mut record = |kind: u8, id: u32, values: &[Value]| {
             for (k, six) in values.chunks(6).enumerate() {
@@ -357,7 +465,7 @@ impl Draft {
                     let text = match six.get(f) {
                         None => String::new(),
                         Some(None) => "-".to_string(),
-                        Some(Some((digits, power))) => spelled(rng, *digits, *power),
+                        Some(Some(v)) => spell(*v),
                     };
                     deck.extend(format!("{text:>12}").bytes());
                 }
@@ -380,15 +488,25 @@ fn real(w: Working) -> f64 {
 }
 
 /// About v, in so many figures.
-fn decimal(v: f64, figures: usize) -> (u32, i32) {
+fn decimal(v: f64, figures: usize) -> Printed {
     let text = format!("{v:.*e}", figures - 1);
     let (digits, power) = text.split_once('e').unwrap_or(("1", "0"));
-    let digits: u32 = digits.replace('.', "").parse().unwrap_or(1);
+    let digits: u64 = digits.replace('.', "").parse().unwrap_or(1);
     (digits, power.parse::<i32>().unwrap_or(0) - (figures as i32 - 1))
 }
 
-/// One of the allowed spellings of digits × 10^power; 0 takes any power.
-fn spelled(rng: &mut Rng, mut digits: u32, mut power: i32) -> String {
+/// Without an exponent, every digit and decimal as given; the power is not above 0.
+fn plain((digits, power): Printed) -> String {
+    let decimals = -power as usize;
+    let mut text = format!("{digits:0>0$}", decimals + 1);
+    if decimals > 0 {
+        text.insert(text.len() - decimals, '.');
+    }
+    text
+}
+
+/// One of the allowed spellings, with at most so many digits; 0 takes any power.
+fn spelled(rng: &mut Rng, (mut digits, mut power): Printed, most: usize) -> String {
     while digits != 0 && digits % 10 == 0 {
         digits /= 10;
         power += 1;
@@ -411,7 +529,7 @@ fn spelled(rng: &mut Rng, mut digits: u32, mut power: i32) -> String {
             let before =
                 (decimals + 1).saturating_sub(figures.len() + behind) + if rng.chance(12) { rng.below(4) } else { 0 };
             let n = before + figures.len() + behind;
-            if n > 9 {
+            if n > most {
                 continue;
             }
             let mut text = "0".repeat(before) + &figures + &"0".repeat(behind);
@@ -427,14 +545,15 @@ fn spelled(rng: &mut Rng, mut digits: u32, mut power: i32) -> String {
                 text += &format!("E{sign}{:02}", left.abs());
             }
             if text.len() <= 12 {
-                return text;
+                // Zeros before, up to the field's own left end.
+                return if most == 12 && rng.chance(6) { format!("{text:0>12}") } else { text };
             }
         }
         let tight = format!("{digits}E{}{:02}", if power < 0 { '-' } else { '+' }, power.abs());
         if tight.len() <= 12 {
             return tight;
         }
-        // Nine figures that need an exponent do not fit.
+        // More than eight figures that need an exponent do not fit.
         digits /= 10;
         power += 1;
     }
@@ -448,6 +567,7 @@ fn size(rng: &mut Rng) -> (usize, usize) {
 /// A sound deck; what it works out to may still be too high.
 fn sound(rng: &mut Rng) -> Vec<u8> {
     let (chemicals, receptors) = size(rng);
+    let long = rng.chance(50);
     let mut draft = match rng.below(100) {
         0..=54 => Draft::new(rng, chemicals, receptors, 0),
         55..=66 => Draft::new(rng, chemicals, receptors, 5),
@@ -464,6 +584,10 @@ fn sound(rng: &mut Rng) -> Vec<u8> {
             return draft.deck(rng);
         }
     };
+    if long {
+        let percent = rng.one_of(&[10, 50, 100]);
+        draft.lengthen(rng, percent);
+    }
     let i = rng.below(chemicals);
     match rng.below(100) {
         0..=9 => draft.bring_x_to_64(rng, i),
@@ -530,15 +654,27 @@ const KINDS: &[&[u8; 2]] = &[
 ];
 #[rustfmt::skip]
 const MISSPELLED: &[&str] = &[
-    "--", "+1", "-1", "1E5", "1E+5", "1E+005", "1e+05", ".5", "5.", "1.2.3", "1 2", "1234567890", "0.123456789", "E+01", "1E++1",
-    "1E+0", "1E", "NaN", "0x1", "1,5", "1 ", "- ", "~", "1E 05", "1.E+01", ".E+01", "0000000001", "1E+1.", "1-", ".", "E", "+", "1E-",
-    "1E+0A", "1E+ 1", "12345678901", "123456789012", "1.2345678E+0", "1.23456789E1", "1E+011", "-  ", "-0", "1F+01", "1E*01",
+    "--", "+1", "-1", "1E5", "1E+5", "1E+005", "1e+05", ".5", "5.", "1.2.3", "1 2", "123456789 0", "0.123456789.", "E+01", "1E++1",
+    "1E+0", "1E", "NaN", "0x1", "1,5", "1 ", "- ", "~", "1E 05", "1.E+01", ".E+01", "00000000-1", "1E+1.", "1-", ".", "E", "+", "1E-",
+    "1E+0A", "1E+ 1", "12345678901.", ".12345678901", "1.2345678E+0", "1.23456789E1", "1E+011", "-  ", "-0", "1F+01", "1E*01",
+    "123456789E+0", "1.23456789E+", "00000000001-", "12345.67890 ", "-0.123456789", "12345678901E", "1.0.00000001", "1 000000000",
 ];
 #[rustfmt::skip]
 const OUT_OF_RANGE: &[&str] = &[
     "1E-21", "9.999999E-21", "1.000001E+09", "1000000.01E3", "1E+10", "1E+99", "1E-99", "9.99E-21", "10000001E+02", "99999999E+02",
     "0.1E-20", "0.0000001E-13", "99999999E-28", "1000000001", "1.00000001", "366.000001", "367", "2", "1.0000001", "0", "0.0",
     "0E+99", "0E-99", "000000000", "999999999", "1E+09", "100000000", "0.99999999", "366", "365.999999", "1", "1.00000000",
+    "1.0000000001", "1.000000001", "1.0000000000", "0.9999999999", "0.999999999", "366.00000001", "366.00000000", "365.99999999",
+    "1000000000.1", "1000000000.0", "1000000000", "001000000000", "001000000001", "999999999.5", "999999999.99", "999999999.49",
+    "999999999999", "100000000000", "1234567890", "12345678901", "123456789012", "0.123456789", "1.2345678912", "0000000001",
+    "000000000000", "0.0000000000", "00000000.000", "0.0000000001", "0000000000.1", "00000001E-20", "00000001E-21", "99999999E-28",
+    "1.000000E-20", "00000.1E-20", "10000000E+02", "10000001E+02", "000000367.00",
+];
+#[rustfmt::skip]
+const SHARE_ENDS: &[&str] = &[
+    "1.0000000001", "1.000000001", "1.0000000000", "0.9999999999", "0.9999999998", "0.9999999995", "0.999999999", "0.9999999985",
+    "0.0000000001", "0.0000000009", "0.000000001", "1.0000000099", "1.00000001", "10.00000E-01", "10000001E-07", "9999999.9E-07",
+    "99999999E-08", "00000001E-20", "12345678E-20", "000000000001", "0.1000000001", "0.0999999999", "0.8999999999", "0.9000000001",
 ];
 
 fn damage(rng: &mut Rng, deck: &mut Vec<u8>) {
@@ -549,7 +685,7 @@ fn damage(rng: &mut Rng, deck: &mut Vec<u8>) {
     }
     let line = rng.below(n);
     let from = line * LINE;
-    match rng.below(30) {
+    match rng.below(31) {
         0 => {
             let at = rng.below(deck.len());
             deck[at] = rng.byte();
@@ -641,6 +777,13 @@ fn damage(rng: &mut Rng, deck: &mut Vec<u8>) {
                 deck.extend(END);
             }
         }
+        29 => {
+            // Fv next to an end of its range.
+            let first: Vec<usize> = (0..n).filter(|l| deck[l * LINE..].starts_with(b"C1")).collect();
+            if !first.is_empty() {
+                place_field(deck, rng.one_of(&first), FV, rng.one_of(SHARE_ENDS));
+            }
+        }
         _ => {
             // A field moved to the left within its columns.
             let f = rng.below(6);
@@ -683,12 +826,37 @@ mod tests {
     fn spellings_keep_the_value() {
         let mut rng = Rng::new(7);
         for _ in 0..20_000 {
-            let digits = rng.figures(1, 8) as u32 - 1;
+            let digits = rng.figures(1, 8) as u64 - 1;
             let power = rng.between(-20, 9) as i32;
-            let text = spelled(&mut rng, digits, power);
-            assert!(text.len() <= 12 && text.bytes().filter(u8::is_ascii_digit).count() <= 11, "{text}");
+            let most = rng.one_of(&[9, 12]);
+            let text = spelled(&mut rng, (digits, power), most);
+            let before_e = text.split('E').next().unwrap();
+            assert!(text.len() <= 12 && before_e.bytes().filter(u8::is_ascii_digit).count() <= most, "{text}");
             let want: f64 = format!("{digits}e{power}").parse().unwrap();
             assert_eq!(text.replace('E', "e").parse::<f64>().unwrap(), want, "{text}");
+        }
+        assert_eq!(plain((12_345_678_912, -10)), "1.2345678912");
+        assert_eq!(plain((5, -10)), "0.0000000005");
+        assert_eq!(plain((366, 0)), "366");
+    }
+
+    #[test]
+    fn eleven_digits_in_every_field() {
+        for seed in 0..4 {
+            let deck = String::from_utf8(everyday_eleven(seed, 4, 2)).unwrap();
+            let mut longer_pairs = 0;
+            for line in deck.lines().filter(|l| !l.starts_with("EN")) {
+                for f in 0..6 {
+                    let field = &line[8 + 12 * f..20 + 12 * f];
+                    if field.trim().is_empty() || field.trim() == "-" {
+                        continue;
+                    }
+                    assert!(field.contains('.') && !field.contains([' ', 'E']), "{field}");
+                    let digits: String = field.chars().filter(char::is_ascii_digit).collect();
+                    longer_pairs += usize::from(digits.trim_start_matches('0').trim_end_matches('0').len() > 9);
+                }
+            }
+            assert!(longer_pairs > 60, "{longer_pairs}");
         }
     }
 }

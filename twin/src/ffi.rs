@@ -22,6 +22,7 @@ mod c {
         pub fn zilmorga_product(a: *const i64, b: *const i64, out: *mut i64) -> u32;
         pub fn zilmorga_quotient(a: *const i64, b: *const i64, out: *mut i64) -> u32;
         pub fn zilmorga_one_minus(f: *const i64, out: *mut i64) -> u32;
+        pub fn zilmorga_one_minus_entry(digits: u64, power: i32, out: *mut i64) -> u32;
         pub fn zilmorga_series(x: *const i64, out: *mut i64) -> u32;
         pub fn zilmorga_compare(end: *const i64, bound: *const i64, at_most: *mut u32) -> u32;
         pub fn zilmorga_in_units(p: *const i64, unit: i32, low: *mut u64, high: *mut u64) -> u32;
@@ -75,6 +76,10 @@ pub fn quotient(a: &Raw, b: &Raw, out: &mut Raw) -> u32 {
 
 pub fn one_minus(f: &Raw, out: &mut Raw) -> u32 {
     unsafe { c::zilmorga_one_minus(f.as_ptr(), out.as_mut_ptr()) }
+}
+
+pub fn one_minus_entry(digits: u64, power: i32, out: &mut Raw) -> u32 {
+    unsafe { c::zilmorga_one_minus_entry(digits, power, out.as_mut_ptr()) }
 }
 
 pub fn series(x: &Raw, out: &mut Raw) -> u32 {

@@ -1,5 +1,6 @@
-//! A second reading of document 01 (hazard and cancer sheets from a case deck), in plain Rust, written from that document
-//! alone and kept apart from the library, so that an agreement of the two says something about both.
+//! A second reading of document 01 (hazard and cancer sheets from a case deck) and of request P1 in document 02 (numbers of
+//! more than nine digits), in plain Rust, written from these documents alone and kept apart from the library, so that an
+//! agreement of the two says something about both.
 
 // A remainder stands beside its quotient throughout.
 #![allow(clippy::manual_is_multiple_of)]

@@ -35,15 +35,15 @@ pub struct Site {
 }
 
 impl Site {
-    pub fn new(value: &[Working; 11]) -> Site {
-        let [zs, bd, td, theta, xe, sd, er, ro, r, vg, frsnow] = value.map(Pair::of);
+    pub fn new(value: &[Pair; 11]) -> Site {
+        let [zs, bd, td, theta, xe, sd, er, ro, r, vg, frsnow] = *value;
         Site { zs, bd, td, theta, xe, sd, er, ro, r, vg, frsnow }
     }
 
     /// k × tD.
     pub fn x(&self, chemical: &Chemical) -> Pair {
         let Site { zs, bd, td, theta, xe, sd, er, ro, r, .. } = *self;
-        let [_, _, _, _, _, _, _, _, _, _, kds, ksg, ksv, ..] = chemical.value.map(Pair::of);
+        let [_, _, _, _, _, _, _, _, _, _, kds, ksg, ksv, ..] = chemical.value;
         let u = kds * bd;
         let kse = TENTH * xe * sd * er / (bd * zs) * u / (theta + u);
         let ksr = ro / (theta * zs) / (Pair::ONE + u / theta);
@@ -74,9 +74,12 @@ impl Media {
 
     pub fn new(site: &Site, chemical: &Chemical, x: Pair) -> Media {
         let Site { zs, bd, td, vg, .. } = *site;
-        let [q, hga, hgd, fv, cyv, cyp, dydv, dywv, dydp, dywp, kds, _, _, br, rcf, ..] = chemical.value.map(Pair::of);
-        let air = q * hga * (fv * cyv + fv.one_minus() * cyp) / THOUSAND;
-        let d = HUNDRED * hgd * q / (zs * bd) * (fv * (dydv + dywv) + (dydp + dywp) * fv.one_minus());
+        let [q, hga, hgd, fv, cyv, cyp, dydv, dywv, dydp, dywp, kds, _, _, br, rcf, ..] = chemical.value;
+        // From the printed digits: the pair may have lost what they leave of 1.
+        let (digits, power) = chemical.fv;
+        let one_minus_fv = Pair::one_minus_entry(digits, power);
+        let air = q * hga * (fv * cyv + one_minus_fv * cyp) / THOUSAND;
+        let d = HUNDRED * hgd * q / (zs * bd) * (fv * (dydv + dywv) + (dydp + dywp) * one_minus_fv);
         let soil = d * td * g(x);
         Media { air, soil, above_ground: soil * br, below_ground: soil * rcf * vg / kds }
     }
@@ -100,7 +103,7 @@ pub struct Body {
 
 impl Body {
     pub fn new(receptor: &Receptor) -> Body {
-        let value = receptor.value.map(Pair::of);
+        let value = receptor.value;
         let [bw, ed, atc, _, _, _, _, _, _, _, sab, safb, sah, safh, ..] = value;
         Body { value, adhering: sab * safb + sah * safh, b_hazard: bw * averaging_time(ed), b_cancer: bw * atc }
     }
@@ -117,8 +120,8 @@ pub struct Figures {
 pub fn pathways(site: &Site, chemical: &Chemical, media: &Media, body: &Body) -> [Figures; 6] {
     let [_, ed, _, irinh, etinh, efinh, irsoil, etsoil, efs, efw, _, _, _, _, etderm, irag, fag, irbg, fbg, wp, efp] =
         body.value;
-    let [afinh, aforal, afderm] = [15, 16, 17].map(|i| Pair::of(chemical.value[i]));
-    let [rfdo, rfdi, csfo, csfi] = chemical.reference.map(|w| w.map(Pair::of));
+    let [.., afinh, aforal, afderm] = chemical.value;
+    let [rfdo, rfdi, csfo, csfi] = chemical.reference;
     // The intake factor's dividend, its medium and its reference values.
     let figures = |dividend: Pair, medium: Pair, rfd: Option<Pair>, csf: Option<Pair>| Figures {
         quotient: rfd.map(|rfd| dividend / body.b_hazard * medium / rfd),

@@ -9,8 +9,10 @@ use std::ops::{Add, Div, Mul};
 pub const REACH: i32 = 99_999;
 /// The least significand that is not 0.
 pub const LEAST: u32 = 100_000_000;
-/// The largest significand, and so the most digits an entry may have.
+/// The largest significand.
 pub const MOST: u32 = 999_999_999;
+/// The largest whole number of an entry: twelve digits, as many as a field has columns.
+pub const MOST_PRINTED: u64 = 999_999_999_999;
 /// The largest count in units: nineteen figures.
 pub const MOST_UNITS: u64 = 9_999_999_999_999_999_999;
 
@@ -37,11 +39,7 @@ impl Working {
 
     /// The working number equal to digits × 10^power; digits at most MOST.
     pub const fn entry(digits: u32, power: i32) -> Working {
-        if digits == 0 {
-            return Working::ZERO;
-        }
-        let short = 8 - digits.ilog10();
-        Working { m: digits * TEN[short as usize] as u32, e: power - short as i32 }
+        cut(digits as u64, power).down()
     }
 
     pub const fn at_most(self, bound: Working) -> bool {
@@ -66,23 +64,40 @@ struct Cut {
 
 impl Cut {
     #[inline]
-    fn exact(w: Working) -> Cut {
+    const fn exact(w: Working) -> Cut {
         Cut { m: w.m, e: w.e, off: false }
     }
 
     #[inline]
-    fn down(self) -> Working {
+    const fn down(self) -> Working {
         Working { m: self.m, e: self.e }
     }
 
     #[inline]
-    fn up(self) -> Working {
+    const fn up(self) -> Working {
         let m = self.m + self.off as u32;
         if m > MOST {
             Working { m: LEAST, e: self.e + 1 }
         } else {
             Working { m, e: self.e }
         }
+    }
+}
+
+/// n × 10^e.
+#[inline]
+const fn cut(n: u64, e: i32) -> Cut {
+    if n == 0 {
+        return Cut::exact(Working::ZERO);
+    }
+    let last = n.ilog10();
+    if last <= 8 {
+        let short = 8 - last;
+        Cut { m: (n * TEN[short as usize]) as u32, e: e - short as i32, off: false }
+    } else {
+        let over = last - 8;
+        let ten = TEN[over as usize];
+        Cut { m: (n / ten) as u32, e: e + over as i32, off: n % ten != 0 }
     }
 }
 
@@ -138,30 +153,19 @@ fn div(a: Working, b: Working) -> Cut {
     Cut { m: (n / d) as u32, e: a.e - b.e - scale as i32, off: n % d != 0 }
 }
 
-/// 1 − f, f at most 1.
+/// 1 − digits × 10^power, which is at most 1; digits at most MOST_PRINTED.
 #[inline]
-fn rest(f: Working) -> Cut {
-    if f.m == 0 {
+fn rest(digits: u64, power: i32) -> Cut {
+    if digits == 0 {
         return Cut::exact(Working::ONE);
     }
-    if f.e >= -8 {
-        // f is 1.
-        return Cut::exact(Working::ZERO);
+    if power >= -19 {
+        return cut(TEN[-power as usize] - digits, power);
     }
-    if f.e <= -18 {
-        // f is less than the last place of 0.999999999.
-        return Cut { m: MOST, e: -9, off: true };
-    }
-    let n = TEN[-f.e as usize] - f.m as u64;
-    let last = n.ilog10();
-    if last < 8 {
-        let short = 8 - last;
-        Cut { m: (n * TEN[short as usize]) as u32, e: f.e - short as i32, off: false }
-    } else {
-        let over = last - 8;
-        let ten = TEN[over as usize];
-        Cut { m: (n / ten) as u32, e: f.e + over as i32, off: n % ten != 0 }
-    }
+    // Less than 1E-8 is taken from 1, so the ninth figure counts 1E-9: at 10^-20 that is 10^11 of the digits, further down
+    // more than all of them.
+    let ninth = TEN[if power == -20 { 11 } else { 12 }];
+    Cut { m: MOST + 1 - digits.div_ceil(ninth) as u32, e: -9, off: digits % ninth != 0 }
 }
 
 /// Low end and high end, low ≤ high.
@@ -175,19 +179,29 @@ impl Pair {
     pub const ZERO: Pair = Pair::of(Working::ZERO);
     pub const ONE: Pair = Pair::of(Working::ONE);
 
-    /// An input or a constant: equal ends.
+    /// Equal ends.
     pub const fn of(w: Working) -> Pair {
         Pair { low: w, high: w }
     }
 
-    pub const fn entry(digits: u32, power: i32) -> Pair {
-        Pair::of(Working::entry(digits, power))
+    /// The working numbers next to digits × 10^power, equal where it is one.
+    #[inline]
+    pub const fn entry(digits: u64, power: i32) -> Pair {
+        let c = cut(digits, power);
+        Pair { low: c.down(), high: c.up() }
     }
 
     /// 1 − f; the high end of f is at most 1.
     #[inline]
     pub fn one_minus(self) -> Pair {
-        Pair { low: rest(self.high).down(), high: rest(self.low).up() }
+        Pair { low: rest(self.high.m as u64, self.high.e).down(), high: rest(self.low.m as u64, self.low.e).up() }
+    }
+
+    /// 1 − digits × 10^power, which is at most 1; digits at most MOST_PRINTED.
+    #[inline]
+    pub fn one_minus_entry(digits: u64, power: i32) -> Pair {
+        let c = rest(digits, power);
+        Pair { low: c.down(), high: c.up() }
     }
 
     /// Counted in units of 10^unit, low end down and high end up; `None` above nineteen figures.
@@ -255,7 +269,7 @@ static DIVISORS: [Pair; TERMS] = {
     let mut d = [Pair::ONE; TERMS];
     let mut n = 0;
     while n < TERMS {
-        d[n] = Pair::entry(n as u32 + 1, 0);
+        d[n] = Pair::entry(n as u64 + 1, 0);
         n += 1;
     }
     d
@@ -303,6 +317,60 @@ mod tests {
     }
 
     #[test]
+    fn entries_of_more_than_nine_figures() {
+        // 999999999.5
+        assert_eq!(Pair::entry(9_999_999_995, -1), pair(999_999_999, 0, 100_000_000, 1));
+        assert_eq!(Pair::entry(12_345_678_912, -10), pair(123_456_789, -8, 123_456_790, -8));
+        assert_eq!(Pair::entry(999_999_999_500, -3), pair(999_999_999, 0, 100_000_000, 1));
+        assert_eq!(Pair::entry(999_999_999_000, -3), pair(999_999_999, 0, 999_999_999, 0));
+        assert_eq!(Pair::entry(MOST_PRINTED, 0), pair(999_999_999, 3, 100_000_000, 4));
+        assert_eq!(Pair::entry(100_000_000_000, -11), Pair::ONE);
+        assert_eq!(Pair::entry(0, 99), Pair::ZERO);
+    }
+
+    #[test]
+    fn one_minus_printed_digits() {
+        assert_eq!(Pair::one_minus_entry(99_999_999_999, -11), Pair::entry(1, -11));
+        assert_eq!(Pair::one_minus_entry(MOST_PRINTED, -12), Pair::entry(1, -12));
+        assert_eq!(Pair::one_minus_entry(1, -11), pair(999_999_999, -9, 100_000_000, -8));
+        assert_eq!(Pair::one_minus_entry(10, -1), Pair::ZERO);
+        assert_eq!(Pair::one_minus_entry(0, 99), Pair::ONE);
+        assert_eq!(Pair::one_minus_entry(1, -REACH), pair(999_999_999, -9, 100_000_000, -8));
+        // 1E-9 and 9E-9, all of twelve digits used.
+        assert_eq!(Pair::one_minus_entry(100_000_000_000, -20), Pair::entry(999_999_999, -9));
+        assert_eq!(Pair::one_minus_entry(900_000_000_000, -20), Pair::entry(999_999_991, -9));
+        assert_eq!(Pair::one_minus_entry(900_000_000_001, -20), pair(999_999_990, -9, 999_999_991, -9));
+    }
+
+    /// n × 10^e cut figure by figure, without the table.
+    fn slowly(mut n: u128, mut e: i32) -> Pair {
+        if n == 0 {
+            return Pair::ZERO;
+        }
+        let mut off = false;
+        while n < LEAST as u128 {
+            (n, e) = (10 * n, e - 1);
+        }
+        while n > MOST as u128 {
+            (n, e, off) = (n / 10, e + 1, off | (n % 10 != 0));
+        }
+        let c = Cut { m: n as u32, e, off };
+        Pair { low: c.down(), high: c.up() }
+    }
+
+    #[test]
+    fn entries_and_what_they_leave_of_1() {
+        let rng = &mut crate::rng::Rng::new(1);
+        for _ in 0..200_000 {
+            let digits = rng.figures(1, 12) as u64;
+            assert_eq!(Pair::entry(digits, -7), slowly(digits as u128, -7), "{digits}");
+            let power = -rng.between(digits.ilog10() as i64 + 1, 26) as i32;
+            let left = 10u128.pow(-power as u32) - digits as u128;
+            assert_eq!(Pair::one_minus_entry(digits, power), slowly(left, power), "{digits} {power}");
+        }
+    }
+
+    #[test]
     fn series_at_0() {
         assert_eq!(series(Pair::ZERO), (Pair::ONE, true));
     }
@@ -319,8 +387,11 @@ mod tests {
     fn units() {
         assert_eq!(pair(123_456_789, -10, 123_456_789, -10).in_units(-3), Some((12, 13)));
         assert_eq!(Pair::entry(1, -40).in_units(-12), Some((0, 1)));
-        assert_eq!(Pair::entry(MOST, 10).in_units(0), Some((9_999_999_990_000_000_000, 9_999_999_990_000_000_000)));
-        assert_eq!(Pair::entry(LEAST, 11).in_units(0), None);
+        assert_eq!(
+            Pair::entry(MOST as u64, 10).in_units(0),
+            Some((9_999_999_990_000_000_000, 9_999_999_990_000_000_000))
+        );
+        assert_eq!(Pair::entry(LEAST as u64, 11).in_units(0), None);
         assert_eq!(Pair::ZERO.in_units(-12), Some((0, 0)));
     }
 }

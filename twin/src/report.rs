@@ -238,6 +238,52 @@ mod tests {
         assert_eq!(report(&whole[..whole.len() - 81], &mut out), (21, 11, 0));
     }
 
+    /// A chemical with this Fv.
+    fn vapour(fv: &str) -> String {
+        CHEMICAL.replacen("1 1 1 0 ", &format!("1 1 1 {fv} "), 1)
+    }
+
+    #[test]
+    fn what_eleven_digits_leave_of_1() {
+        let mut out = [0; 7 * LINE];
+        assert_eq!(report(&deck(&[&vapour("0.9999999999")], 1), &mut out), (0, 7 * LINE, 0));
+        // 1E-10 of the example's 500000000000 at both ends.
+        assert_eq!(out[14..54], *b"                  50                  50");
+        assert_eq!(report(&deck(&[&vapour("1.0000000000")], 1), &mut out), (0, 7 * LINE, 0));
+        assert_eq!(out[14..54], *b"                   0                   0");
+        let before = out;
+        assert_eq!(report(&deck(&[&vapour("1.0000000001")], 1), &mut out), (33, 3, 4));
+        assert_eq!(out, before);
+    }
+
+    #[test]
+    fn more_than_nine_digits_are_read() {
+        let with = |bw: &str| {
+            let mut deck = deck(&[CHEMICAL], 1);
+            let at = 6 * crate::deck::LINE + 8;
+            deck[at..at + 12].copy_from_slice(format!("{bw:>12}").as_bytes());
+            deck
+        };
+        let mut out = [0; 7 * LINE];
+        let mut other = [0; 7 * LINE];
+        report(&with("20"), &mut other);
+        for same in ["20.00000000", "20.000000000", "000000000020", "0000000020"] {
+            assert_eq!(report(&with(same), &mut out), (0, 7 * LINE, 0), "{same}");
+            assert_eq!(out, other, "{same}");
+        }
+        // BW is 20 to 20.0000001 and B 36500 to 36500.0002; 18250 / 36500.0002 is 0.499999997 and something.
+        assert_eq!(report(&with("20.000000001"), &mut out), (0, 7 * LINE, 0));
+        assert_eq!(out[14..54], *b"        499999997000        500000000000");
+        assert_eq!(report(&with("1000000000.1"), &mut out), (33, 7, 1));
+        assert_eq!(report(&with("999999999999"), &mut out), (33, 7, 1));
+        assert_eq!(report(&with("999999999.5"), &mut out), (0, 7 * LINE, 0));
+        // What was 31 in a later slot for its digits is 32 like any other number there.
+        let mut deck = with("20");
+        let at = 2 * crate::deck::LINE - 1 - 12;
+        deck[at..at + 12].copy_from_slice(b"  1234567890");
+        assert_eq!(report(&deck, &mut out), (32, 2, 6));
+    }
+
     /// A chemical with this ksg: x is ksg × 30.
     fn decaying(ksg: &str) -> String {
         CHEMICAL.replacen("100 0 0 ", &format!("100 {ksg} 0 "), 1)

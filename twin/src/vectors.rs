@@ -1,7 +1,8 @@
 //! Operands for the pair calls and the totals call, from a seed.
 
 use crate::calls::Raw;
-use crate::pairs::{LEAST, MOST, REACH};
+use crate::deck::Printed;
+use crate::pairs::{LEAST, MOST, MOST_PRINTED, REACH};
 use crate::rng::Rng;
 
 /// One call and what it is given.
@@ -12,14 +13,15 @@ pub enum Call {
     Product(Raw, Raw),
     Quotient(Raw, Raw),
     OneMinus(Raw),
+    OneMinusEntry(u64, i32),
     Series(Raw),
     Compare([i64; 2], [i64; 2]),
     InUnits(Raw, i32),
     Total(Vec<u64>),
 }
 
-pub const NAMES: [&str; 9] =
-    ["entry", "sum", "product", "quotient", "one_minus", "series", "compare", "in_units", "total"];
+pub const NAMES: [&str; 10] =
+    ["entry", "sum", "product", "quotient", "one_minus", "one_minus_entry", "series", "compare", "in_units", "total"];
 
 impl Call {
     pub fn place(&self) -> usize {
@@ -29,10 +31,11 @@ impl Call {
             Call::Product(..) => 2,
             Call::Quotient(..) => 3,
             Call::OneMinus(..) => 4,
-            Call::Series(..) => 5,
-            Call::Compare(..) => 6,
-            Call::InUnits(..) => 7,
-            Call::Total(..) => 8,
+            Call::OneMinusEntry(..) => 5,
+            Call::Series(..) => 6,
+            Call::Compare(..) => 7,
+            Call::InUnits(..) => 8,
+            Call::Total(..) => 9,
         }
     }
 }
@@ -41,15 +44,20 @@ impl Call {
 pub fn call(seed: u64, place: u64) -> Call {
     let rng = &mut Rng::new(Rng::new(!seed).word() ^ Rng::new(place).word());
     match rng.below(100) {
-        0..=9 => {
-            let (some, any) = (rng.figures(1, 10), rng.word() as i64);
-            let digits = rng.one_of(&[0, 1, MOST as i64, MOST as i64 + 1, LEAST as i64, some, some, any]);
-            Call::Entry(digits as u64, power(rng))
+        0..=13 => {
+            // Where an end's exponent leaves its reach: with few digits by a low power, with many by a high one.
+            let (least, most) = (rng.between(0, 12) as i32 - REACH, REACH - rng.between(0, 5) as i32);
+            let any = power(rng);
+            Call::Entry(digits(rng), rng.one_of(&[any, any, least, most]))
         }
-        10..=28 => two(rng, Call::Sum),
-        29..=44 => two(rng, Call::Product),
-        45..=60 => two(rng, Call::Quotient),
-        61..=74 => Call::OneMinus(if rng.chance(75) { share(rng) } else { operand(rng) }),
+        14..=28 => two(rng, Call::Sum),
+        29..=42 => two(rng, Call::Product),
+        43..=56 => two(rng, Call::Quotient),
+        57..=65 => Call::OneMinus(if rng.chance(75) { share(rng) } else { operand(rng) }),
+        66..=74 => {
+            let (digits, power) = printed_share(rng);
+            Call::OneMinusEntry(digits, power)
+        }
         75..=78 => Call::Series(if rng.chance(75) { loss(rng) } else { operand(rng) }),
         79..=86 => {
             let a = end(rng);
@@ -80,6 +88,43 @@ fn two(rng: &mut Rng, call: fn(Raw, Raw) -> Call) -> Call {
         }
     }
     call(a, b)
+}
+
+/// The whole number of an entry: one to thirteen digits, most of them ten to twelve.
+fn digits(rng: &mut Rng) -> u64 {
+    let some = rng.figures(1, 13);
+    let longer = 10i64.pow(rng.between(9, 11) as u32);
+    let long = rng.between(longer, 10 * longer - 1);
+    // Nine figures, and behind them nothing, a little, half or all but a little of the last place.
+    let ten = rng.one_of(&[10, 100, 1000]);
+    let nine = rng.between(LEAST as i64, MOST as i64);
+    let nine = rng.one_of(&[LEAST as i64, MOST as i64, MOST as i64 - 1, nine, nine]);
+    let behind = nine * ten + rng.one_of(&[0, 0, 1, ten / 2 - 1, ten / 2, ten / 2 + 1, ten - 1]);
+    let any = rng.word() as i64;
+    let most = MOST_PRINTED as i64;
+    let edge = rng.one_of(&[0, 1, LEAST as i64, MOST as i64, MOST as i64 + 1, most, most, most + 1, any]);
+    rng.one_of(&[some, some, long, long, long, behind, behind, behind, edge, edge]) as u64
+}
+
+/// A printed number about at most 1.
+fn printed_share(rng: &mut Rng) -> Printed {
+    let places = rng.between(0, 12);
+    let ten = 10i64.pow(places as u32);
+    let little = rng.figures(1, 3);
+    match rng.below(10) {
+        // Next to 1 on either side; 1 itself, also as 10 × 10^-1.
+        0..=2 => {
+            let beside = rng.one_of(&[0, 0, -1, 1, -2, 2, -little, -little, little]);
+            ((ten + beside).max(0) as u64, -places as i32)
+        }
+        // All places filled: from 0.1 up.
+        3 | 4 => (rng.between(ten / 10, ten - 1) as u64, -places as i32),
+        // Further below, past what is left of nine figures.
+        5 | 6 => (digits(rng), rng.between(-26, -12) as i32),
+        7 => (rng.one_of(&[1, 5, 9, 10]) * 10u64.pow(rng.between(8, 11) as u32), rng.between(-22, -9) as i32),
+        8 => (digits(rng), rng.one_of(&[-REACH, -REACH + 1, -REACH - 1, -REACH / 2, -100, -30, -20, -19, -21])),
+        _ => (if rng.chance(30) { 0 } else { digits(rng) }, power(rng)),
+    }
 }
 
 fn power(rng: &mut Rng) -> i32 {

@@ -9,6 +9,8 @@ use std::fmt::Write;
 use std::hint::black_box;
 use std::time::Instant;
 use twin::calls::{self, Answer, Raw};
+use twin::deck::Printed;
+use twin::decks::{everyday, everyday_eleven};
 use twin::rng::Rng;
 use twin::{ffi, LONGEST_REPORT};
 
@@ -45,6 +47,10 @@ mod own {
     #[inline(never)]
     pub fn one_minus(f: &Raw, out: &mut Raw) -> u32 {
         put(calls::one_minus(f), out)
+    }
+    #[inline(never)]
+    pub fn one_minus_entry(digits: u64, power: i32, out: &mut Raw) -> u32 {
+        put(calls::one_minus_entry(digits, power), out)
     }
     #[inline(never)]
     pub fn series(x: &Raw, out: &mut Raw) -> u32 {
@@ -162,6 +168,7 @@ fn alike<T: PartialEq + std::fmt::Debug>(name: &str, library: T, twin: T) {
 
 type OnTwo = fn(&Raw, &Raw, &mut Raw) -> u32;
 type OnOne = fn(&Raw, &mut Raw) -> u32;
+type OnPrinted = fn(u64, i32, &mut Raw) -> u32;
 
 fn on_two<'a>(name: &str, a: &'a [Raw], b: &'a [Raw], library: OnTwo, twin: OnTwo) -> Item<'a> {
     for (a, b) in a.iter().zip(b) {
@@ -197,13 +204,12 @@ fn on_one<'a>(name: &str, a: &'a [Raw], library: OnOne, twin: OnOne) -> Item<'a>
     Item { name: name.to_string(), calls: a.len(), library: Box::new(pass(library)), twin: Box::new(pass(twin)) }
 }
 
-fn entries<'a>(inputs: &'a [(u64, i32)]) -> Item<'a> {
-    type Call = fn(u64, i32, &mut Raw) -> u32;
+fn on_printed<'a>(name: &str, inputs: &'a [Printed], library: OnPrinted, twin: OnPrinted) -> Item<'a> {
     for &(digits, power) in inputs {
         let (mut l, mut t) = ([0; 4], [0; 4]);
-        alike("entry", (ffi::entry(digits, power, &mut l), l), (own::entry(digits, power, &mut t), t));
+        alike(name, (library(digits, power, &mut l), l), (twin(digits, power, &mut t), t));
     }
-    let pass = move |call: Call| {
+    let pass = move |call: OnPrinted| {
         let mut out = [0; 4];
         move || {
             for &(digits, power) in inputs {
@@ -212,12 +218,7 @@ fn entries<'a>(inputs: &'a [(u64, i32)]) -> Item<'a> {
             }
         }
     };
-    Item {
-        name: "entry".to_string(),
-        calls: inputs.len(),
-        library: Box::new(pass(ffi::entry)),
-        twin: Box::new(pass(own::entry)),
-    }
+    Item { name: name.to_string(), calls: inputs.len(), library: Box::new(pass(library)), twin: Box::new(pass(twin)) }
 }
 
 fn comparisons<'a>(inputs: &'a [([i64; 2], [i64; 2])]) -> Item<'a> {
@@ -319,27 +320,41 @@ fn main() {
     let shares = pairs(rng, -14, -9);
     let quotients = pairs(rng, -18, -6);
     let xs: Vec<Raw> = pairs(rng, -9, -8).into_iter().step_by(16).collect();
-    let printed: Vec<(u64, i32)> =
-        (0..INPUTS).map(|_| (rng.figures(1, 9) as u64, rng.between(-20, 3) as i32)).collect();
+    let printed: Vec<Printed> = (0..INPUTS).map(|_| (rng.figures(1, 9) as u64, rng.between(-20, 3) as i32)).collect();
     let ends: Vec<_> =
         pairs(rng, -9, -7).iter().zip(pairs(rng, -9, -7)).map(|(a, b)| ([a[0], a[1]], [b[2], b[3]])).collect();
-    let decks = SIZES.map(|(c, r)| (0..4).map(|seed| twin::decks::everyday(seed, c, r)).collect::<Vec<_>>());
+    let twelve_digits: Vec<Printed> = (0..INPUTS)
+        .map(|_| (rng.between(100_000_000_000, 999_999_999_999) as u64, rng.between(-20, 0) as i32))
+        .collect();
+    let printed_shares: Vec<Printed> = (0..INPUTS)
+        .map(|_| {
+            let decimals = rng.between(10, 12);
+            (rng.between(0, 10i64.pow(decimals as u32) - 1) as u64, -decimals as i32)
+        })
+        .collect();
+    let four = |make: fn(u64, usize, usize) -> Vec<u8>, (c, r)| (0..4).map(|seed| make(seed, c, r)).collect();
+    let mut decks: Vec<(String, Vec<Vec<u8>>)> = Vec::new();
+    decks.extend(SIZES.map(|(c, r)| (format!("{c} × {r}"), four(everyday, (c, r)))));
+    decks.extend(SIZES.map(|(c, r)| (format!("{c} × {r} (11 digits)"), four(everyday_eleven, (c, r)))));
 
     let mut items = vec![
-        entries(&printed),
+        on_printed("entry", &printed, ffi::entry, own::entry),
+        on_printed("entry, 12 digits", &twelve_digits, ffi::entry, own::entry),
         on_two("sum", &a, &b, ffi::sum, own::sum),
         on_two("product", &a, &b, ffi::product, own::product),
         on_two("quotient", &a, &b, ffi::quotient, own::quotient),
         on_one("1 − f", &shares, ffi::one_minus, own::one_minus),
+        on_printed("1 − printed number", &printed_shares, ffi::one_minus_entry, own::one_minus_entry),
         comparisons(&ends),
         counts(&quotients, -12),
         on_one("series, 256 terms", &xs, ffi::series, own::series),
     ];
-    for ((c, r), decks) in SIZES.iter().zip(&decks) {
-        items.extend(deck_items(&format!("{c} × {r}"), decks));
+    for (size, decks) in &decks {
+        items.extend(deck_items(size, decks));
     }
     let timed = run(items, rounds);
-    let text = markdown(&timed, rounds);
+    let sizes: Vec<&str> = decks.iter().map(|(size, _)| size.as_str()).collect();
+    let text = markdown(&timed, &sizes, rounds);
     print!("{text}");
     let page = std::fs::read_to_string(page_path).unwrap_or_default();
     std::fs::write(page_path, with_table(&page, &text)).unwrap_or_else(|e| panic!("{page_path}: {e}"));
@@ -372,31 +387,35 @@ fn nanoseconds(ns: f64) -> String {
     text
 }
 
-fn markdown(timed: &[Timed], rounds: usize) -> String {
+/// The rows of decks stand last, reading and report of each size.
+fn markdown(timed: &[Timed], sizes: &[&str], rounds: usize) -> String {
     let mut text = String::new();
     let _ = writeln!(
         text,
         "Nanoseconds of one call, medians of {rounds} rounds in which library and twin took turns on the same inputs;"
     );
-    let _ =
-        writeln!(text, "decks are chemicals × receptors. Ratio: library by twin, median of the rounds' own ratios.\n");
+    let _ = writeln!(
+        text,
+        "decks are chemicals × receptors, those of 11 digits the same with each number moved by less than its last place."
+    );
+    let _ = writeln!(text, "Ratio: library by twin, median of the rounds' own ratios.\n");
     let _ = writeln!(text, "| Call | Library, ns | Twin, ns | Library / twin |\n|---|---:|---:|---:|");
     for t in timed {
         let _ =
             writeln!(text, "| {} | {} | {} | {:.2} |", t.name, nanoseconds(t.library), nanoseconds(t.twin), t.ratio);
     }
     let _ = writeln!(text, "\n| Reading as a share of the whole report | Library | Twin |\n|---|---:|---:|");
-    let decks = &timed[timed.len() - 2 * SIZES.len()..];
-    for ((c, r), two) in SIZES.iter().zip(decks.chunks(2)) {
+    let decks = &timed[timed.len() - 2 * sizes.len()..];
+    for (size, two) in sizes.iter().zip(decks.chunks(2)) {
         let share = |pick: fn(&Timed) -> f64| 100.0 * pick(&two[0]) / pick(&two[1]);
-        let _ = writeln!(text, "| {c} × {r} | {:.1} % | {:.1} % |", share(|t| t.library), share(|t| t.twin));
+        let _ = writeln!(text, "| {size} | {:.1} % | {:.1} % |", share(|t| t.library), share(|t| t.twin));
     }
     text
 }
 
 /// Two bars for each call, on a log scale.
 fn svg(timed: &[Timed], rounds: usize) -> String {
-    const LEFT: f64 = 170.0;
+    const LEFT: f64 = 210.0;
     const RIGHT: f64 = 780.0;
     const TOP: f64 = 92.0;
     const GROUP: f64 = 38.0;

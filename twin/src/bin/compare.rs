@@ -85,6 +85,7 @@ fn library(call: &Call) -> Left {
         Call::Product(a, b) => ffi::product(a, b, &mut out),
         Call::Quotient(a, b) => ffi::quotient(a, b, &mut out),
         Call::OneMinus(f) => ffi::one_minus(f, &mut out),
+        Call::OneMinusEntry(digits, power) => ffi::one_minus_entry(*digits, *power, &mut out),
         Call::Series(x) => ffi::series(x, &mut out),
         Call::Compare(end, bound) => {
             let mut at_most = BEFORE[0] as u32;
@@ -120,6 +121,7 @@ fn twin_left(call: &Call) -> Left {
         Call::Product(a, b) => pair(calls::product(a, b)),
         Call::Quotient(a, b) => pair(calls::quotient(a, b)),
         Call::OneMinus(f) => pair(calls::one_minus(f)),
+        Call::OneMinusEntry(digits, power) => pair(calls::one_minus_entry(*digits, *power)),
         Call::Series(x) => pair(calls::series(x)),
         Call::Compare(end, bound) => {
             let answer = calls::compare(end, bound);
