@@ -1,7 +1,15 @@
 /* Reads a deck from standard input and writes its report to standard output, or the number, line and field of what stops it.
- * Then works 2 / 3 as a pair, on standard error. */
+ * Then works 2 / 3 and 1 - 0.99999999999 as pairs, on standard error. */
 #include <stdio.h>
 #include "zilmorga.h"
+
+static void say(const char *what, uint32_t refused, const int64_t p[4])
+{
+    if (refused == 0)
+        fprintf(stderr, "%s is from %lldE%lld to %lldE%lld\n", what, (long long)p[0], (long long)p[1], (long long)p[2], (long long)p[3]);
+    else
+        fprintf(stderr, "%s is refused by %u\n", what, (unsigned)refused);
+}
 
 int main(void)
 {
@@ -22,9 +30,8 @@ int main(void)
         refused = zilmorga_entry(3, 0, three);
     if (refused == 0)
         refused = zilmorga_quotient(two, three, p);
-    if (refused == 0)
-        fprintf(stderr, "2 / 3 is from %lldE%lld to %lldE%lld\n", (long long)p[0], (long long)p[1], (long long)p[2], (long long)p[3]);
-    else
-        fprintf(stderr, "2 / 3 is refused by %u\n", (unsigned)refused);
+    say("2 / 3", refused, p);
+    refused = zilmorga_one_minus_entry(99999999999, -11, p);
+    say("1 - 0.99999999999", refused, p);
     return number != 0;
 }

@@ -1,5 +1,5 @@
 //! Reads a deck from standard input and writes its report to standard output, or the number, line and field of what stops it.
-//! Then works 2 / 3 as a pair, on standard error.
+//! Then works 2 / 3 and 1 − 0.99999999999 as pairs, on standard error.
 use std::io::{Read, Write};
 
 /// The declarations of include/zilmorga.h that are used here. Nothing checks them against the library.
@@ -7,6 +7,7 @@ mod c {
     unsafe extern "C" {
         pub fn zilmorga_report(deck: *const u8, n: usize, report: *mut u8, room: usize, line: *mut usize, field: *mut usize) -> u32;
         pub fn zilmorga_entry(digits: u64, power: i32, out: *mut [i64; 4]) -> u32;
+        pub fn zilmorga_one_minus_entry(digits: u64, power: i32, out: *mut [i64; 4]) -> u32;
         pub fn zilmorga_quotient(a: *const [i64; 4], b: *const [i64; 4], out: *mut [i64; 4]) -> u32;
     }
 }
@@ -39,8 +40,19 @@ fn entry(digits: u64, power: i32) -> Result<[i64; 4], u32> {
     answer(|out| unsafe { c::zilmorga_entry(digits, power, out) })
 }
 
+fn one_minus_entry(digits: u64, power: i32) -> Result<[i64; 4], u32> {
+    answer(|out| unsafe { c::zilmorga_one_minus_entry(digits, power, out) })
+}
+
 fn quotient(a: &[i64; 4], b: &[i64; 4]) -> Result<[i64; 4], u32> {
     answer(|out| unsafe { c::zilmorga_quotient(a, b, out) })
+}
+
+fn say(what: &str, told: Result<[i64; 4], u32>) {
+    match told {
+        Ok([low, low_power, high, high_power]) => eprintln!("{what} is from {low}E{low_power} to {high}E{high_power}"),
+        Err(number) => eprintln!("{what} is refused by {number}"),
+    }
 }
 
 fn main() -> std::io::Result<()> {
@@ -51,9 +63,7 @@ fn main() -> std::io::Result<()> {
         Ok(text) => std::io::stdout().write_all(text)?,
         Err((number, line, field)) => println!("{number:6}{line:6}{field:6}"),
     }
-    match entry(2, 0).and_then(|two| quotient(&two, &entry(3, 0)?)) {
-        Ok([low, low_power, high, high_power]) => eprintln!("2 / 3 is from {low}E{low_power} to {high}E{high_power}"),
-        Err(number) => eprintln!("2 / 3 is refused by {number}"),
-    }
+    say("2 / 3", entry(2, 0).and_then(|two| quotient(&two, &entry(3, 0)?)));
+    say("1 - 0.99999999999", one_minus_entry(99_999_999_999, -11));
     std::process::exit(told.is_err() as i32)
 }

@@ -11,7 +11,7 @@ use lib.IntN.{ℤ, pos, negsuc, _+ℤ_, _-ℤ_, subℕ}
 use lib.Signed.{mag}
 use borrow.Author.Tests.{ltb-true, ltb-false}
 use Rattle.pair.specs.declared.Number.{Number}
-use Rattle.pair.specs.Fraction.{_≤ᶠ_, plus, times, over, rest}
+use Rattle.pair.specs.Fraction.{plus, times, over, rest}
 use Rattle.pair.specs.Number as N
 use Rattle.pair.specs.Number.{lesser, rise, isNumber, isZero, zeroExponent, nineFigures, inReach, unitsAt, lower, depth, place, value, one}
 use Rattle.pair.specs.Rounding.{extra, divided, excess, carried, rounded, unitsEnd}

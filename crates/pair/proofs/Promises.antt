@@ -11,7 +11,7 @@ use native.Mathlib.Omega.{arith}
 use lib.Dec.{leb, ltb, lit<, lit≤}
 use lib.IntN.{ℤ, pos, negsuc, _-ℤ_}
 use lib.Signed.{mag}
-use borrow.Author.Tests.{leb-true, le-leb, lt-ltb}
+use borrow.Author.Tests.{le-leb, lt-ltb}
 use Rattle.pair.specs.declared.Number.{Number}
 use Rattle.pair.specs.declared.Pair.{Pair}
 use Rattle.pair.specs.declared.Units.{Units}
@@ -29,7 +29,7 @@ use Rattle.pair.proofs.Fractions.{rest-falls-exactly}
 pub use Rattle.pair.proofs.Fractions.{_<ᶠ_, _=ᶠ_, below-itself, through, exactly-rises, exactly-proper}
 unfoldable pub use Rattle.pair.proofs.Fractions.{Usable, Along}
 use Rattle.pair.proofs.Numbers.{both, reach-mag, number-reach}
-use Rattle.pair.proofs.Ordered.{both-from, number, number-from, zero-number, Working, working, not-at-most, size-small}
+use Rattle.pair.proofs.Ordered.{both-from, number, number-from, zero-number, working, not-at-most, size-small}
 pub use Rattle.pair.proofs.Ordered.{at-most, value-proper, size-reach}
 use Rattle.pair.proofs.Nearest.{rounded-nearest, rounded-reach, rounded-narrow, rounded-itself}
 use Rattle.pair.proofs.Rests.{share-from}

@@ -1,18 +1,18 @@
 -- 1 − m × 10^e, for m of at most twelve digits and m × 10^e at most 1. Assumes nothing.
-use mathlib.Core.Path.{_≡_, refl, sym, _∙_, ap, ap₂}
+use mathlib.Core.Path.{_≡_, refl, sym, _∙_, ap}
 use mathlib.Core.Bool.{Bool, true, false, not}
 use Prim.Native.Nat.{ℕ, zero, _+_, _-_, _*_, _^_, _≤_, _<_}
-use native.Mathlib.Nat.{mul-le-mul-right, mul-lt-mul-of-pos-right, lt-of-mul-lt-mul-right, lt-of-lt-of-le, add-zero, one-mul, zero-mul}
+use native.Mathlib.Nat.{mul-le-mul-right, mul-lt-mul-of-pos-right, zero-mul}
 use native.Mathlib.Omega.{arith}
-use lib.Dec.{leb, lit<, lit≤}
+use lib.Dec.{leb, lit<}
 use lib.IntN.{ℤ, pos, negsuc}
 use lib.Signed.{mag}
-use borrow.Author.Tests.{leb-true, le-leb, lt-leb}
+use borrow.Author.Tests.{le-leb, lt-leb}
 use Rattle.pair.specs.Number as specs
 use Rattle.pair.specs.Number.{depth, place, lesser, rise, unitsAt, atMost, printed, one, value}
 use Rattle.pair.specs.Fraction.{rest}
 use Rattle.pair.specs.Rounding.{extra, divided, excessFrom, excess, carried, rounded, restEnd}
-use Rattle.pair.proofs.Alignment.{Small, rise-of, lesser-first, lesser-second, units-own, units-none, order-scaled}
+use Rattle.pair.proofs.Alignment.{Small, rise-of, lesser-first, lesser-second, units-own, order-scaled}
 use Rattle.pair.proofs.Dividing.{divided-less}
 use Rattle.pair.proofs.ExactEnds.{one-value, one-number, place-whole, whole-small, rest-ratio}
 use Rattle.pair.proofs.Exponents.{same-test}
@@ -24,6 +24,10 @@ use Rattle.pair.proofs.Sums.{rounded-twice}
 one-small : Small (one .exponent)
 unfolding one
 one-small = record { small = lit< tt }
+
+-- how many places 10^e lies below 1
+pub places : (e : ℤ) (d : ℕ) → Small e → place e ≤ place (pos 0) → d ≡ rise e (pos 0) → d + place e ≡ depth
+places e d s h r = omega (arith, place-whole, rise-of s whole-small h)
 
 -- m × 10^e against 1, counted in the least unit
 share-scaled : (m : ℕ) (e : ℤ) → Small e → atMost (printed m e) one ≡ leb (m * 10 ^ place e) (10 ^ depth)

@@ -30,7 +30,7 @@ use Rattle.deck.specs.declared.Case.{Case}
 use Rattle.deck.specs.declared.Status.{Status}
 use Rattle.deck.specs.declared.Status.the-variants.{Read}
 use Rattle.deck.specs.Conditions.{Condition, at, first}
-use Rattle.deck.specs.Cases.{chemicalAt, receptorAt}
+use Rattle.deck.specs.Cases.{chemicalAt}
 use Rattle.deck.specs.Ranged.{Ranged}
 use Rattle.totals.specs.declared.Columns.{Columns}
 use Rattle.totals.specs.declared.Columns.the-variants as Cols

@@ -1,27 +1,24 @@
 -- 0 is; with an exponent above 0 nothing else is; else the digits are held against the places. Assumes nothing.
 use mathlib.Core.Path.{_≡_, sym, _∙_, ap}
 use mathlib.Core.Bool.{true, false}
-use Prim.Native.Nat.{ℕ, _+_, _^_, _≤_}
+use Prim.Native.Nat.{_^_}
 use native.Mathlib.Nat.{pos-of-ne-zero}
 use native.Mathlib.Omega.{arith}
 use lib.Dec.{leb}
-use lib.IntN.{ℤ, pos}
+use lib.IntN.{pos}
 use lib.Signed.{ltZ}
 use mir.Facts.{toZ-ofZ}
 use borrow.Author.Needs.{needs}
 use borrow.Author.Tests.{le-leb}
-use Rattle.pair.specs.Number.{depth, place, rise, printed, one}
-use Rattle.pair.proofs.Alignment.{Small, less-place, not-less-place, rise-of, order-zero-left}
+use Rattle.pair.specs.Number.{rise, printed, one}
+use Rattle.pair.proofs.Alignment.{Small, less-place, not-less-place, order-zero-left}
 use Rattle.pair.proofs.ExactEnds.{place-whole, whole-small}
 use Rattle.pair.proofs.Numbers.{reach-mag, fits-minus}
 use Rattle.pair.proofs.Ordered.{size-small}
 use Rattle.pair.proofs.Powers.{ten-rises}
-use Rattle.pair.proofs.Rests.{share-above, share-is}
+use Rattle.pair.proofs.Rests.{places, share-above, share-is}
 use Rattle.pair.proofs.ends.is_share.Statement.{statement}
 use Rattle.pair.proofs.ends.is_share.Tie as tie
-
-places : (e : ℤ) (d : ℕ) → Small e → ltZ (pos 0) e ≡ false → d ≡ rise e (pos 0) → d + place e ≡ depth
-places e d s t r = omega (arith, place-whole, rise-of s whole-small (not-less-place whole-small s t))
 
 returns : tie.Need-returns
 returns c = let a = c .before in sym (order-zero-left (printed (a .args .m) (a .args .e)) one (c .if1 .taken))
@@ -53,7 +50,7 @@ returns-3 c =
     let s : Small e = size-small (reach-mag e (a .pre .1)) in
     let t : ltZ (pos 0) e ≡ false = rw (toZ-ofZ (a .fits .e)) at (sym (b .before .less .ensures) ∙ b .if2 .left) in
     let r : d ≡ rise e (pos 0) = rw (toZ-ofZ (a .fits .e)) at (c .before .above .ensures) in
-    sym (share-is (a .args .m) d e s (places e d s t r) ∙ le-leb (a .args .m) (10 ^ d) (omega (arith, a .pre .0, ten-rises {i = 12} {j = d} (omega arith))))
+    sym (share-is (a .args .m) d e s (places e d s (not-less-place whole-small s t) r) ∙ le-leb (a .args .m) (10 ^ d) (omega (arith, a .pre .0, ten-rises {i = 12} {j = d} (omega arith))))
 
 power-requires : tie.Need-power-requires
 power-requires c κs = search needs
@@ -67,7 +64,7 @@ returns-4 c =
     let s : Small e = size-small (reach-mag e (a .pre .1)) in
     let t : ltZ (pos 0) e ≡ false = rw (toZ-ofZ (a .fits .e)) at (sym (b .before .less .ensures) ∙ b .if2 .left) in
     let r : d ≡ rise e (pos 0) = rw (toZ-ofZ (a .fits .e)) at (c .before .before .above .ensures) in
-    ap (leb (a .args .m)) (c .power .ensures) ∙ sym (share-is (a .args .m) d e s (places e d s t r))
+    ap (leb (a .args .m)) (c .power .ensures) ∙ sym (share-is (a .args .m) d e s (places e d s (not-less-place whole-small s t) r))
 
 pub is-share-spec : {M : Type 1} → statement M
 is-share-spec =

@@ -1,7 +1,7 @@
 -- 0 and 1 by themselves, then by how many places m has. Assumes nothing.
-use mathlib.Core.Path.{_≡_, sym, _∙_, ap, subst}
+use mathlib.Core.Path.{_≡_, sym, _∙_, subst}
 use mathlib.Core.Bool.{Bool, true, false, not}
-use Prim.Native.Nat.{ℕ, _+_, _-_, _*_, _^_, _≤_, _<_}
+use Prim.Native.Nat.{ℕ, _+_, _-_, _^_, _≤_, _<_}
 use native.Mathlib.Nat.{pos-of-ne-zero}
 use native.Mathlib.Omega.{arith}
 use lib.Dec.{lit<}
@@ -12,24 +12,23 @@ use borrow.Author.Needs.{needs}
 use borrow.Author.Tests.{leb-true}
 use Rattle.pair.specs.Number.{depth, place, rise, atMost, printed, one}
 use Rattle.pair.specs.Rounding.{divided}
-use Rattle.pair.proofs.Alignment.{Small, less-place, less-turned, not-less-place, rise-of}
+use Rattle.pair.proofs.Alignment.{Small, less-place, less-turned, not-less-place}
 use Rattle.pair.proofs.Dividing.{divided-most}
 use Rattle.pair.proofs.ExactEnds.{place-whole, whole-small}
 use Rattle.pair.proofs.Numbers.{reach-mag, fits-minus}
 use Rattle.pair.proofs.Ordered.{size-small}
 use Rattle.pair.proofs.Powers.{ten-above, ten-rises}
 use Rattle.pair.proofs.Providing.{failed, passed}
-use Rattle.pair.proofs.Rests.{share-is, rest-zero, rest-one, rest-below, rest-rounded}
+use Rattle.pair.proofs.Rests.{places, share-is, rest-zero, rest-one, rest-below, rest-rounded}
 use Rattle.pair.proofs.ends.rest.Statement.{statement}
 use Rattle.pair.proofs.ends.rest.Tie as tie
 
 -- m × 10^e with d places
-module _ (m d : ℕ) (e : ℤ) (s : Small e) (t : ltZ e (pos 0) ≡ true) (r : d ≡ rise e (pos 0)) where
-  places : d + place e ≡ depth
-  places = let l : place e < place (pos 0) = less-place s whole-small t in omega (arith, place-whole, rise-of s whole-small (omega arith))
+below-one : (e : ℤ) → Small e → ltZ e (pos 0) ≡ true → place e ≤ place (pos 0)
+below-one e s t = let l : place e < place (pos 0) = less-place s whole-small t in omega arith
 
-  digits : atMost (printed m e) one ≡ true → m ≤ 10 ^ d
-  digits h = leb-true m (10 ^ d) (sym (share-is m d e s places) ∙ h)
+digits : (m d : ℕ) (e : ℤ) → Small e → d + place e ≡ depth → atMost (printed m e) one ≡ true → m ≤ 10 ^ d
+digits m d e s p h = leb-true m (10 ^ d) (sym (share-is m d e s p) ∙ h)
 
 -- what is taken away past eighteen places
 taken : (up : Bool) (m d : ℕ) → 18 < d → m ≤ 999999999999 → divided up m (10 ^ (d - 9)) ≤ 100
@@ -96,7 +95,7 @@ returns-3 c =
     let t : ltZ e (pos 0) ≡ true = rw (toZ-ofZ (a .fits .e)) at (passed (b .before .less .ensures) (b .if2 .left)) in
     let r : d ≡ rise e (pos 0) = rw (toZ-ofZ (a .fits .e)) at (c .before .before .before .above .ensures) in
     rw (c .ten .ensures, c .before .lowered .ensures)
-    (rest-rounded (a .args .up) (a .args .m) d e s (places (a .args .m) d e s t r) (c .before .before .if3 .taken) (a .pre .0))
+    (rest-rounded (a .args .up) (a .args .m) d e s (places e d s (below-one e s t) r) (c .before .before .if3 .taken) (a .pre .0))
 
 power-requires : tie.Need-power-requires
 power-requires c κs = search needs
@@ -110,7 +109,7 @@ sub-figured c =
     let s : Small e = size-small (reach-mag e (a .pre .1 .0)) in
     let t : ltZ e (pos 0) ≡ true = rw (toZ-ofZ (a .fits .e)) at (passed (b .before .less .ensures) (b .if2 .left)) in
     let r : d ≡ rise e (pos 0) = rw (toZ-ofZ (a .fits .e)) at (c .before .before .above .ensures) in
-    omega (arith, c .power .ensures, digits (a .args .m) d e s t r (a .pre .1 .1))
+    omega (arith, c .power .ensures, digits (a .args .m) d e s (places e d s (below-one e s t) r) (a .pre .1 .1))
 
 figured-requires : tie.Need-figured-requires
 figured-requires c κs =
@@ -128,7 +127,7 @@ returns-4 c =
     let s : Small e = size-small (reach-mag e (a .pre .1 .0)) in
     let t : ltZ e (pos 0) ≡ true = rw (toZ-ofZ (a .fits .e)) at (passed (b .before .less .ensures) (b .if2 .left)) in
     let r : d ≡ rise e (pos 0) = rw (toZ-ofZ (a .fits .e)) at (c .before .before .before .above .ensures) in
-    rw (c .figured .ensures, c .before .power .ensures, toZ-ofZ (a .fits .e)) (rest-below (a .args .up) (a .args .m) d e s (places (a .args .m) d e s t r))
+    rw (c .figured .ensures, c .before .power .ensures, toZ-ofZ (a .fits .e)) (rest-below (a .args .up) (a .args .m) d e s (places e d s (below-one e s t) r))
 
 pub rest-spec : {M : Type 1} → statement M
 rest-spec =
