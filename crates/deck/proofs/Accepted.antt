@@ -271,10 +271,10 @@ module _ (rule : Rule) (digits : ℕ) (power : ℤ) where
 pub record Given (rule : Rule) (v : Value) : Type 0 where
   pub digits : ℕ
   pub power : ℤ
-  pub printed : v ≡ Printed digits power
+  pub printed : v ≡ Printed power digits
   pub ranged : inRange rule digits power ≡ true
   pub spelled : Spelled digits power
 
 pub needed : (rule : Rule) (v : Value) → Fits rule v → rule .used ≡ true → rule .dash ≡ false → Given rule v
 needed rule Absent f u d = absurd (true≢false (sym f ∙ ap (λ (t : Bool). t || not (rule .used)) d ∙ ap not u))
-needed rule (Printed digits power) f u d = record { digits = digits; power = power; printed = refl; ranged = f .1; spelled = f .2 }
+needed rule (Printed power digits) f u d = record { digits = digits; power = power; printed = refl; ranged = f .1; spelled = f .2 }

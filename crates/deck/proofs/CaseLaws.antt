@@ -64,9 +64,9 @@ module _ (deck : List ℕ) (n : ℕ) where
 pub value-none : (w v : Word) → w ≡ v → Absent ≡ valueOf v → Absent ≡ valueOf w
 value-none w v e h = h ∙ sym (ap valueOf e)
 
-pub value-number : (w : Word) (d : ℕ) (p q : ℤ) → w ≡ Number d p → q ≡ p → Printed d q ≡ valueOf w
+pub value-number : (w : Word) (d : ℕ) (p q : ℤ) → w ≡ Number d p → q ≡ p → Printed q d ≡ valueOf w
 unfolding valueOf
-value-number w d p q e h = ap (Printed d) h ∙ sym (ap valueOf e)
+value-number w d p q e h = ap (λ (z : ℤ). Printed z d) h ∙ sym (ap valueOf e)
 
 pub slot-is : (deck part : List ℕ) (n k : ℕ) (w : Word) (v : Value) → v ≡ valueOf w → w ≡ wordOf part
     → part ≡ fieldOf deck (n + k / 6) (k % 6 + 1) → _≡_ {A = Filled} (record { value = v }) (slotSpelled deck n k)

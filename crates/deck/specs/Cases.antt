@@ -34,7 +34,7 @@ tabulate (suc n) f = tabulate n f ++ (f n ∷ [])
 unfoldable pub valueOf : Word → Value
 valueOf Blank = Absent
 valueOf Dash = Absent
-valueOf (Number digits power) = Printed digits power
+valueOf (Number digits power) = Printed power digits
 valueOf Other = Absent
 
 -- a later slot of the site, or of a place that has no record

@@ -22,7 +22,7 @@ pub record Spelled (digits : ℕ) (power : ℤ) : Type 0 where
 -- what a slot's rule asks of its value; no value is right where - is allowed, and in a later slot
 abbrev pub Fits : Rule → Value → Type 0
 Fits rule Absent = (rule .dash || not (rule .used)) ≡ true
-Fits rule (Printed digits power) = (rule .used ≡ true) × (inRange rule digits power ≡ true) × Spelled digits power
+Fits rule (Printed power digits) = (rule .used ≡ true) × (inRange rule digits power ≡ true) × Spelled digits power
 
 -- for each receptor j and chemical i, from 0
 pub record Ranged (case : Case) : Type 0 where

@@ -55,10 +55,11 @@ pub enum Word {
     Other,
 }
 
-// A slot's value as printed: digits × 10 ^ power. Absent where a lone - stands, and in slots that no record has.
+// A slot's value as printed: digits × 10 ^ power. Absent where a lone - stands, and in slots that no record has. The power stands first, so
+// that a value takes 16 bytes and not 24.
 pub enum Value {
     Absent,
-    Printed { digits: u64, power: i32 },
+    Printed { power: i32, digits: u64 },
 }
 
 // What a slot was filled with.

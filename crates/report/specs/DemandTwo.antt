@@ -51,10 +51,10 @@ pub record Printed (case : Case) (report : List ℕ) : Type 0 where
   pub total-fits : (j : ℕ) → j < case .receptors .count → FitsColumns (totalRow case j)
   -- each slot's pair is the entry of the value that is printed there
   pub entered : (j i : ℕ) → j < case .receptors .count → i < case .chemicals .count → (s : Slot) (digits : ℕ) (power : ℤ)
-      → printed case j i s ≡ Values.Printed digits power → entry digits power ≡ is (pairsAt case j i .value s)
+      → printed case j i s ≡ Values.Printed power digits → entry digits power ≡ is (pairsAt case j i .value s)
   -- 1 less a slot that is at most 1, as 1 − Fv, is taken from the digits that are printed there
   pub rested : (j i : ℕ) → j < case .receptors .count → i < case .chemicals .count → (s : Slot) (digits : ℕ) (power : ℤ)
-      → printed case j i s ≡ Values.Printed digits power → atMostOne s ≡ true → oneMinusEntry digits power ≡ is (pairsAt case j i .rest s)
+      → printed case j i s ≡ Values.Printed power digits → atMostOne s ≡ true → oneMinusEntry digits power ≡ is (pairsAt case j i .rest s)
 
 -- no condition holds: 0, the report's length, 0; the report; and past it what was there before
 pub record Reported (deck buffer : List ℕ) : Type 0 where

@@ -40,9 +40,7 @@ pub fn report(deck: &[u8], out: &mut [u8]) -> Told
         return deck::tell(status);
     };
     let case = reading.case;
-    let chemicals = case.chemicals;
-    let receptors = case.receptors;
-    let length = length_of(chemicals.count, receptors.count);
+    let length = length_of(case.chemicals.count, case.receptors.count);
     if out.len() < length {
         return Told {
             number: TOO_SHORT,
@@ -55,7 +53,7 @@ pub fn report(deck: &[u8], out: &mut [u8]) -> Told
     let Status::Read = worked else {
         return deck::tell(worked);
     };
-    write_rows(out, &counts.cells, chemicals, receptors);
+    write_rows(out, &counts.cells, case.chemicals, case.receptors);
     Told {
         number: 0,
         line: length,

@@ -159,7 +159,7 @@ module _ (s : Slot) (env : Inputs Pair) where
         above = scaled-some one;
         rest = λ z. rw q (rest-taken one zeroPair one-less-one z);
       }
-  value-in-range (Printed m e) f p q =
+  value-in-range (Printed e m) f p q =
       let r : Printable s m e = printable s m e (f .1) (f .2) in
       record {
         value = rw p (entry-taken r (orOne (entry m e)) (entry-is r));
@@ -188,7 +188,7 @@ unfolding exactAt pairsAt
 inputs-ranged case r j i h l s = value-in-range s (pairsAt case j i) (printed case j i s) (r .fits j i h l s) (pair-printed case j i s) refl
 
 -- In a case in range each slot's pair is the entry of what is printed there, and 1 less a slot that is at most 1 is taken from its digits.
-module _ (case : Case) (ranged : Ranged case) (j i : ℕ) (j-small : j < case .receptors .count) (i-small : i < case .chemicals .count) (s : Slot) (digits : ℕ) (power : ℤ) (there : printed case j i s ≡ Printed digits power) where
+module _ (case : Case) (ranged : Ranged case) (j i : ℕ) (j-small : j < case .receptors .count) (i-small : i < case .chemicals .count) (s : Slot) (digits : ℕ) (power : ℤ) (there : printed case j i s ≡ Printed power digits) where
   fitting : Printable s digits power
   fitting = let f = subst (Fits (ruleOf s)) there (ranged .fits j i j-small i-small s) in printable s digits power (f .1) (f .2)
 

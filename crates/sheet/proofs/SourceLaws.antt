@@ -134,7 +134,7 @@ line-by Cancer p v = refl
 
 optional : Value → Optional Pair
 optional Absent = none
-optional (Printed digits power) = some (pairOf (Printed digits power))
+optional (Printed power digits) = some (pairOf (Printed power digits))
 
 -- a value chosen by route, and what is made of it
 routed : {A B : Type 0} (f : A → B) (p : Pathway) (x y : A) → f (byRoute p x y) ≡ byRoute p (f x) (f y)
@@ -149,12 +149,12 @@ routed f BelowGround x y = refl
 rfd-optional : (v : Value) → rfdValue (rfdGiven (rfdOf v)) ≡ optional v
 unfolding rfdValue rfdGiven rfdOf optional
 rfd-optional Absent = refl
-rfd-optional (Printed digits power) = refl
+rfd-optional (Printed power digits) = refl
 
 csf-optional : (v : Value) → csfValue (csfGiven (csfOf v)) ≡ optional v
 unfolding csfValue csfGiven csfOf optional
 csf-optional Absent = refl
-csf-optional (Printed digits power) = refl
+csf-optional (Printed power digits) = refl
 
 -- the slot of a line's reference value, as the chemical's record has it
 referenceAt : Effect → Pathway → Record → Value
@@ -209,8 +209,8 @@ unfolding figureOf optional isPrinted
 figure-columns e d Absent =
     let o : Outcome Pair = afterOne checked (mapped (λ (g : Dose). g .0) d) in
     (columns-none e o, cap-none e o)
-figure-columns e d (Printed digits power) =
-    let o : Outcome Pair = figureBy (after product) (after quotient) e (mapped (λ (g : Dose). g .0) d) (is (pairOf (Printed digits power))) in
+figure-columns e d (Printed power digits) =
+    let o : Outcome Pair = figureBy (after product) (after quotient) e (mapped (λ (g : Dose). g .0) d) (is (pairOf (Printed power digits))) in
     (columns-some e o, cap-some e o)
 
 -- ---- a line of a case whose chemical has media

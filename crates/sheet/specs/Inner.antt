@@ -61,11 +61,11 @@ mediaWith site′ chemical′ = mediaOf (mediaInputs site′ (valuesOf chemical�
 
 unfoldable pub rfdOf : Value → GivenRfd
 rfdOf Absent = Rfds.Absent
-rfdOf (Printed digits power) = Rfds.Is (record { 0 = pairOf (Printed digits power) })
+rfdOf (Printed power digits) = Rfds.Is (record { 0 = pairOf (Printed power digits) })
 
 unfoldable pub csfOf : Value → GivenCsf
 csfOf Absent = Csfs.Absent
-csfOf (Printed digits power) = Csfs.Is (record { 0 = pairOf (Printed digits power) })
+csfOf (Printed power digits) = Csfs.Is (record { 0 = pairOf (Printed power digits) })
 
 unfoldable pub referencesOf : Record → References
 referencesOf r =

@@ -39,7 +39,7 @@ pathwayAt (suc (suc (suc (suc (suc n))))) = BelowGround
 
 unfoldable pub isPrinted : Value → Bool
 isPrinted Absent = false
-isPrinted (Printed digits power) = true
+isPrinted (Printed power digits) = true
 
 -- whether a line has the reference value that the page gives it: RfD for hazard, CSF for cancer
 unfoldable pub hasReference : Effect → Case → ℕ → Pathway → Bool

@@ -22,12 +22,12 @@ orOne (is p) = p
 orOne (refused n) = onePair
 
 unfoldable pub pairOf : Value → Pair
-pairOf (Printed digits power) = orOne (entry digits power)
+pairOf (Printed power digits) = orOne (entry digits power)
 pairOf Absent = onePair
 
 -- 1 less it, from what is printed
 unfoldable pub restOf : Value → Pair
-restOf (Printed digits power) = orOne (oneMinusEntry digits power)
+restOf (Printed power digits) = orOne (oneMinusEntry digits power)
 restOf Absent = zeroPair
 
 -- a record's, place by place
@@ -48,7 +48,7 @@ pairsAt case j i =
 
 -- as an exact fraction
 unfoldable pub fractionOf : Value → Fraction
-fractionOf (Printed digits power) = scaled digits power
+fractionOf (Printed power digits) = scaled digits power
 fractionOf Absent = scaled 1 (pos 0)
 
 unfoldable pub exactAt : Case → ℕ → ℕ → Slot → Fraction

@@ -74,12 +74,11 @@ pub(crate) fn sources_of(site: Values, chemicals: Chemicals) -> Prepared
     ensures { λ r. ⌜ (r .status ≡ Statuses.Read → r .sources ≡ sourcesOf site chemicals) ⌝ }
 {
     let count = chemicals.count;
-    let records = chemicals.records;
     let mut list = [no_source(); MAX_CHEMICALS];
     let mut i: usize = 0;
     while i < count {
         let next = i + 1;
-        let chemical = records[i];
+        let chemical = chemicals.records[i];
         let values = values_of(chemical);
         match concentrations(site, values, particles_of(chemical)) {
             Found::Is(media) => list[i] = source_with(chemical, values, media),

@@ -74,22 +74,20 @@ fn stopped(status: Status) -> Counts
 pub fn counts_of(case: Case) -> Counts
     ensures { λ r. ⌜ r ≡ countsOf case ⌝ }
 {
-    let chemicals = case.chemicals;
-    let receptors = case.receptors;
-    if MAX_CHEMICALS < chemicals.count {
+    if MAX_CHEMICALS < case.chemicals.count {
         return stopped(Status::Stopped(TOO_MANY, 0, 0));
     }
-    if MAX_RECEPTORS < receptors.count {
+    if MAX_RECEPTORS < case.receptors.count {
         return stopped(Status::Stopped(TOO_MANY, 0, 0));
     }
     let site = values_of(case.site);
-    let prepared = sources_of(site, chemicals);
+    let prepared = sources_of(site, case.chemicals);
     let ready = prepared.status;
     let Status::Read = ready else {
         return stopped(ready);
     };
     let mut cells = [0u64; CELLS];
-    let status = put_receptors(&mut cells, site, receptors, prepared.sources);
+    let status = put_receptors(&mut cells, site, case.receptors, prepared.sources);
     let Status::Read = status else {
         return stopped(status);
     };

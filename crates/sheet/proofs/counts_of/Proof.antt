@@ -10,13 +10,13 @@ stopped-requires : tie.Need-stopped-requires
 stopped-requires c κs = search needs
 
 returns : tie.Need-returns
-returns c = many-chemicals (c .before .before .before .before .before .args .case) (c .before .if1 .taken) _ (c .stopped .ensures)
+returns c = many-chemicals (c .before .before .before .args .case) (c .before .if1 .taken) _ (c .stopped .ensures)
 
 stopped-requires-2 : tie.Need-stopped-requires-2
 stopped-requires-2 c κs = search needs
 
 returns-2 : tie.Need-returns-2
-returns-2 c = many-receptors (c .before .before .before .before .before .before .before .args .case) (c .before .before .before .if1 .left) (c .before .if2 .taken) _ (c .stopped2 .ensures)
+returns-2 c = many-receptors (c .before .before .before .before .before .args .case) (c .before .before .before .if1 .left) (c .before .if2 .taken) _ (c .stopped2 .ensures)
 
 values-of-requires : tie.Need-values-of-requires
 values-of-requires c κs = search needs
@@ -35,7 +35,7 @@ stopped-requires-3 c κs = search needs
 
 returns-3 : tie.Need-returns-3
 returns-3 c =
-    let s = c .before .before .before .before .before .before .before .before .before .before .before in
+    let s = c .before .before .before .before .before .before .before .before .before in
     let sources = c .before .before .before .sources-of in
     chemical-stops (s .args .case) (c .before .before .before .before .before .before .before .if1 .left) (c .before .before .before .before .before .if2 .left) _ (c .before .before .before .before .values-of .ensures) _ (sources .ensures .0) _ _ _ (c .before .enum-told2 .given .1) _ (c .stopped3 .ensures)
 
@@ -44,7 +44,7 @@ slice-aggregate-put-receptors c = search needs
 
 put-receptors-requires : tie.Need-put-receptors-requires
 put-receptors-requires c κs =
-    let s = c .before .before .before .before .before .before .before .before .before .before .before in
+    let s = c .before .before .before .before .before .before .before .before .before in
     let sources = c .before .before .before .sources-of in
     let read = c .before .enum-told .given .1 in
     (refl, c .before .before .before .before .before .if2 .left, sources-few (s .args .case) (c .before .before .before .before .before .before .before .if1 .left) (c .before .before .before .before .before .if2 .left) _ (c .before .before .before .before .values-of .ensures) _ (sources .ensures .1 read) (sym (sources .ensures .0) ∙ read))
@@ -60,7 +60,7 @@ stopped-requires-4 c κs = search needs
 
 returns-4 : tie.Need-returns-4
 returns-4 c =
-    let s = c .before .before .before .before .before .before .before .before .before .before .before .before .before .before .before .before in
+    let s = c .before .before .before .before .before .before .before .before .before .before .before .before .before .before in
     let sources = c .before .before .before .before .before .before .before .before .sources-of in
     let read = c .before .before .before .before .before .before .enum-told .given .1 in
     line-stops (s .args .case) (c .before .before .before .before .before .before .before .before .before .before .before .before .if1 .left) (c .before .before .before .before .before .before .before .before .before .before .if2 .left) _ (c .before .before .before .before .before .before .before .before .before .values-of .ensures) _ (sources .ensures .1 read) (sym (sources .ensures .0) ∙ read)
@@ -68,7 +68,7 @@ returns-4 c =
 
 returns-5 : tie.Need-returns-5
 returns-5 c =
-    let s = c .before .before .before .before .before .before .before .before .before .before .before .before .before .before .before in
+    let s = c .before .before .before .before .before .before .before .before .before .before .before .before .before in
     let sources = c .before .before .before .before .before .before .before .sources-of in
     let read = c .before .before .before .before .before .enum-told .given .1 in
     let lines = c .before .before .before .put-receptors in

@@ -31,12 +31,12 @@ enum-told-2 c = search needs
 
 returns-2 : tie.Need-returns-2
 unfolding restOf orOne answer onePair one
-returns-2 c = let f : SFits w32 (c .before .before .before .before .v .given .0 .1 .0) = search needs in
+returns-2 c = let f : SFits w32 (c .before .before .before .before .v .given .0 .0) = search needs in
     rw (c .before .before .before .before .v .given .1) (ap orOne (ap answer (sym (c .enum-told2 .given .1)) ∙ rw (toZ-ofZ f) at (c .before .before .one-minus-entry .ensures)))
 
 returns-3 : tie.Need-returns-3
 unfolding restOf orOne answer onePair one
-returns-3 c = let f : SFits w32 (c .before .before .before .before .before .v .given .0 .1 .0) = search needs in
+returns-3 c = let f : SFits w32 (c .before .before .before .before .before .v .given .0 .0) = search needs in
     rw (c .before .before .before .before .before .v .given .1) (ap orOne (ap answer (sym (c .before .p .given .1)) ∙ rw (toZ-ofZ f) at (c .before .before .before .one-minus-entry .ensures)))
 
 pub rest-of-spec : {M : Type 1} → statement M
