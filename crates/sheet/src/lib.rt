@@ -8,7 +8,7 @@ mod values;
 use crate::chemicals::sources_of;
 use crate::reading::columns_found;
 use crate::reading::total_found;
-use crate::receptors::put_receptors;
+use crate::receptors::put_all;
 use crate::values::values_of;
 use deck::Case;
 use deck::MAX_CHEMICALS;
@@ -63,6 +63,7 @@ pub struct Counts {
 
 const TOO_MANY: u32 = 21;
 
+// No counts, with a status.
 fn stopped(status: Status) -> Counts
     ensures { λ r. ⌜ (r .status ≡ status) × (r .cells ≡ noCells) ⌝ }
 {
@@ -86,12 +87,12 @@ pub fn counts_of(case: Case) -> Counts
     let Status::Read = ready else {
         return stopped(ready);
     };
-    let mut cells = [0u64; CELLS];
-    let status = put_receptors(&mut cells, site, case.receptors, prepared.sources);
+    let mut counts = stopped(Status::Read);
+    let status = put_all(&mut counts.cells, site, case.receptors, prepared.sources);
     let Status::Read = status else {
         return stopped(status);
     };
-    Counts { status, cells }
+    counts
 }
 
 fn side_of(effect: Effect) -> usize

@@ -16,6 +16,7 @@ ghost use Rattle.pathway.specs.Lines as specs;
 ghost use Rattle.sheet.specs.Sheet.{pathwayAt};
 ghost use Rattle.sheet.specs.Counts.{mostLines, receptorCells, allCells};
 ghost use Rattle.sheet.specs.Inner.{maxRows, figuresFrom, isLarge, withCounts, columnsWorked, largeWorked, allLarge, CellsHold, CellsEmpty, CellsFilled, SameBelow, ZeroFrom};
+use crate::CELLS;
 use crate::EFFECT_CELLS;
 use crate::MOST_LINES;
 use crate::PATHWAYS;
@@ -122,12 +123,7 @@ fn put_lines(
 }
 
 // Every receptor's counts, or the first line above a cap.
-pub(crate) fn put_receptors(
-    cells: &mut [u64],
-    site: Values,
-    receptors: Receptors,
-    sources: Sources,
-) -> Status
+fn put_receptors(cells: &mut [u64], site: Values, receptors: Receptors, sources: Sources) -> Status
     requires { ⌜ (length (now cells) ≡ allCells) × (receptors .count ≤ 4) × (sources .count ≤ 16) ⌝ }
     ensures { λ s. ⌜ s ≡ first (allLarge site sources (receptors .records) (receptors .count)) ⌝ }
     ensures { λ s. ⌜ (s ≡ Statuses.Read → ZeroFrom 0 (now (cells .entry)) → CellsFilled site sources (receptors .records) (receptors .count) (now (cells .exit)) × ZeroFrom (receptorCells * receptors .count) (now (cells .exit))) ⌝ }
@@ -152,4 +148,19 @@ pub(crate) fn put_receptors(
         j = next;
     }
     Status::Read
+}
+
+// The same into all cells of a case, which are lent as they stand in their struct.
+pub(crate) fn put_all(
+    cells: &mut [u64; CELLS],
+    site: Values,
+    receptors: Receptors,
+    sources: Sources,
+) -> Status
+    requires { ⌜ (receptors .count ≤ 4) × (sources .count ≤ 16) ⌝ }
+    ensures { λ s. ⌜ s ≡ first (allLarge site sources (receptors .records) (receptors .count)) ⌝ }
+    ensures { λ s. ⌜ (s ≡ Statuses.Read → ZeroFrom 0 (now (cells .entry)) → CellsFilled site sources (receptors .records) (receptors .count) (now (cells .exit)) × ZeroFrom (receptorCells * receptors .count) (now (cells .exit))) ⌝ }
+    ensures { λ _. ⌜ length (now (cells .exit)) ≡ allCells ⌝ }
+{
+    put_receptors(cells, site, receptors, sources)
 }

@@ -1,7 +1,10 @@
 -- `sheet::counts_of` meets its contract: 21, then 41 by chemical, then 42 by line, or every line's counts. Assumes nothing.
-use mathlib.Core.Path.{refl, sym, _∙_}
+use mathlib.Core.Path.{sym, ap, subst, _∙_}
 use borrow.Author.Needs.{needs}
+use Rattle.sheet.specs.Counts.{noCells}
+use Rattle.sheet.specs.Inner.{ZeroFrom}
 use Rattle.sheet.proofs.CellLaws.{zeros}
+use Rattle.sheet.proofs.ValueLaws.{all-alike}
 use Rattle.sheet.proofs.CountLaws.{many-chemicals, many-receptors, chemical-stops, sources-few, line-stops, all-counted}
 use Rattle.sheet.proofs.counts_of.Statement.{statement}
 use Rattle.sheet.proofs.counts_of.Tie as tie
@@ -39,15 +42,15 @@ returns-3 c =
     let sources = c .before .before .before .sources-of in
     chemical-stops (s .args .case) (c .before .before .before .before .before .before .before .if1 .left) (c .before .before .before .before .before .if2 .left) _ (c .before .before .before .before .values-of .ensures) _ (sources .ensures .0) _ _ _ (c .before .enum-told2 .given .1) _ (c .stopped3 .ensures)
 
-slice-aggregate-put-receptors : tie.Need-slice-aggregate-put-receptors
-slice-aggregate-put-receptors c = search needs
+stopped-requires-4 : tie.Need-stopped-requires-4
+stopped-requires-4 c κs = search needs
 
-put-receptors-requires : tie.Need-put-receptors-requires
-put-receptors-requires c κs =
-    let s = c .before .before .before .before .before .before .before .before .before in
-    let sources = c .before .before .before .sources-of in
-    let read = c .before .enum-told .given .1 in
-    (refl, c .before .before .before .before .before .if2 .left, sources-few (s .args .case) (c .before .before .before .before .before .before .before .if1 .left) (c .before .before .before .before .before .if2 .left) _ (c .before .before .before .before .values-of .ensures) _ (sources .ensures .1 read) (sym (sources .ensures .0) ∙ read))
+put-all-requires : tie.Need-put-all-requires
+put-all-requires c κs =
+    let s = c .before .before .before .before .before .before .before .before .before .before in
+    let sources = c .before .before .before .before .sources-of in
+    let read = c .before .before .enum-told .given .1 in
+    (c .before .before .before .before .before .before .if2 .left, sources-few (s .args .case) (c .before .before .before .before .before .before .before .before .if1 .left) (c .before .before .before .before .before .before .if2 .left) _ (c .before .before .before .before .before .values-of .ensures) _ (sources .ensures .1 read) (sym (sources .ensures .0) ∙ read))
 
 enum-told-3 : tie.Need-enum-told-3
 enum-told-3 c = search needs
@@ -55,8 +58,8 @@ enum-told-3 c = search needs
 enum-told-4 : tie.Need-enum-told-4
 enum-told-4 c = search needs
 
-stopped-requires-4 : tie.Need-stopped-requires-4
-stopped-requires-4 c κs = search needs
+stopped-requires-5 : tie.Need-stopped-requires-5
+stopped-requires-5 c κs = search needs
 
 returns-4 : tie.Need-returns-4
 returns-4 c =
@@ -64,17 +67,20 @@ returns-4 c =
     let sources = c .before .before .before .before .before .before .before .before .sources-of in
     let read = c .before .before .before .before .before .before .enum-told .given .1 in
     line-stops (s .args .case) (c .before .before .before .before .before .before .before .before .before .before .before .before .if1 .left) (c .before .before .before .before .before .before .before .before .before .before .if2 .left) _ (c .before .before .before .before .before .before .before .before .before .values-of .ensures) _ (sources .ensures .1 read) (sym (sources .ensures .0) ∙ read)
-    _ (c .before .before .before .before .put-receptors .ensures .0) _ _ _ (c .before .enum-told4 .given .1) _ (c .stopped4 .ensures)
+    _ (c .before .before .before .put-all .ensures .0) _ _ _ (c .before .enum-told4 .given .1) _ (c .stopped5 .ensures)
 
 returns-5 : tie.Need-returns-5
+unfolding noCells
 returns-5 c =
     let s = c .before .before .before .before .before .before .before .before .before .before .before .before .before in
     let sources = c .before .before .before .before .before .before .before .sources-of in
     let read = c .before .before .before .before .before .enum-told .given .1 in
-    let lines = c .before .before .before .put-receptors in
+    let lines = c .before .before .put-all in
+    let none = c .before .before .before .before .stopped4 .ensures in
     let done = c .enum-told3 .given .1 in
-    all-counted (s .args .case) (c .before .before .before .before .before .before .before .before .before .before .before .if1 .left) (c .before .before .before .before .before .before .before .before .before .if2 .left) _ (c .before .before .before .before .before .before .before .before .values-of .ensures) _ (sources .ensures .1 read) (sym (sources .ensures .0) ∙ read)
-    _ (lines .ensures .0) done (lines .last .0) (lines .kept .0) (lines .ensures .1 done (zeros 2304))
+    ap (λ t. record { status = t; cells = lines .last .0 }) (none .0 ∙ sym done)
+    ∙ all-counted (s .args .case) (c .before .before .before .before .before .before .before .before .before .before .before .if1 .left) (c .before .before .before .before .before .before .before .before .before .if2 .left) _ (c .before .before .before .before .before .before .before .before .values-of .ensures) _ (sources .ensures .1 read) (sym (sources .ensures .0) ∙ read)
+    _ (lines .ensures .0) done (lines .last .0) (lines .ensures .1 .1) (lines .ensures .1 .0 done (subst (ZeroFrom 0) (all-alike 0 2304 ∙ sym (none .1)) (zeros 2304)))
 
 pub counts-of-spec : {M : Type 1} → statement M
 counts-of-spec =
@@ -90,10 +96,10 @@ counts-of-spec =
     enum-told-2
     stopped-requires-3
     returns-3
-    slice-aggregate-put-receptors
-    put-receptors-requires
+    stopped-requires-4
+    put-all-requires
     enum-told-3
     enum-told-4
-    stopped-requires-4
+    stopped-requires-5
     returns-4
     returns-5)
