@@ -1,16 +1,18 @@
--- Laws of the exact comparisons, by division: from 10 ^ 10 on, against 32 bits, and from 10 ^ 20 on, against 64, a power of ten decides alone.
+-- Laws of the exact comparisons, by multiplying across where the product fits, else by division: from 10 ^ 10 on, against 32 bits, and from 10 ^ 20 on, against 64, a power of ten decides alone.
 -- Assumes nothing.
 use Prim.Native.Nat.{ℕ, suc, _+_, _*_, _-_, _/_, _^_, _≤_, _<_}
-use native.Mathlib.Nat.{le-trans, lt-of-lt-of-le, mul-one, one-mul, zero-mul, mul-le-mul, mul-le-mul-right, pow-le-pow-right, pow-suc, one-le-pow, le-of-mul-le-mul-right, eq-zero-or-pos, mul-lt-mul-of-pos-right, le-div-iff-mul-le, div-lt-iff-lt-mul}
+use native.Mathlib.Nat.{le-trans, le-of-lt, lt-of-lt-of-le, lt-of-le-of-lt, mul-one, one-mul, zero-mul, mul-le-mul, mul-le-mul-right, pow-le-pow-right, pow-suc, one-le-pow, le-of-mul-le-mul-right, eq-zero-or-pos, mul-lt-mul-of-pos-right, le-div-iff-mul-le, div-lt-iff-lt-mul}
 use native.Mathlib.Numerals.{add-one}
 use native.Mathlib.Omega.{arith}
 use lib.Pow.{pow-add}
-use mathlib.Core.Path.{_≡_, refl, sym, ap, _∙_}
+use mathlib.Core.Path.{_≡_, refl, sym, ap, subst, _∙_}
 use mathlib.Core.Bool.{Bool, true, false, not}
 use mathlib.Core.Logic.{⊎-elim}
 use borrow.Author.Tests.{eq-eqb, ne-eqb, le-leb, lt-leb, leb-true, leb-false, not-true, not-false}
 use lib.Dec.{leb, ltb, lit≤, lit<}
 use lib.IntN.{ℤ, pos, negsuc}
+use mir.Syntax.{w64}
+use mir.Val.{Fits}
 use Rattle.deck.specs.Ranges.{above, below, valueAtMost, valueAtLeast, inRange}
 use Rattle.slots.specs.declared.Rule.{Rule}
 
@@ -19,6 +21,12 @@ ten-more i v e = rw add-one (ap (λ (n : ℕ). n * 10) e ∙ sym (pow-suc 10 i))
 
 pub ten-some : (n v : ℕ) → v ≡ 10 ^ n → 0 < v
 ten-some n v e = rw e (one-le-pow n 10 (lit≤ tt))
+
+pub product-fits : (d n v : ℕ) → d < 2 ^ 32 → n ≤ 9 → v ≡ 10 ^ n → Fits w64 (d * v)
+product-fits d n v h s e =
+    let t : 10 ^ n ≤ 10 ^ 9 = pow-le-pow-right (lit≤ tt) s in
+    let p : d * 10 ^ n ≤ 4294967296 * 1000000000 = mul-le-mul (le-of-lt h) t in
+    record { fits = subst (λ (m : ℕ). d * m < 2 ^ 64) (sym e) (lt-of-le-of-lt p (lit< tt)) }
 
 -- a power of ten lies on one side of 0 only
 one-side : (z : ℤ) → 0 < above z → below z ≡ 0
@@ -73,6 +81,10 @@ module _ (most digits : ℕ) (z : ℤ) (some : 0 < digits) where
         (λ p. let m : 1 * 10 ^ 20 ≤ most * 10 ^ below z = mul-le-mul p t in omega arith)
         (λ q. ⊎-elim (λ e. absurd (let n : most * 10 ^ below z ≡ 0 = ap (λ (k : ℕ). k * 10 ^ below z) e ∙ zero-mul (10 ^ below z) in omega arith)) (λ p. p)
         (eq-zero-or-pos most)))
+
+    pub below-few : (v : ℕ) → v ≡ 10 ^ below z → leb digits (most * v) ≡ valueAtMost most digits z
+    unfolding valueAtMost
+    below-few v e = rw (whole, e) refl
 
     pub below-near : (v : ℕ) → v ≡ 10 ^ below z → ltb ((digits - 1) / v) most ≡ valueAtMost most digits z
     unfolding valueAtMost

@@ -64,8 +64,8 @@ fn ten_to(n: u32) -> u64
     power
 }
 
-// digits × 10 ^ power is at most `most`. No product is worked out, since it may not fit: a power above 0 divides `most`, one below 0
-// the digits. These lose one first, so that a remainder counts. `most` has at most ten figures and the digits at most twenty.
+// digits × 10 ^ power is at most `most`, which has at most ten figures; the digits have at most twenty. Where a product may not fit, a power
+// above 0 divides `most`, and one below 0 the digits. These lose one first, so that a remainder counts.
 fn at_most(most: u32, digits: u64, power: i32) -> bool
     requires { ⌜ 0 < digits ⌝ }
     ensures { λ r. ⌜ r ≡ valueAtMost most digits power ⌝ }
@@ -78,6 +78,9 @@ fn at_most(most: u32, digits: u64, power: i32) -> bool
         return digits <= most as u64 / ten_to(up);
     }
     let down = lowered(power);
+    if down <= 9 {
+        return digits <= most as u64 * ten_to(down);
+    }
     if 19 < down {
         return 0 < most;
     }

@@ -92,17 +92,17 @@ place-nine : place (negsuc 8) + 9 ≡ depth
 unfolding depth place
 place-nine = refl
 
--- as the code does it past eighteen places: rounded at the ninth figure first, the other way
-pub rest-rounded : (up : Bool) (m d : ℕ) (e : ℤ) → Small e → d + place e ≡ depth → 18 < d → m ≤ 999999999999 →
+-- as the code does it past twelve places: rounded at the ninth figure first, the other way
+pub rest-rounded : (up : Bool) (m d : ℕ) (e : ℤ) → Small e → d + place e ≡ depth → 12 < d → m ≤ 999999999999 →
     rounded up (1000000000 - divided (not up) m (10 ^ (d - 9))) 1 (negsuc 8) ≡ restEnd up (printed m e)
 rest-rounded up m d e s h far few =
     let g : ℕ = d - 9 in
     let tens : 10 ^ d ≡ 1000000000 * 10 ^ g = ap (λ (i : ℕ). 10 ^ i) (split far) ∙ ten-add 9 g in
-    let most : m ≤ 900000000 * 10 ^ g = omega (arith, ten-rises {i = 10} {j = g} (omega arith)) in
+    let most : m ≤ 900000000 * 10 ^ g = omega (arith, ten-rises {i = 4} {j = g} (omega arith)) in
     ap (λ (n : ℕ). rounded up n 1 (negsuc 8)) (sym (divided-less up 1000000000 m (10 ^ g) (ten-above g) (omega arith)))
     ∙ rounded-twice up (1000000000 * 10 ^ g - m) g e (negsuc 8) s (lit< tt) (omega (arith, place-nine)) (omega arith) (omega (arith, ten-above g))
     ∙ ap (λ (n : ℕ). rounded up (n - m) 1 e) (sym tens)
     ∙ rest-below up m d e s h
   where
-    split : 18 < d → d ≡ 9 + (d - 9)
+    split : 12 < d → d ≡ 9 + (d - 9)
     split l = omega arith

@@ -157,8 +157,8 @@ pub(crate) fn is_share(m: u64, e: i32) -> bool
     m <= power(d)
 }
 
-// 1 − m × 10^e, of at most twelve digits and at most 1. Past eighteen places it is rounded at the ninth figure first, as in a sum, here
-// in the other direction.
+// 1 − m × 10^e, of at most twelve digits and at most 1. Past twelve places it is rounded at the ninth figure first, as in a sum, here in
+// the other direction.
 pub(crate) fn rest(up: bool, m: u64, e: i32) -> Number
     requires { ⌜ m ≤ 999999999999 ⌝ }
     requires { ⌜ inReach e ≡ true ⌝ }
@@ -172,7 +172,7 @@ pub(crate) fn rest(up: bool, m: u64, e: i32) -> Number
         return zero();
     }
     let d = above(e, 0);
-    if 18 < d {
+    if 12 < d {
         return ten(up, 1_000_000_000 - lowered(!up, m, d - 9), -9);
     }
     figured(up, power(d) - m, e)

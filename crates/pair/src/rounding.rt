@@ -11,7 +11,7 @@ ghost use Rattle.pair.specs.Number as numbers;
 ghost use Rattle.pair.specs.Rounding.{divided, carried, rounded};
 
 pub(crate) fn power(k: usize) -> u64
-    requires { ⌜ k ≤ 18 ⌝ }
+    requires { ⌜ k ≤ 12 ⌝ }
     ensures { λ r. ⌜ r ≡ 10 ^ k ⌝ }
 {
     match k {
@@ -27,13 +27,7 @@ pub(crate) fn power(k: usize) -> u64
         9 => 1_000_000_000,
         10 => 10_000_000_000,
         11 => 100_000_000_000,
-        12 => 1_000_000_000_000,
-        13 => 10_000_000_000_000,
-        14 => 100_000_000_000_000,
-        15 => 1_000_000_000_000_000,
-        16 => 10_000_000_000_000_000,
-        17 => 100_000_000_000_000_000,
-        _ => 1_000_000_000_000_000_000,
+        _ => 1_000_000_000_000,
     }
 }
 
@@ -168,50 +162,32 @@ pub(crate) fn normal(m: u64, e: i32) -> Number
     }
 }
 
-// How many figures beyond nine m has.
+// How many figures beyond nine m has, which has ten to twelve.
 pub(crate) fn surplus(m: u64) -> usize
-    requires { ⌜ (1000000000 ≤ m) × (m < 1000000000000000000) ⌝ }
-    ensures { λ r. ⌜ (r ≤ 9) × (100000000 * 10 ^ r ≤ m) × (m < 1000000000 * 10 ^ r) ⌝ }
+    requires { ⌜ (1000000000 ≤ m) × (m ≤ 999999999999) ⌝ }
+    ensures { λ r. ⌜ (r ≤ 3) × (100000000 * 10 ^ r ≤ m) × (m < 1000000000 * 10 ^ r) ⌝ }
 {
-    if m < 1_000_000_000_000 {
-        if m < 10_000_000_000 {
-            return 1;
-        }
-        if m < 100_000_000_000 {
-            return 2;
-        }
-        return 3;
+    if m < 10_000_000_000 {
+        return 1;
     }
-    if m < 1_000_000_000_000_000 {
-        if m < 10_000_000_000_000 {
-            return 4;
-        }
-        if m < 100_000_000_000_000 {
-            return 5;
-        }
-        return 6;
+    if m < 100_000_000_000 {
+        return 2;
     }
-    if m < 10_000_000_000_000_000 {
-        return 7;
-    }
-    if m < 100_000_000_000_000_000 {
-        return 8;
-    }
-    9
+    3
 }
 
 // m × 10^e, with k figures beyond nine, which are rounded off.
 pub(crate) fn off(up: bool, m: u64, k: usize, e: i32) -> Number
-    requires { ⌜ (k ≤ 9) × (100000000 * 10 ^ k ≤ m) × (m < 1000000000 * 10 ^ k) ⌝ }
+    requires { ⌜ (k ≤ 3) × (100000000 * 10 ^ k ≤ m) × (m < 1000000000 * 10 ^ k) ⌝ }
     requires { ⌜ mag e < 100000 ⌝ }
     ensures { λ r. ⌜ r ≡ rounded up m 1 e ⌝ }
 {
     nine(up, m, power(k), plus(e, figures(k)))
 }
 
-// m × 10^e, of at most eighteen figures.
+// m × 10^e, of at most twelve figures.
 pub(crate) fn figured(up: bool, m: u64, e: i32) -> Number
-    requires { ⌜ m < 1000000000000000000 ⌝ }
+    requires { ⌜ m ≤ 999999999999 ⌝ }
     requires { ⌜ mag e < 100000 ⌝ }
     ensures { λ r. ⌜ r ≡ rounded up m 1 e ⌝ }
 {

@@ -6,7 +6,7 @@ use mathlib.Core.Path.{ap, _∙_}
 use Prim.Native.Nat.{ℕ, _^_}
 use mir.Facts.{toZ-ofZ}
 use Rattle.deck.specs.Ranges.{above, below}
-use Rattle.deck.proofs.Ranges.{ten-some, above-all, above-near, below-all, below-near}
+use Rattle.deck.proofs.Ranges.{ten-some, product-fits, above-all, above-near, below-all, below-few, below-near}
 use Rattle.deck.proofs.fields.at_most.Statement.{statement}
 use Rattle.deck.proofs.fields.at_most.Tie as tie
 
@@ -35,30 +35,46 @@ returns-2 c =
 lowered-requires : tie.Need-lowered-requires
 lowered-requires c κs = search needs
 
-returns-3 : tie.Need-returns-3
-returns-3 c =
-    let s = c .before .before .before .before .before in
-    let up = c .before .before .before .before .raised .ensures ∙ ap above (toZ-ofZ (s .fits .power)) in
-    let down = c .before .lowered .ensures ∙ ap below (toZ-ofZ (s .fits .power)) in
-    below-all (s .args .most) (s .args .digits) _ (s .pre) (omega (arith, up, c .before .before .if2 .left)) (s .fits .digits .fits)
-    (omega (arith, down, c .if3 .taken))
-
-sub-result : tie.Need-sub-result
-sub-result c = search needs
-
 ten-to-requires-2 : tie.Need-ten-to-requires-2
 ten-to-requires-2 c κs = search needs
 
-div-result-2 : tie.Need-div-result-2
-div-result-2 c = omega (arith, ten-some _ _ (c .ten-to2 .ensures))
+mul-result : tie.Need-mul-result
+mul-result c =
+    let s = c .before .before .before .before .before .before in
+    product-fits (s .args .most) (c .before .before .lowered .result) _ (s .fits .most .fits) (c .before .if3 .taken) (c .ten-to2 .ensures)
+
+returns-3 : tie.Need-returns-3
+returns-3 c =
+    let s = c .before .before .before .before .before .before in
+    let up = c .before .before .before .before .before .raised .ensures ∙ ap above (toZ-ofZ (s .fits .power)) in
+    let down = c .before .before .lowered .ensures ∙ ap below (toZ-ofZ (s .fits .power)) in
+    below-few (s .args .most) (s .args .digits) _ (s .pre) (omega (arith, up, c .before .before .before .if2 .left)) _
+    (c .ten-to2 .ensures ∙ ap (λ (n : ℕ). 10 ^ n) down)
 
 returns-4 : tie.Need-returns-4
 returns-4 c =
     let s = c .before .before .before .before .before .before in
     let up = c .before .before .before .before .before .raised .ensures ∙ ap above (toZ-ofZ (s .fits .power)) in
     let down = c .before .before .lowered .ensures ∙ ap below (toZ-ofZ (s .fits .power)) in
-    below-near (s .args .most) (s .args .digits) _ (s .pre) (omega (arith, up, c .before .before .before .if2 .left)) _
-    (c .ten-to2 .ensures ∙ ap (λ (n : ℕ). 10 ^ n) down)
+    below-all (s .args .most) (s .args .digits) _ (s .pre) (omega (arith, up, c .before .before .before .if2 .left)) (s .fits .digits .fits)
+    (omega (arith, down, c .if4 .taken))
+
+sub-result : tie.Need-sub-result
+sub-result c = search needs
+
+ten-to-requires-3 : tie.Need-ten-to-requires-3
+ten-to-requires-3 c κs = search needs
+
+div-result-2 : tie.Need-div-result-2
+div-result-2 c = omega (arith, ten-some _ _ (c .ten-to3 .ensures))
+
+returns-5 : tie.Need-returns-5
+returns-5 c =
+    let s = c .before .before .before .before .before .before .before in
+    let up = c .before .before .before .before .before .before .raised .ensures ∙ ap above (toZ-ofZ (s .fits .power)) in
+    let down = c .before .before .before .lowered .ensures ∙ ap below (toZ-ofZ (s .fits .power)) in
+    below-near (s .args .most) (s .args .digits) _ (s .pre) (omega (arith, up, c .before .before .before .before .if2 .left)) _
+    (c .ten-to3 .ensures ∙ ap (λ (n : ℕ). 10 ^ n) down)
 
 pub at-most-spec : {M : Type 1} → statement M
 at-most-spec =
@@ -70,8 +86,11 @@ at-most-spec =
     div-result
     returns-2
     lowered-requires
-    returns-3
-    sub-result
     ten-to-requires-2
+    mul-result
+    returns-3
+    returns-4
+    sub-result
+    ten-to-requires-3
     div-result-2
-    returns-4)
+    returns-5)

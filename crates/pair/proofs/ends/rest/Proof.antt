@@ -30,9 +30,9 @@ below-one e s t = let l : place e < place (pos 0) = less-place s whole-small t i
 digits : (m d : ℕ) (e : ℤ) → Small e → d + place e ≡ depth → atMost (printed m e) one ≡ true → m ≤ 10 ^ d
 digits m d e s p h = leb-true m (10 ^ d) (sym (share-is m d e s p) ∙ h)
 
--- what is taken away past eighteen places
-taken : (up : Bool) (m d : ℕ) → 18 < d → m ≤ 999999999999 → divided up m (10 ^ (d - 9)) ≤ 100
-taken up m d far few = divided-most up m (10 ^ (d - 9)) 100 (ten-above (d - 9)) (omega (arith, ten-rises {i = 10} {j = d - 9} (omega arith)))
+-- what is taken away past twelve places
+taken : (up : Bool) (m d : ℕ) → 12 < d → m ≤ 999999999999 → divided up m (10 ^ (d - 9)) ≤ 100000000
+taken up m d far few = divided-most up m (10 ^ (d - 9)) 100000000 (ten-above (d - 9)) (omega (arith, ten-rises {i = 4} {j = d - 9} (omega arith)))
 
 normal-requires : tie.Need-normal-requires
 normal-requires c κs = search needs
@@ -76,13 +76,13 @@ lowered-requires c κs = search needs
 sub-ten : tie.Need-sub-ten
 sub-ten c =
     let a = c .before .before .before .before .before .before in
-    let l : c .lowered .result ≤ 100 = subst (λ (x : ℕ). x ≤ 100) (sym (c .lowered .ensures)) (taken (not (a .args .up)) (a .args .m) (c .before .before .above .result) (c .before .if3 .taken) (a .pre .0)) in
+    let l : c .lowered .result ≤ 100000000 = subst (λ (x : ℕ). x ≤ 100000000) (sym (c .lowered .ensures)) (taken (not (a .args .up)) (a .args .m) (c .before .before .above .result) (c .before .if3 .taken) (a .pre .0)) in
     omega (arith, l)
 
 ten-requires : tie.Need-ten-requires
 ten-requires c κs =
     let a = c .before .before .before .before .before .before in
-    let l : c .lowered .result ≤ 100 = subst (λ (x : ℕ). x ≤ 100) (sym (c .lowered .ensures)) (taken (not (a .args .up)) (a .args .m) (c .before .before .above .result) (c .before .if3 .taken) (a .pre .0)) in
+    let l : c .lowered .result ≤ 100000000 = subst (λ (x : ℕ). x ≤ 100000000) (sym (c .lowered .ensures)) (taken (not (a .args .up)) (a .args .m) (c .before .before .above .result) (c .before .if3 .taken) (a .pre .0)) in
     ((omega (arith, l), omega arith), lit< tt)
 
 returns-3 : tie.Need-returns-3
@@ -115,7 +115,7 @@ figured-requires : tie.Need-figured-requires
 figured-requires c κs =
     let a = c .before .before .before .before .before .before in
     let e = a .args .e in
-    let p : c .power .result ≤ 10 ^ 18 = subst (λ (x : ℕ). x ≤ 10 ^ 18) (sym (c .power .ensures)) (ten-rises {j = 18} (c .before .if3 .left)) in
+    let p : c .power .result ≤ 10 ^ 12 = subst (λ (x : ℕ). x ≤ 10 ^ 12) (sym (c .power .ensures)) (ten-rises {j = 12} (c .before .if3 .left)) in
     (omega (arith, p, pos-of-ne-zero (c .before .before .before .before .before .if1 .left)), rw (toZ-ofZ (a .fits .e)) (reach-mag e (a .pre .1 .0)))
 
 returns-4 : tie.Need-returns-4

@@ -32,7 +32,7 @@ nine-requires c κs =
     let a = c .before .before .before in
     let k = a .args .k in
     rw (c .before .before .power .ensures)
-    (ten-above k, ((a .pre .0 .1, a .pre .0 .2), (omega (arith, a .pre .0 .2, ten-rises {i = k} {j = 9} (a .pre .0 .0)), rw (back (c .plus .ok), c .plus .ensures, toZ-ofZ (a .fits .e), back (c .before .figures .ok), c .before .figures .ensures) (omega (arith, mag-plus (a .args .e) (pos k))))))
+    (ten-above k, ((a .pre .0 .1, a .pre .0 .2), (omega (arith, a .pre .0 .2, ten-rises {i = k} {j = 3} (a .pre .0 .0)), rw (back (c .plus .ok), c .plus .ensures, toZ-ofZ (a .fits .e), back (c .before .figures .ok), c .before .figures .ensures) (omega (arith, mag-plus (a .args .e) (pos k))))))
 
 returns : tie.Need-returns
 returns c =

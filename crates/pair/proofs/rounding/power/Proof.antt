@@ -7,7 +7,7 @@ use Rattle.pair.proofs.Powers.{ten-at}
 use Rattle.pair.proofs.rounding.power.Statement.{statement}
 use Rattle.pair.proofs.rounding.power.Tie as tie
 
--- what is none of the numbers below eighteen is eighteen
+-- what is none of the numbers below twelve is twelve
 least : (k : ℕ) → 0 ≤ k
 least k = omega arith
 
@@ -51,28 +51,10 @@ returns-12 : tie.Need-returns-12
 returns-12 c = ten-at 11 (omega arith)
 
 returns-13 : tie.Need-returns-13
-returns-13 c = ten-at 12 (omega arith)
-
-returns-14 : tie.Need-returns-14
-returns-14 c = ten-at 13 (omega arith)
-
-returns-15 : tie.Need-returns-15
-returns-15 c = ten-at 14 (omega arith)
-
-returns-16 : tie.Need-returns-16
-returns-16 c = ten-at 15 (omega arith)
-
-returns-17 : tie.Need-returns-17
-returns-17 c = ten-at 16 (omega arith)
-
-returns-18 : tie.Need-returns-18
-returns-18 c = ten-at 17 (omega arith)
-
-returns-19 : tie.Need-returns-19
-returns-19 c =
+returns-13 c =
     let k = c .before .args .k in
     let r = c .match .rest in
-    ten-at 18 (le-antisymm (c .before .pre) (above k 17 (above k 16 (above k 15 (above k 14 (above k 13 (above k 12 (above k 11 (above k 10 (above k 9 (above k 8 (above k 7 (above k 6 (above k 5 (above k 4 (above k 3 (above k 2 (above k 1 (above k 0 (least k) (r .0 .0 .0 .0 .0 .0 .0 .0 .0 .0 .0 .0 .0 .0 .0 .0 .0 .1)) (r .0 .0 .0 .0 .0 .0 .0 .0 .0 .0 .0 .0 .0 .0 .0 .0 .1)) (r .0 .0 .0 .0 .0 .0 .0 .0 .0 .0 .0 .0 .0 .0 .0 .1)) (r .0 .0 .0 .0 .0 .0 .0 .0 .0 .0 .0 .0 .0 .0 .1)) (r .0 .0 .0 .0 .0 .0 .0 .0 .0 .0 .0 .0 .0 .1)) (r .0 .0 .0 .0 .0 .0 .0 .0 .0 .0 .0 .0 .1)) (r .0 .0 .0 .0 .0 .0 .0 .0 .0 .0 .0 .1)) (r .0 .0 .0 .0 .0 .0 .0 .0 .0 .0 .1)) (r .0 .0 .0 .0 .0 .0 .0 .0 .0 .1)) (r .0 .0 .0 .0 .0 .0 .0 .0 .1)) (r .0 .0 .0 .0 .0 .0 .0 .1)) (r .0 .0 .0 .0 .0 .0 .1)) (r .0 .0 .0 .0 .0 .1)) (r .0 .0 .0 .0 .1)) (r .0 .0 .0 .1)) (r .0 .0 .1)) (r .0 .1)) (r .1)))
+    ten-at 12 (le-antisymm (c .before .pre) (above k 11 (above k 10 (above k 9 (above k 8 (above k 7 (above k 6 (above k 5 (above k 4 (above k 3 (above k 2 (above k 1 (above k 0 (least k) (r .0 .0 .0 .0 .0 .0 .0 .0 .0 .0 .0 .1)) (r .0 .0 .0 .0 .0 .0 .0 .0 .0 .0 .1)) (r .0 .0 .0 .0 .0 .0 .0 .0 .0 .1)) (r .0 .0 .0 .0 .0 .0 .0 .0 .1)) (r .0 .0 .0 .0 .0 .0 .0 .1)) (r .0 .0 .0 .0 .0 .0 .1)) (r .0 .0 .0 .0 .0 .1)) (r .0 .0 .0 .0 .1)) (r .0 .0 .0 .1)) (r .0 .0 .1)) (r .0 .1)) (r .1)))
 
 pub power-spec : {M : Type 1} → statement M
-power-spec = tie.close (tie.spec returns returns-2 returns-3 returns-4 returns-5 returns-6 returns-7 returns-8 returns-9 returns-10 returns-11 returns-12 returns-13 returns-14 returns-15 returns-16 returns-17 returns-18 returns-19)
+power-spec = tie.close (tie.spec returns returns-2 returns-3 returns-4 returns-5 returns-6 returns-7 returns-8 returns-9 returns-10 returns-11 returns-12 returns-13)
