@@ -39,8 +39,7 @@ pub fn report(deck: &[u8], out: &mut [u8]) -> Told
     let Status::Read = status else {
         return deck::tell(status);
     };
-    let case = reading.case;
-    let length = length_of(case.chemicals.count, case.receptors.count);
+    let length = length_of(reading.case.chemicals.count, reading.case.receptors.count);
     if out.len() < length {
         return Told {
             number: TOO_SHORT,
@@ -48,12 +47,17 @@ pub fn report(deck: &[u8], out: &mut [u8]) -> Told
             field: 0,
         };
     }
-    let counts = sheet::counts_of(case);
+    let counts = sheet::counts_of(reading.case);
     let worked = counts.status;
     let Status::Read = worked else {
         return deck::tell(worked);
     };
-    write_rows(out, &counts.cells, case.chemicals, case.receptors);
+    write_rows(
+        out,
+        &counts.cells,
+        reading.case.chemicals,
+        reading.case.receptors,
+    );
     Told {
         number: 0,
         line: length,

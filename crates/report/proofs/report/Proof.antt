@@ -30,14 +30,14 @@ returns c =
 
 length-of-requires : tie.Need-length-of-requires
 length-of-requires c κs =
-    let a = c .before .before .before .before .before .before .args in
-    few (now (a .deck)) (now (a .out)) _ (c .before .before .before .read .ensures .0) (c .before .enum-told .given .1)
+    let a = c .before .before .before .before .before .args in
+    few (now (a .deck)) (now (a .out)) _ (c .before .before .read .ensures .0) (c .enum-told .given .1)
 
 returns-2 : tie.Need-returns-2
 unfolding lengthOf linesOfReport linesPerReceptor
 returns-2 c =
-    let a = c .before .before .before .before .before .before .before .before .args in
-    too-short (now (a .deck)) (now (a .out)) _ (c .before .before .before .before .before .read .ensures .0) (c .before .before .before .enum-told .given .1) (rw (c .before .length-of .ensures) at (c .if1 .taken))
+    let a = c .before .before .before .before .before .before .before .args in
+    too-short (now (a .deck)) (now (a .out)) _ (c .before .before .before .before .read .ensures .0) (c .before .before .enum-told .given .1) (rw (c .before .length-of .ensures) at (c .if1 .taken))
 
 counts-of-requires : tie.Need-counts-of-requires
 counts-of-requires c κs = search needs
@@ -54,14 +54,14 @@ tell-requires-2 c κs = search needs
 returns-3 : tie.Need-returns-3
 unfolding lengthOf linesOfReport linesPerReceptor
 returns-3 c =
-    let a = c .before .before .before .before .before .before .before .before .before .before .before .before .args in
+    let a = c .before .before .before .before .before .before .before .before .before .before .before .args in
     let room = rw (c .before .before .before .before .before .length-of .ensures) at (c .before .before .before .before .if1 .left) in
-    sheet-stops (now (a .deck)) (now (a .out)) _ (c .before .before .before .before .before .before .before .before .before .read .ensures .0) (c .before .before .before .before .before .before .before .enum-told .given .1) room _ (c .before .before .before .counts-of .ensures) _ _ _ _ (c .before .enum-told4 .given .1) (c .tell2 .ensures)
+    sheet-stops (now (a .deck)) (now (a .out)) _ (c .before .before .before .before .before .before .before .before .read .ensures .0) (c .before .before .before .before .before .before .enum-told .given .1) room _ (c .before .before .before .counts-of .ensures) _ _ _ _ (c .before .enum-told4 .given .1) (c .tell2 .ensures)
 
 write-rows-requires : tie.Need-write-rows-requires
 write-rows-requires c κs =
-    let a = c .before .before .before .before .before .before .before .before .before .before .before .before .before .before .before .args in
-    (few (now (a .deck)) (now (a .out)) _ (c .before .before .before .before .before .before .before .before .before .before .before .before .read .ensures .0) (c .before .before .before .before .before .before .before .before .before .before .enum-told .given .1), rw (c .before .before .before .before .before .before .before .before .length-of .ensures) at (c .before .before .before .before .before .before .before .if1 .left))
+    let a = c .before .before .before .before .before .before .before .before .before .before .before .before .before .before .args in
+    (few (now (a .deck)) (now (a .out)) _ (c .before .before .before .before .before .before .before .before .before .before .before .read .ensures .0) (c .before .before .before .before .before .before .before .before .before .enum-told .given .1), rw (c .before .before .before .before .before .before .before .before .length-of .ensures) at (c .before .before .before .before .before .before .before .if1 .left))
 
 same-length : tie.Need-same-length
 same-length c = search needs
@@ -69,10 +69,10 @@ same-length c = search needs
 returns-4 : tie.Need-returns-4
 unfolding lengthOf linesOfReport linesPerReceptor
 returns-4 c =
-    let a = c .before .before .before .before .before .before .before .before .before .before .before .before .before .before .before .before .before .before .args in
+    let a = c .before .before .before .before .before .before .before .before .before .before .before .before .before .before .before .before .before .args in
     let long = c .before .before .before .before .before .before .before .before .before .before .before .length-of .ensures in
     let room = rw long at (c .before .before .before .before .before .before .before .before .before .before .if1 .left) in
-    written (now (a .deck)) (now (a .out)) _ (c .before .before .before .before .before .before .before .before .before .before .before .before .before .before .before .read .ensures .0) (c .before .before .before .before .before .before .before .before .before .before .before .before .before .enum-told .given .1) room _ (c .before .before .before .before .before .before .before .before .before .counts-of .ensures) (c .before .before .before .before .before .before .before .enum-told3 .given .1) _ _ long (c .before .before .write-rows .ensures)
+    written (now (a .deck)) (now (a .out)) _ (c .before .before .before .before .before .before .before .before .before .before .before .before .before .before .read .ensures .0) (c .before .before .before .before .before .before .before .before .before .before .before .before .enum-told .given .1) room _ (c .before .before .before .before .before .before .before .before .before .counts-of .ensures) (c .before .before .before .before .before .before .before .enum-told3 .given .1) _ _ long (c .before .before .write-rows .ensures)
 
 pub report-spec : {M : Type 1} → statement M
 report-spec =
