@@ -16,9 +16,8 @@ use crate::ends::sum;
 use crate::ends::units;
 use crate::exponent::in_reach;
 use crate::exponent::within;
+use crate::rounding::figured;
 use crate::rounding::normal;
-use crate::rounding::off;
-use crate::rounding::surplus;
 ghost use mathlib.Core.Path.{_≡_};
 ghost use mathlib.Core.Bool.{true};
 ghost use Rattle.pair.specs.Number.{isPair};
@@ -196,10 +195,9 @@ impl Pair {
             let w = normal(significand, exponent);
             return answered(w, w);
         }
-        let k = surplus(significand);
         answered(
-            off(false, significand, k, exponent),
-            off(true, significand, k, exponent),
+            figured(false, significand, exponent),
+            figured(true, significand, exponent),
         )
     }
 

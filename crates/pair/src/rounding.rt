@@ -163,7 +163,7 @@ pub(crate) fn normal(m: u64, e: i32) -> Number
 }
 
 // How many figures beyond nine m has, which has ten to twelve.
-pub(crate) fn surplus(m: u64) -> usize
+fn surplus(m: u64) -> usize
     requires { ⌜ (1000000000 ≤ m) × (m ≤ 999999999999) ⌝ }
     ensures { λ r. ⌜ (r ≤ 3) × (100000000 * 10 ^ r ≤ m) × (m < 1000000000 * 10 ^ r) ⌝ }
 {
@@ -177,7 +177,7 @@ pub(crate) fn surplus(m: u64) -> usize
 }
 
 // m × 10^e, with k figures beyond nine, which are rounded off.
-pub(crate) fn off(up: bool, m: u64, k: usize, e: i32) -> Number
+fn off(up: bool, m: u64, k: usize, e: i32) -> Number
     requires { ⌜ (k ≤ 3) × (100000000 * 10 ^ k ≤ m) × (m < 1000000000 * 10 ^ k) ⌝ }
     requires { ⌜ mag e < 100000 ⌝ }
     ensures { λ r. ⌜ r ≡ rounded up m 1 e ⌝ }

@@ -58,24 +58,21 @@ returns-3 c =
     ∙ ap₂ ends (rw (toZ-ofZ (a .fits .exponent)) at (c .before .normal .ensures false)) (rw (toZ-ofZ (a .fits .exponent)) at (c .before .normal .ensures true))
     ∙ told-as (leb m mostPrinted && inReach e) (ends (rounded false m 1 e) (rounded true m 1 e)) (first-holds (leb m mostPrinted) (inReach e) true (le-leb m mostPrinted (omega arith)) (sym h))
 
-surplus-requires : tie.Need-surplus-requires
-surplus-requires c κs = search needs
+figured-requires : tie.Need-figured-requires
+figured-requires c κs =
+    let b = c .before in
+    let a = b .before .before .before in
+    let e = a .args .exponent in
+    let h : inReach e ≡ true = rw (toZ-ofZ (a .fits .exponent)) at (passed (b .before .in-reach .ensures) (b .if2 .left)) in
+    (omega arith, rw (toZ-ofZ (a .fits .exponent)) (reach-mag e h))
 
-off-requires : tie.Need-off-requires
-off-requires c κs =
+figured-requires-2 : tie.Need-figured-requires-2
+figured-requires-2 c κs =
     let b = c .before .before in
     let a = b .before .before .before in
     let e = a .args .exponent in
     let h : inReach e ≡ true = rw (toZ-ofZ (a .fits .exponent)) at (passed (b .before .in-reach .ensures) (b .if2 .left)) in
-    (c .surplus .ensures, rw (toZ-ofZ (a .fits .exponent)) (reach-mag e h))
-
-off-requires-2 : tie.Need-off-requires-2
-off-requires-2 c κs =
-    let b = c .before .before .before in
-    let a = b .before .before .before in
-    let e = a .args .exponent in
-    let h : inReach e ≡ true = rw (toZ-ofZ (a .fits .exponent)) at (passed (b .before .in-reach .ensures) (b .if2 .left)) in
-    (c .before .surplus .ensures, rw (toZ-ofZ (a .fits .exponent)) (reach-mag e h))
+    (omega arith, rw (toZ-ofZ (a .fits .exponent)) (reach-mag e h))
 
 answered-requires-2 : tie.Need-answered-requires-2
 answered-requires-2 c κs = search needs
@@ -83,13 +80,13 @@ answered-requires-2 c κs = search needs
 returns-4 : tie.Need-returns-4
 unfolding answer entry
 returns-4 c =
-    let b = c .before .before .before .before .before in
+    let b = c .before .before .before .before in
     let a = b .before .before .before in
     let m = a .args .significand in
     let e = a .args .exponent in
     let h : inReach e ≡ true = rw (toZ-ofZ (a .fits .exponent)) at (passed (b .before .in-reach .ensures) (b .if2 .left)) in
     c .answered2 .ensures
-    ∙ ap₂ ends (rw (toZ-ofZ (a .fits .exponent)) at (c .before .before .off .ensures)) (rw (toZ-ofZ (a .fits .exponent)) at (c .before .off2 .ensures))
+    ∙ ap₂ ends (rw (toZ-ofZ (a .fits .exponent)) at (c .before .before .figured .ensures)) (rw (toZ-ofZ (a .fits .exponent)) at (c .before .figured2 .ensures))
     ∙ told-as (leb m mostPrinted && inReach e) (ends (rounded false m 1 e) (rounded true m 1 e)) (first-holds (leb m mostPrinted) (inReach e) true (le-leb m mostPrinted (omega arith)) (sym h))
 
 pub entry-spec : {M : Type 1} → statement M
@@ -102,8 +99,7 @@ entry-spec =
     normal-requires
     answered-requires
     returns-3
-    surplus-requires
-    off-requires
-    off-requires-2
+    figured-requires
+    figured-requires-2
     answered-requires-2
     returns-4)
