@@ -18,8 +18,19 @@ use slots::SLOTS;
 ghost use mathlib.Core.Path.{_≡_};
 ghost use Prim.Native.Nat.{_<_};
 ghost use Rattle.deck.specs.Cases.{valueAt};
-ghost use Rattle.sheet.specs.Values.{pairOf, restOf, valuesOf, particlesOf};
+ghost use Rattle.pair.specs.Calls.{answer};
+ghost use Rattle.sheet.specs.Values.{orOne, pairOf, restOf, valuesOf, particlesOf};
 ghost use Rattle.sheet.specs.Inner.{rfdOf, csfOf, referencesOf};
+
+// What a call answered; 1 where it refused, which no value in its range meets.
+fn or_one(a: Answer) -> Pair
+    ensures { λ r. ⌜ r ≡ orOne (answer a) ⌝ }
+{
+    let Answer::Is(p) = a else {
+        return Pair::ONE;
+    };
+    p
+}
 
 // A printed value as a pair; a missing reference value reads as 1.
 fn pair_of(v: Value) -> Pair
@@ -28,10 +39,7 @@ fn pair_of(v: Value) -> Pair
     let Value::Printed { digits, power } = v else {
         return Pair::ONE;
     };
-    let Answer::Is(p) = Pair::entry(digits, power) else {
-        return Pair::ONE;
-    };
-    p
+    or_one(Pair::entry(digits, power))
 }
 
 // 1 less a printed value, from its digits.
@@ -41,10 +49,7 @@ fn rest_of(v: Value) -> Pair
     let Value::Printed { digits, power } = v else {
         return Pair::ZERO;
     };
-    let Answer::Is(p) = Pair::one_minus_entry(digits, power) else {
-        return Pair::ONE;
-    };
-    p
+    or_one(Pair::one_minus_entry(digits, power))
 }
 
 // 1 − Fv.

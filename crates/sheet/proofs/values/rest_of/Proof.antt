@@ -1,11 +1,11 @@
 -- What is printed is taken from 1; what is absent reads as 1, and leaves 0. Assumes nothing.
-use mathlib.Core.Path.{refl, sym, _∙_, ap}
+use mathlib.Core.Path.{refl, _∙_, ap}
 use borrow.Author.Needs.{needs}
-use Rattle.pair.specs.Number.{zero, one}
-use Rattle.pair.specs.Calls.{answer, zeroPair, onePair}
 use mir.Facts.{toZ-ofZ}
 use mir.Syntax.{w32}
 use mir.Val.{SFits}
+use Rattle.pair.specs.Number.{zero}
+use Rattle.pair.specs.Calls.{zeroPair}
 use Rattle.sheet.specs.Values.{orOne, restOf}
 use Rattle.sheet.proofs.values.rest_of.Statement.{statement}
 use Rattle.sheet.proofs.values.rest_of.Tie as tie
@@ -23,31 +23,15 @@ returns c = rw (c .enum-told .given .1) refl
 one-minus-entry-requires : tie.Need-one-minus-entry-requires
 one-minus-entry-requires c κs = search needs
 
-enum-known-p : tie.Need-enum-known-p
-enum-known-p c = search needs
-
-enum-told-2 : tie.Need-enum-told-2
-enum-told-2 c = search needs
+or-one-requires : tie.Need-or-one-requires
+or-one-requires c κs = search needs
 
 returns-2 : tie.Need-returns-2
-unfolding restOf orOne answer onePair one
-returns-2 c = let f : SFits w32 (c .before .before .before .before .v .given .0 .0) = search needs in
-    rw (c .before .before .before .before .v .given .1) (ap orOne (ap answer (sym (c .enum-told2 .given .1)) ∙ rw (toZ-ofZ f) at (c .before .before .one-minus-entry .ensures)))
-
-returns-3 : tie.Need-returns-3
-unfolding restOf orOne answer onePair one
-returns-3 c = let f : SFits w32 (c .before .before .before .before .before .v .given .0 .0) = search needs in
-    rw (c .before .before .before .before .before .v .given .1) (ap orOne (ap answer (sym (c .before .p .given .1)) ∙ rw (toZ-ofZ f) at (c .before .before .before .one-minus-entry .ensures)))
+unfolding restOf
+returns-2 c = let f : SFits w32 (c .before .before .before .v .given .0 .0) = search needs in
+    rw (c .before .before .before .v .given .1) (c .or-one .ensures ∙ ap orOne (rw (toZ-ofZ f) at (c .before .one-minus-entry .ensures)))
 
 pub rest-of-spec : {M : Type 1} → statement M
 rest-of-spec =
     tie.close
-    (tie.spec
-    enum-known-v
-    enum-told
-    returns
-    one-minus-entry-requires
-    enum-known-p
-    enum-told-2
-    returns-2
-    returns-3)
+    (tie.spec enum-known-v enum-told returns one-minus-entry-requires or-one-requires returns-2)
