@@ -9,7 +9,7 @@ use lib.IntN.{ℤ, pos, negsuc}
 use lib.Signed.{mag}
 use borrow.Author.Tests.{le-leb, lt-leb}
 use Rattle.pair.specs.Number as specs
-use Rattle.pair.specs.Number.{depth, place, lesser, rise, unitsAt, atMost, printed, one, value}
+use Rattle.pair.specs.Number.{depth, place, lesser, rise, unitsAt, atMost, asPrinted, one, value}
 use Rattle.pair.specs.Fraction.{rest}
 use Rattle.pair.specs.Rounding.{extra, divided, excessFrom, excess, carried, rounded, restEnd}
 use Rattle.pair.proofs.Alignment.{Small, rise-of, lesser-first, lesser-second, units-own, order-scaled}
@@ -30,21 +30,21 @@ pub places : (e : ℤ) (d : ℕ) → Small e → place e ≤ place (pos 0) → d
 places e d s h r = omega (arith, place-whole, rise-of s whole-small h)
 
 -- m × 10^e against 1, counted in the least unit
-share-scaled : (m : ℕ) (e : ℤ) → Small e → atMost (printed m e) one ≡ leb (m * 10 ^ place e) (10 ^ depth)
-share-scaled m e s = order-scaled (printed m e) one s one-small ∙ ap (leb (m * 10 ^ place e)) one-value
+share-scaled : (m : ℕ) (e : ℤ) → Small e → atMost (asPrinted m e) one ≡ leb (m * 10 ^ place e) (10 ^ depth)
+share-scaled m e s = order-scaled (asPrinted m e) one s one-small ∙ ap (leb (m * 10 ^ place e)) one-value
 
-pub share-from : (m : ℕ) (e : ℤ) → mag e < 100000 → m * 10 ^ place e ≤ 10 ^ depth → atMost (printed m e) one ≡ true
+pub share-from : (m : ℕ) (e : ℤ) → mag e < 100000 → m * 10 ^ place e ≤ 10 ^ depth → atMost (asPrinted m e) one ≡ true
 share-from m e s h = share-scaled m e (size-small s) ∙ le-leb (m * 10 ^ place e) (10 ^ depth) h
 
 -- above 1 where e is above 0
-pub share-above : (m : ℕ) (e : ℤ) → Small e → 0 < m → depth < place e → atMost (printed m e) one ≡ false
+pub share-above : (m : ℕ) (e : ℤ) → Small e → 0 < m → depth < place e → atMost (asPrinted m e) one ≡ false
 share-above m e s p h =
     share-scaled m e s
     ∙ lt-leb (m * 10 ^ place e) (10 ^ depth)
     (omega (arith, ten-rises {i = 1 + depth} {j = place e} (omega arith), ten-add 1 depth, ten-above depth, mul-le-mul-right {m = 1} {n = m} (10 ^ place e) p))
 
 -- with d places, at most 1 where m is at most 10^d
-pub share-is : (m d : ℕ) (e : ℤ) → Small e → d + place e ≡ depth → atMost (printed m e) one ≡ leb m (10 ^ d)
+pub share-is : (m d : ℕ) (e : ℤ) → Small e → d + place e ≡ depth → atMost (asPrinted m e) one ≡ leb m (10 ^ d)
 share-is m d e s h =
     share-scaled m e s
     ∙ sym
@@ -61,16 +61,16 @@ unfolding rounded carried divided extra excess excessFrom one
 rest-of-one true = refl
 rest-of-one false = refl
 
-pub rest-zero : (up : Bool) (m : ℕ) (e : ℤ) → mag e < 100000 → m ≡ 0 → rounded up 1 1 (pos 0) ≡ restEnd up (printed m e)
+pub rest-zero : (up : Bool) (m : ℕ) (e : ℤ) → mag e < 100000 → m ≡ 0 → rounded up 1 1 (pos 0) ≡ restEnd up (asPrinted m e)
 unfolding restEnd rest value
 rest-zero up m e s z =
     let none : m * 10 ^ place e ≡ 0 = ap (λ (n : ℕ). n * 10 ^ place e) z ∙ zero-mul (10 ^ place e) in
     let left : 10 ^ depth - m * 10 ^ place e ≡ 10 ^ depth = omega (arith, none) in
     rest-of-one up
-    ∙ sym (rounded-itself up (rest-ratio (printed m e) s) one one-number (record { across = rw (left, one-value) refl }))
+    ∙ sym (rounded-itself up (rest-ratio (asPrinted m e) s) one one-number (record { across = rw (left, one-value) refl }))
 
 -- by 1
-pub rest-one : (up : Bool) (m : ℕ) (e : ℤ) → Small e → 0 < m → depth ≤ place e → specs.zero ≡ restEnd up (printed m e)
+pub rest-one : (up : Bool) (m : ℕ) (e : ℤ) → Small e → 0 < m → depth ≤ place e → specs.zero ≡ restEnd up (asPrinted m e)
 unfolding restEnd unitsAt
 rest-one up m e s p h =
     let l : lesser e (pos 0) ≡ pos 0 = lesser-second s whole-small (omega (arith, place-whole)) in
@@ -81,12 +81,12 @@ rest-one up m e s p h =
     nought n z = unfold rounded in rw z refl
 
 -- with d places: 10^d − m units
-pub rest-below : (up : Bool) (m d : ℕ) (e : ℤ) → Small e → d + place e ≡ depth → rounded up (10 ^ d - m) 1 e ≡ restEnd up (printed m e)
+pub rest-below : (up : Bool) (m d : ℕ) (e : ℤ) → Small e → d + place e ≡ depth → rounded up (10 ^ d - m) 1 e ≡ restEnd up (asPrinted m e)
 unfolding restEnd
 rest-below up m d e s h =
     let l : lesser e (pos 0) ≡ e = lesser-first s whole-small (omega (arith, place-whole)) in
     let r : rise e (pos 0) ≡ d = omega (arith, place-whole, rise-of s whole-small (omega (arith, place-whole))) in
-    sym (rw (l, r) (ap (λ (x : ℕ). rounded up (10 ^ d - x) 1 e) (units-own (printed m e) s)))
+    sym (rw (l, r) (ap (λ (x : ℕ). rounded up (10 ^ d - x) 1 e) (units-own (asPrinted m e) s)))
 
 place-nine : place (negsuc 8) + 9 ≡ depth
 unfolding depth place
@@ -94,7 +94,7 @@ place-nine = refl
 
 -- as the code does it past twelve places: rounded at the ninth figure first, the other way
 pub rest-rounded : (up : Bool) (m d : ℕ) (e : ℤ) → Small e → d + place e ≡ depth → 12 < d → m ≤ 999999999999 →
-    rounded up (1000000000 - divided (not up) m (10 ^ (d - 9))) 1 (negsuc 8) ≡ restEnd up (printed m e)
+    rounded up (1000000000 - divided (not up) m (10 ^ (d - 9))) 1 (negsuc 8) ≡ restEnd up (asPrinted m e)
 rest-rounded up m d e s h far few =
     let g : ℕ = d - 9 in
     let tens : 10 ^ d ≡ 1000000000 * 10 ^ g = ap (λ (i : ℕ). 10 ^ i) (split far) ∙ ten-add 9 g in

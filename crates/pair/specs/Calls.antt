@@ -14,7 +14,7 @@ use Rattle.pair.specs.declared.Order.{Order}
 use Rattle.pair.specs.declared.Order.the-variants as Orders
 use Rattle.pair.specs.declared.Count.{Count}
 use Rattle.pair.specs.declared.Count.the-variants as Counts
-use Rattle.pair.specs.Number.{inReach, isZero, isNumber, isPair, atMost, printed, zero, one}
+use Rattle.pair.specs.Number.{inReach, isZero, isNumber, isPair, atMost, asPrinted, zero, one}
 use Rattle.pair.specs.Rounding.{rounded, sumEnd, productEnd, quotientEnd, restEnd, unitsEnd}
 
 -- what a call tells: a result, or the number of a refusal
@@ -66,8 +66,8 @@ entry m e = provided (leb m mostPrinted && inReach e) (ends (rounded false m 1 e
 -- 1 − m × 10^e, from the printed digits, so that it is rounded once
 unfoldable pub oneMinusEntry : ℕ → ℤ → Outcome Pair
 oneMinusEntry m e =
-    provided (leb m mostPrinted && (inReach e && atMost (printed m e) one))
-    (ends (restEnd false (printed m e)) (restEnd true (printed m e)))
+    provided (leb m mostPrinted && (inReach e && atMost (asPrinted m e) one))
+    (ends (restEnd false (asPrinted m e)) (restEnd true (asPrinted m e)))
 
 -- p + q
 unfoldable pub sum : Pair → Pair → Outcome Pair

@@ -31,8 +31,8 @@ unfoldable pub one : Number
 one = record { significand = 100000000; exponent = negsuc 7 }
 
 -- m × 10^e as printed: its digits may be more or fewer than nine
-abbrev pub printed : ℕ → ℤ → Number
-printed m e = record { significand = m; exponent = e }
+abbrev pub asPrinted : ℕ → ℤ → Number
+asPrinted m e = record { significand = m; exponent = e }
 
 -- Alignment: the lesser of two exponents, how far one lies above it, and a number counted in units of ten to that power
 unfoldable pub lesser : ℤ → ℤ → ℤ

@@ -18,7 +18,7 @@ ghost use mathlib.Core.Bool.{Bool, true, false};
 ghost use Prim.Native.Nat.{_+_, _-_, _*_, _^_, _≤_, _<_};
 ghost use lib.Dec.{ltb};
 ghost use lib.Signed.{mag, ltZ};
-ghost use Rattle.pair.specs.Number.{isNumber, inReach, atMost, printed, one};
+ghost use Rattle.pair.specs.Number.{isNumber, inReach, atMost, asPrinted, one};
 ghost use Rattle.pair.specs.Rounding.{rounded, sumEnd, productEnd, quotientEnd, restEnd, unitsEnd};
 
 pub(crate) fn is_number(w: Number) -> bool
@@ -142,7 +142,7 @@ pub(crate) fn sum(up: bool, a: Number, b: Number) -> Number
 pub(crate) fn is_share(m: u64, e: i32) -> bool
     requires { ⌜ m ≤ 999999999999 ⌝ }
     requires { ⌜ inReach e ≡ true ⌝ }
-    ensures { λ r. ⌜ r ≡ atMost (printed m e) one ⌝ }
+    ensures { λ r. ⌜ r ≡ atMost (asPrinted m e) one ⌝ }
 {
     if m == 0 {
         return true;
@@ -162,8 +162,8 @@ pub(crate) fn is_share(m: u64, e: i32) -> bool
 pub(crate) fn rest(up: bool, m: u64, e: i32) -> Number
     requires { ⌜ m ≤ 999999999999 ⌝ }
     requires { ⌜ inReach e ≡ true ⌝ }
-    requires { ⌜ atMost (printed m e) one ≡ true ⌝ }
-    ensures { λ r. ⌜ r ≡ restEnd up (printed m e) ⌝ }
+    requires { ⌜ atMost (asPrinted m e) one ≡ true ⌝ }
+    ensures { λ r. ⌜ r ≡ restEnd up (asPrinted m e) ⌝ }
 {
     if m == 0 {
         return normal(1, 0);

@@ -6,7 +6,7 @@ use lib.Dec.{leb}
 use mir.Facts.{toZ-ofZ}
 use borrow.Author.Needs.{needs}
 use borrow.Author.Tests.{le-leb, lt-leb}
-use Rattle.pair.specs.Number.{inReach, atMost, printed, one}
+use Rattle.pair.specs.Number.{inReach, atMost, asPrinted, one}
 use Rattle.pair.specs.Rounding.{restEnd}
 use Rattle.pair.specs.Calls.{answer, ends, mostPrinted, oneMinusEntry}
 use Rattle.pair.proofs.Providing.{first-fails, second-fails, first-holds, refused-as, told-as, failed, passed}
@@ -19,7 +19,7 @@ returns c =
     let a = c .before in
     let m = a .args .significand in
     let e = a .args .exponent in
-    let f = printed m e in
+    let f = asPrinted m e in
     refused-as (leb m mostPrinted && (inReach e && atMost f one)) (ends (restEnd false f) (restEnd true f)) (first-fails (leb m mostPrinted) (inReach e && atMost f one) (lt-leb m mostPrinted (c .if1 .taken)))
 
 in-reach-requires : tie.Need-in-reach-requires
@@ -31,7 +31,7 @@ returns-2 c =
     let a = c .before .before .before in
     let m = a .args .significand in
     let e = a .args .exponent in
-    let f = printed m e in
+    let f = asPrinted m e in
     let h : inReach e ≡ false = rw (toZ-ofZ (a .fits .exponent)) at (failed (c .before .in-reach .ensures) (c .if2 .taken)) in
     refused-as (leb m mostPrinted && (inReach e && atMost f one)) (ends (restEnd false f) (restEnd true f)) (second-fails (leb m mostPrinted) (inReach e && atMost f one) (sym (first-fails (inReach e) (atMost f one) h)))
 
@@ -48,7 +48,7 @@ returns-3 c =
     let a = c .before .before .before .before .before in
     let m = a .args .significand in
     let e = a .args .exponent in
-    let f = printed m e in
+    let f = asPrinted m e in
     let k : atMost f one ≡ false = rw (toZ-ofZ (a .fits .exponent)) at (failed (c .before .is-share .ensures) (c .if3 .taken)) in
     refused-as (leb m mostPrinted && (inReach e && atMost f one)) (ends (restEnd false f) (restEnd true f)) (second-fails (leb m mostPrinted) (inReach e && atMost f one) (sym (second-fails (inReach e) (atMost f one) k)))
 
@@ -58,7 +58,7 @@ rest-requires c κs =
     let a = b .before .before .before in
     let e = a .args .exponent in
     let h : inReach e ≡ true = rw (toZ-ofZ (a .fits .exponent)) at (passed (b .before .in-reach .ensures) (b .if2 .left)) in
-    let k : atMost (printed (a .args .significand) e) one ≡ true = rw (toZ-ofZ (a .fits .exponent)) at (passed (c .before .is-share .ensures) (c .if3 .left)) in
+    let k : atMost (asPrinted (a .args .significand) e) one ≡ true = rw (toZ-ofZ (a .fits .exponent)) at (passed (c .before .is-share .ensures) (c .if3 .left)) in
     (omega arith, (rw (toZ-ofZ (a .fits .exponent)) h, rw (toZ-ofZ (a .fits .exponent)) k))
 
 rest-requires-2 : tie.Need-rest-requires-2
@@ -68,7 +68,7 @@ rest-requires-2 c κs =
     let a = b .before .before .before in
     let e = a .args .exponent in
     let h : inReach e ≡ true = rw (toZ-ofZ (a .fits .exponent)) at (passed (b .before .in-reach .ensures) (b .if2 .left)) in
-    let k : atMost (printed (a .args .significand) e) one ≡ true = rw (toZ-ofZ (a .fits .exponent)) at (passed (d .before .is-share .ensures) (d .if3 .left)) in
+    let k : atMost (asPrinted (a .args .significand) e) one ≡ true = rw (toZ-ofZ (a .fits .exponent)) at (passed (d .before .is-share .ensures) (d .if3 .left)) in
     (omega arith, (rw (toZ-ofZ (a .fits .exponent)) h, rw (toZ-ofZ (a .fits .exponent)) k))
 
 answered-requires : tie.Need-answered-requires
@@ -82,7 +82,7 @@ returns-4 c =
     let a = b .before .before .before in
     let m = a .args .significand in
     let e = a .args .exponent in
-    let f = printed m e in
+    let f = asPrinted m e in
     let h : inReach e ≡ true = rw (toZ-ofZ (a .fits .exponent)) at (passed (b .before .in-reach .ensures) (b .if2 .left)) in
     let k : atMost f one ≡ true = rw (toZ-ofZ (a .fits .exponent)) at (passed (d .before .is-share .ensures) (d .if3 .left)) in
     c .answered .ensures

@@ -10,7 +10,7 @@ use lib.Signed.{ltZ}
 use mir.Facts.{toZ-ofZ}
 use borrow.Author.Needs.{needs}
 use borrow.Author.Tests.{le-leb}
-use Rattle.pair.specs.Number.{rise, printed, one}
+use Rattle.pair.specs.Number.{rise, asPrinted, one}
 use Rattle.pair.proofs.Alignment.{Small, less-place, not-less-place, order-zero-left}
 use Rattle.pair.proofs.ExactEnds.{place-whole, whole-small}
 use Rattle.pair.proofs.Numbers.{reach-mag, fits-minus}
@@ -21,7 +21,7 @@ use Rattle.pair.proofs.ends.is_share.Statement.{statement}
 use Rattle.pair.proofs.ends.is_share.Tie as tie
 
 returns : tie.Need-returns
-returns c = let a = c .before in sym (order-zero-left (printed (a .args .m) (a .args .e)) one (c .if1 .taken))
+returns c = let a = c .before in sym (order-zero-left (asPrinted (a .args .m) (a .args .e)) one (c .if1 .taken))
 
 less-requires : tie.Need-less-requires
 less-requires c κs = search needs

@@ -10,7 +10,7 @@ use lib.Signed.{ltZ}
 use mir.Facts.{toZ-ofZ}
 use borrow.Author.Needs.{needs}
 use borrow.Author.Tests.{leb-true}
-use Rattle.pair.specs.Number.{depth, place, rise, atMost, printed, one}
+use Rattle.pair.specs.Number.{depth, place, rise, atMost, asPrinted, one}
 use Rattle.pair.specs.Rounding.{divided}
 use Rattle.pair.proofs.Alignment.{Small, less-place, less-turned, not-less-place}
 use Rattle.pair.proofs.Dividing.{divided-most}
@@ -27,7 +27,7 @@ use Rattle.pair.proofs.ends.rest.Tie as tie
 below-one : (e : ℤ) → Small e → ltZ e (pos 0) ≡ true → place e ≤ place (pos 0)
 below-one e s t = let l : place e < place (pos 0) = less-place s whole-small t in omega arith
 
-digits : (m d : ℕ) (e : ℤ) → Small e → d + place e ≡ depth → atMost (printed m e) one ≡ true → m ≤ 10 ^ d
+digits : (m d : ℕ) (e : ℤ) → Small e → d + place e ≡ depth → atMost (asPrinted m e) one ≡ true → m ≤ 10 ^ d
 digits m d e s p h = leb-true m (10 ^ d) (sym (share-is m d e s p) ∙ h)
 
 -- what is taken away past twelve places
