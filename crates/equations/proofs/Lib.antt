@@ -1,7 +1,7 @@
 -- The crate's laws: every formula's pair reading is answered, holds the exact reading and is narrow. `LineLaws` is what the crates above
--- may count on, with `Limits`, `Rising` and `Tail`'s `term-is`. Assumes nothing.
-mod Nearness
-mod Profile
+-- may count on, with `Profile`, by which inputs are judged, `Limits`, `Rising` and `Tail`'s `term-is`. Assumes nothing.
+pub mod Nearness
+pub mod Profile
 mod FormulaLaws
 pub mod Tail
 mod SeriesLaws

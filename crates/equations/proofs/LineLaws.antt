@@ -3,7 +3,7 @@
 -- says. So are the media, the factors, the intakes and the lines, and a line's high end is at most its low end and one part in 5,000
 -- more. Assumes nothing.
 use mathlib.Core.Path.{_≡_, refl, sym, _∙_, ap, subst}
-use mathlib.Core.Bool.{Bool, true, false, _&&_, false≢true}
+use mathlib.Core.Bool.{Bool, true, false, _&&_}
 use Prim.Native.Nat.{ℕ, _*_, _^_, _≤_, _<_}
 use native.Mathlib.Nat.{mul-le-mul-right, le-of-mul-le-mul-right, one-le-pow}
 use native.Mathlib.Omega.{arith}
@@ -28,20 +28,30 @@ use Rattle.equations.specs.Series.{terms, pairSeries, exactSeries}
 use Rattle.equations.specs.Letters.{tD}
 use Rattle.equations.specs.Page as page
 use Rattle.equations.specs.Page.{x}
-use Rattle.equations.specs.Readings.{Inputs, letters, plain, asAnswers, worked, exactInputs, exactly}
-use Rattle.equations.specs.Ranges.{InRange, sixtyFour}
+use Rattle.equations.specs.Readings.{Inputs, letters, plain, asAnswers, worked, exactInputs, exactly, byOwner}
+use Rattle.equations.specs.Ranges.{sixtyFour}
 use Rattle.equations.proofs.Limits.{at-most-whole}
 use Rattle.equations.proofs.Nearness.{Near, near-more, spread}
-use Rattle.equations.proofs.Profile.{Profile, profiles, ofNumber, positives, usable, joined, Fits, Good, both, parts, good-around, good-number}
+use Rattle.equations.proofs.Profile.{Profile, profiles, ofNumber, positives, usable, joined, Fits, Good, both, parts, good-number}
 use Rattle.equations.proofs.FormulaLaws.{profile, reads-good}
 use Rattle.equations.proofs.SeriesLaws.{seriesProfile, series-good}
 
--- the profile of a slot, and of 1 less it
+-- The profile of a slot. A site's or a chemical's value is printed: 0 or from 10^−20 to 10^20, and entered one part wide. A receptor's may be
+-- a mean over life stages: what eight printed values and their years give by the rule.
 unfoldable pub ofSlot : Slot → Profile
-ofSlot s = record { size = 20; width = 1; positive = neverZero s; answered = true }
+ofSlot s = record { size = byOwner (ownerOf s) 20 20 76; width = byOwner (ownerOf s) 1 1 35; positive = neverZero s; answered = true }
+
+-- 1 less it is taken from what is printed, where the slot is at most 1 and no receptor's, which twelve digits leave 0 or at least 10^−12
+unfoldable pub ofRest : Slot → Profile
+ofRest s = record { size = 12; width = 1; positive = false; answered = byOwner (ownerOf s) (atMostOne s) (atMostOne s) false }
 
 unfoldable pub ofSlots : Inputs Profile
-ofSlots = record { value = ofSlot; rest = λ s. record { size = 12; width = 1; positive = false; answered = atMostOne s } }
+ofSlots = record { value = ofSlot; rest = ofRest }
+
+-- An input in range: its pair is as its slot's profile says and holds the exact value; so is 1 less it, where it is taken.
+pub record InRange (s : Slot) (env : Inputs Pair) (v : Fraction) : Type 0 where
+  pub value : Good (ofSlot s) (is (env .value s)) v
+  pub rest : ofRest s .answered ≡ true → Good (ofRest s) (is (env .rest s)) (exact.rest v)
 
 -- an answered pair of this size and width
 abbrev pub answeredAs : ℕ → ℕ → Bool → Profile
@@ -52,14 +62,14 @@ unfoldable pub ofX : Profile
 ofX = plain profiles ofSlot x
 
 pub x-profile : ofX ≡ answeredAs 215 40 false
-unfolding ofX plain read profiles letters x page.k page.u page.kse page.ksr page.ksl ofNumber joined joint spread positives usable ofSlot table same isIn placeIn entryRule ruleAt ownerOf placeOf ruleOf neverZero atMostOne
+unfolding ofX plain read profiles letters x page.k page.u page.kse page.ksr page.ksl ofNumber joined joint spread positives usable ofSlot byOwner table same isIn placeIn entryRule ruleAt ownerOf placeOf ruleOf neverZero atMostOne
 x-profile = refl
 
 -- whether the profiles of a line say that it is answered and narrow, from φ's
 lineCheck : Profile → Effect → Pathway → Bool
 lineCheck P e p =
     let f : Profile = profile (letters ofSlots P) (page.line e p) in
-    f .answered && leb (f .width) 11400
+    f .answered && leb (f .width) 11600
 
 -- the profile of φ, and of a formula
 unfoldable pub ofPhi : Profile
@@ -78,7 +88,7 @@ phi-profile = ap seriesProfile x-profile ∙ series-profile
 
 -- The profiles of the lines, and with them of all that stands in a line.
 line-computed : (e : Effect) (p : Pathway) → lineCheck (answeredAs 57387 11225 true) e p ≡ true
-unfolding lineCheck profile read profiles letters page.line page.figureBy page.intake page.intakeBy page.factor page.medium page.byMedium page.exposure page.B page.AT page.reference page.referenceSlot page.byRoute page.A page.C page.D page.g page.aboveGround page.belowGround x page.k page.u page.kse page.ksr page.ksl ofNumber joined joint spread positives usable ofSlots ofSlot table same isIn placeIn entryRule ruleAt ownerOf placeOf ruleOf neverZero atMostOne
+unfolding lineCheck profile read profiles letters page.line page.figureBy page.intake page.intakeBy page.factor page.medium page.byMedium page.exposure page.B page.AT page.reference page.referenceSlot page.byRoute page.A page.C page.D page.g page.aboveGround page.belowGround x page.k page.u page.kse page.ksr page.ksl ofNumber joined joint spread positives usable ofSlots ofSlot ofRest byOwner table same isIn placeIn entryRule ruleAt ownerOf placeOf ruleOf neverZero atMostOne
 line-computed Hazard Air = refl
 line-computed Hazard SoilSummer = refl
 line-computed Hazard SoilWinter = refl
@@ -92,13 +102,13 @@ line-computed Cancer Skin = refl
 line-computed Cancer AboveGround = refl
 line-computed Cancer BelowGround = refl
 
-line-checked : (e : Effect) (p : Pathway) → (ofFormula (page.line e p) .answered ≡ true) × (ofFormula (page.line e p) .width ≤ 11400)
+line-checked : (e : Effect) (p : Pathway) → (ofFormula (page.line e p) .answered ≡ true) × (ofFormula (page.line e p) .width ≤ 11600)
 unfolding ofFormula lineCheck
 line-checked e p =
     let c : lineCheck ofPhi e p ≡ true = rw phi-profile (line-computed e p) in
     let f : Profile = profile (letters ofSlots ofPhi) (page.line e p) in
-    let t = both (f .answered) (leb (f .width) 11400) c in
-    (t .0, leb-true (f .width) 11400 (t .1))
+    let t = both (f .answered) (leb (f .width) 11600) c in
+    (t .0, leb-true (f .width) 11600 (t .1))
 
 intake-checked : (e : Effect) (p : Pathway) → ofFormula (page.intake e p) .answered ≡ true
 unfolding page.line page.figureBy ofFormula profile read profiles
@@ -137,25 +147,12 @@ sixty-four : (p : Pair) → value (p .high) ≤ᶠ value sixtyFour → value (p 
 unfolding sixtyFour
 sixty-four p h = at-most-whole 64 (record { low = sixtyFour; high = sixtyFour }) (lit≤ tt) sixty-four-entry (p .high) .0 h
 
--- Inputs in range are pairs that fit their slots' profiles.
 module _ (env : Inputs Pair) (vals : Slot → Fraction) (inputs : (s : Slot) → InRange s env (vals s)) where
-  slot-good : (s : Slot) → Good (ofSlot s) (is (env .value s)) (vals s)
-  unfolding ofSlot
-  slot-good s =
-      let t = inputs s .value in
-      good-around (ofSlot s) (vals s) (env .value s) (t .proper) (t .around) (t .sized) (lit≤ tt) refl (inputs s .above)
-
-  rest-good : (s : Slot) → ofSlots .rest s .answered ≡ true → Good (ofSlots .rest s) (is (env .rest s)) (exact.rest (vals s))
-  unfolding ofSlots
-  rest-good s h =
-      let t = inputs s .rest h in
-      good-around (ofSlots .rest s) (exact.rest (vals s)) (env .rest s) (t .proper) (t .around) (t .sized) (lit≤ tt) refl (λ z. absurd (false≢true z))
-
   letter-good : (P : Profile) (o : Outcome Pair) (v : Fraction) → (P .answered ≡ true → Good P o v) → (l : Letter) →
       letters ofSlots P l .answered ≡ true → Good (letters ofSlots P l) (letters (asAnswers env) o l) (letters (exactInputs vals) v l)
   unfolding letters asAnswers exactInputs ofSlots
-  letter-good P o v g (slot s) h = slot-good s
-  letter-good P o v g (rest s) h = rest-good s h
+  letter-good P o v g (slot s) h = inputs s .value
+  letter-good P o v g (rest s) h = inputs s .rest h
   letter-good P o v g phi h = g h
 
   -- a formula without φ and 1 − is read alike, whatever stands for them
@@ -239,10 +236,10 @@ module _ (env : Inputs Pair) (vals : Slot → Fraction) (inputs : (s : Slot) →
     belowGround-works = medium-works BelowGround
 
 -- A line's high end is at most its low end and one part in 5,000 more.
-few-parts : (u v : Number) (w : ℕ) → w ≤ 11400 → Near w (value u) (value v) → 5000 * value u .num ≤ 5001 * value v .num
+few-parts : (u v : Number) (w : ℕ) → w ≤ 11600 → Near w (value u) (value v) → 5000 * value u .num ≤ 5001 * value v .num
 unfolding value
 few-parts u v w l h =
-    cancel (value u .num) (value v .num) (10 ^ depth) (100000000 ^ 11400) (100000001 ^ 11400) (near-more l h .across) (lit≤ tt) (one-le-pow depth 10 (lit< tt)) (one-le-pow 11400 100000000 (lit< tt))
+    cancel (value u .num) (value v .num) (10 ^ depth) (100000000 ^ 11600) (100000001 ^ 11600) (near-more l h .across) (lit≤ tt) (one-le-pow depth 10 (lit< tt)) (one-le-pow 11600 100000000 (lit< tt))
   where
     cancel : (a b d m n : ℕ) → a * d * m ≤ b * d * n → n * 5000 ≤ m * 5001 → 0 < d → 0 < m → 5000 * a ≤ 5001 * b
     cancel a b d m n p q s t =
