@@ -16,9 +16,10 @@ use Rattle.deck.specs.Parts.{leading, linesOf, lineOf, fieldIn, fieldOf}
 use Rattle.deck.specs.Numbers.{digitsValue, unspaced, exponentSpelled, powerOf, digitsRead, maxDigits, endedOf, pointedOf, spelledOf, loneDash, wordOf}
 use Rattle.deck.specs.Kinds.{kindOf, S1, C1, R1, kinds, rulesIn, rulesOf}
 use Rattle.deck.specs.Ranges.{above, below, inRange, valueAtLeast, valueAtMost}
-use Rattle.slots.specs.Slots.{fieldsPerLine, unused, lineRules, ruleAt, ruleOf, ownerOf, placeOf}
+use Rattle.slots.specs.Slots.{fieldsPerLine, unused, lineRules, ruleAt, ruleFor, ownerOf, placeOf}
 use Rattle.slots.specs.declared.Owner.{Owner}
 use Rattle.slots.specs.declared.Owner.the-variants.{Site, Chemical, Receptor}
+use Rattle.slots.specs.declared.Sort.{Sort}
 use Rattle.slots.proofs.Laws.{places, place-rule, inside}
 use Rattle.deck.specs.Conditions.{at, first, upTo, fieldConditions, fieldAt, misspelled, misplaced, outOfRange, countOf, conditions}
 use Rattle.deck.specs.Cases.{tabulate, valueOf, noSlot, slotSpelled, noRecord, recordOf, recordsOf, caseWith, caseOf, valueAt, chemicalAt, receptorAt, ownersRecord, printed}
@@ -173,74 +174,74 @@ head Site = S1
 head Chemical = C1
 head Receptor = R1
 
-kind-rules : (o : Owner) (n : ℕ) → 6 * n < places o → rulesOf (head o + n) ≡ lineRules o n
+kind-rules : (sort : Sort) (o : Owner) (n : ℕ) → 6 * n < places o → rulesOf sort (head o + n) ≡ lineRules sort o n
 unfolding head places rulesOf rulesIn kinds
-kind-rules Site zero h = refl
-kind-rules Site (suc zero) h = refl
-kind-rules Site (suc (suc n)) h = absurd (omega arith)
-kind-rules Chemical zero h = refl
-kind-rules Chemical (suc zero) h = refl
-kind-rules Chemical (suc (suc zero)) h = refl
-kind-rules Chemical (suc (suc (suc zero))) h = refl
-kind-rules Chemical (suc (suc (suc (suc n)))) h = absurd (omega arith)
-kind-rules Receptor zero h = refl
-kind-rules Receptor (suc zero) h = refl
-kind-rules Receptor (suc (suc zero)) h = refl
-kind-rules Receptor (suc (suc (suc zero))) h = refl
-kind-rules Receptor (suc (suc (suc (suc n)))) h = absurd (omega arith)
+kind-rules sort Site zero h = refl
+kind-rules sort Site (suc zero) h = refl
+kind-rules sort Site (suc (suc n)) h = absurd (omega arith)
+kind-rules sort Chemical zero h = refl
+kind-rules sort Chemical (suc zero) h = refl
+kind-rules sort Chemical (suc (suc zero)) h = refl
+kind-rules sort Chemical (suc (suc (suc zero))) h = refl
+kind-rules sort Chemical (suc (suc (suc (suc n)))) h = absurd (omega arith)
+kind-rules sort Receptor zero h = refl
+kind-rules sort Receptor (suc zero) h = refl
+kind-rules sort Receptor (suc (suc zero)) h = refl
+kind-rules sort Receptor (suc (suc (suc zero))) h = refl
+kind-rules sort Receptor (suc (suc (suc (suc n)))) h = absurd (omega arith)
 
-slot-rule : (o : Owner) (k : ℕ) → k < places o → getD (rulesOf (head o + k / 6)) (k % 6) unused ≡ ruleAt o k
-slot-rule o k h = ap (λ (rs : List Rule). getD rs (k % 6) unused) (kind-rules o (k / 6) (omega arith)) ∙ place-rule o k
+slot-rule : (sort : Sort) (o : Owner) (k : ℕ) → k < places o → getD (rulesOf sort (head o + k / 6)) (k % 6) unused ≡ ruleAt sort o k
+slot-rule sort o k h = ap (λ (rs : List Rule). getD rs (k % 6) unused) (kind-rules sort o (k / 6) (omega arith)) ∙ place-rule sort o k
 
 -- ---- the law
-module _ (deck : List ℕ) (e : first (conditions deck) ≡ Read) where
+module _ (sort : Sort) (deck : List ℕ) (e : first (conditions sort deck) ≡ Read) where
   -- slot k of an owner's record that begins at line n
   slot-fits : (o : Owner) (n k : ℕ) → k < places o → 1 ≤ n → n + k / 6 ≤ linesOf deck → kindOf (lineOf deck (n + k / 6)) ≡ head o + k / 6
-      → Fits (ruleAt o k) (slotSpelled deck n k .value)
+      → Fits (ruleAt sort o k) (slotSpelled deck n k .value)
   unfolding slotSpelled fieldOf fieldAt
   slot-fits o n k p s h q =
       let m = n + k / 6 - 1 in
       let l = lineOf deck (n + k / 6) in
       let line : lineOf deck (suc m) ≡ l = ap (lineOf deck) (omega arith) in
-      let r = subst (λ (x : List ℕ). first (upTo (fieldAt (kindOf x) x (suc m)) fieldsPerLine) ≡ Read) line (line-facts deck e m (omega arith) .fields) in
-      let f = upTo-each (fieldAt (kindOf l) l (suc m)) 6 r (k % 6) (mod-lt k (lit< tt)) in
+      let r = subst (λ (x : List ℕ). first (upTo (fieldAt sort (kindOf x) x (suc m)) fieldsPerLine) ≡ Read) line (line-facts sort deck e m (omega arith) .fields) in
+      let f = upTo-each (fieldAt sort (kindOf l) l (suc m)) 6 r (k % 6) (mod-lt k (lit< tt)) in
       let i : suc (k % 6) - 1 ≡ k % 6 = omega arith in
-      let rule : getD (rulesOf (kindOf l)) (suc (k % 6) - 1) unused ≡ ruleAt o k =
-      ap (λ (x : ℕ). getD (rulesOf (kindOf l)) x unused) i ∙ ap (λ (x : ℕ). getD (rulesOf x) (k % 6) unused) q ∙ slot-rule o k p in
+      let rule : getD (rulesOf sort (kindOf l)) (suc (k % 6) - 1) unused ≡ ruleAt sort o k =
+      ap (λ (x : ℕ). getD (rulesOf sort (kindOf l)) x unused) i ∙ ap (λ (x : ℕ). getD (rulesOf sort x) (k % 6) unused) q ∙ slot-rule sort o k p in
       subst (λ (x : Rule). Fits x (valueOf (wordOf (fieldIn l (k % 6 + 1))))) rule
-      (subst (λ (x : ℕ). Fits (getD (rulesOf (kindOf l)) (suc (k % 6) - 1) unused) (valueOf (wordOf (fieldIn l x)))) (omega arith)
-      (field-fits (getD (rulesOf (kindOf l)) (suc (k % 6) - 1) unused) (wordOf (fieldIn l (suc (k % 6)))) (suc m) (suc (k % 6)) (word-small (fieldIn l (suc (k % 6)))) f))
+      (subst (λ (x : ℕ). Fits (getD (rulesOf sort (kindOf l)) (suc (k % 6) - 1) unused) (valueOf (wordOf (fieldIn l x)))) (omega arith)
+      (field-fits (getD (rulesOf sort (kindOf l)) (suc (k % 6) - 1) unused) (wordOf (fieldIn l (suc (k % 6)))) (suc m) (suc (k % 6)) (word-small (fieldIn l (suc (k % 6)))) f))
 
   value-fits : (o : Owner) (n k lines : ℕ) → k < places o → k < lines * 6 → 1 ≤ n → n + k / 6 ≤ linesOf deck → kindOf (lineOf deck (n + k / 6)) ≡ head o + k / 6
-      → (r : Record) → r ≡ recordOf deck n lines → Fits (ruleAt o k) (valueAt r k)
+      → (r : Record) → r ≡ recordOf deck n lines → Fits (ruleAt sort o k) (valueAt r k)
   unfolding valueAt
   value-fits o n k lines p b s h q r g =
-      subst (λ (x : Filled). Fits (ruleAt o k) (x .value)) (sym (ap (λ (x : Record). getD (x .slots) k noSlot) g ∙ record-slot deck n lines k b))
+      subst (λ (x : Filled). Fits (ruleAt sort o k) (x .value)) (sym (ap (λ (x : Record). getD (x .slots) k noSlot) g ∙ record-slot deck n lines k b))
       (slot-fits o n k p s h q)
 
   owner-fits : (o : Owner) (j i k : ℕ) → j < countOf deck R1 (linesOf deck) → i < countOf deck C1 (linesOf deck) → k < places o
-      → Fits (ruleAt o k) (valueAt (ownersRecord o (caseOf deck) j i) k)
+      → Fits (ruleAt sort o k) (valueAt (ownersRecord o (caseOf deck) j i) k)
   unfolding head places caseOf caseWith ownersRecord chemicalAt receptorAt
   owner-fits Site j i k h l p =
-      value-fits Site 1 k 2 p p (omega arith) (omega (arith, lines-are deck e)) (kind-site deck e (k / 6) (omega arith)) _ refl
+      value-fits Site 1 k 2 p p (omega arith) (omega (arith, lines-are sort deck e)) (kind-site sort deck e (k / 6) (omega arith)) _ refl
   owner-fits Chemical j i k h l p =
-      value-fits Chemical (3 + 4 * i) k 4 p p (omega arith) (omega (arith, lines-are deck e)) (kind-chemical deck e i (k / 6) l (omega arith))
+      value-fits Chemical (3 + 4 * i) k 4 p p (omega arith) (omega (arith, lines-are sort deck e)) (kind-chemical sort deck e i (k / 6) l (omega arith))
       _ (record-at deck 3 (countOf deck C1 (linesOf deck)) 16 i l)
   owner-fits Receptor j i k h l p =
       let m = countOf deck C1 (linesOf deck) in
-      value-fits Receptor (3 + 4 * m + 4 * j) k 4 p p (omega arith) (omega (arith, lines-are deck e)) (kind-receptor deck e j (k / 6) h (omega arith))
-      _ (record-at deck (3 + 4 * m) (countOf deck R1 (linesOf deck)) 4 j h)
+      value-fits Receptor (3 + 4 * m + 4 * j) k 4 p p (omega arith) (omega (arith, lines-are sort deck e)) (kind-receptor sort deck e j (k / 6) h (omega arith))
+      _ (record-at deck (3 + 4 * m) (countOf deck R1 (linesOf deck)) 8 j h)
 
 -- the case of every deck that is read
-pub accepted : (deck : List ℕ) → first (conditions deck) ≡ Read → Ranged (caseOf deck)
-unfolding caseOf caseWith printed ruleOf
-accepted deck e =
+pub accepted : (sort : Sort) (deck : List ℕ) → first (conditions sort deck) ≡ Read → Ranged sort (caseOf deck)
+unfolding caseOf caseWith printed ruleFor
+accepted sort deck e =
     record {
-      some-chemicals = counts deck e .0 .0;
-      few-chemicals = counts deck e .0 .1;
-      some-receptors = counts deck e .1 .0;
-      few-receptors = counts deck e .1 .1;
-      fits = λ j i h l s. owner-fits deck e (ownerOf s) j i (placeOf s) h l (inside s);
+      some-chemicals = counts sort deck e .0 .0;
+      few-chemicals = counts sort deck e .0 .1;
+      some-receptors = counts sort deck e .1 .0;
+      few-receptors = counts sort deck e .1 .1;
+      fits = λ j i h l s. owner-fits sort deck e (ownerOf s) j i (placeOf s) h l (inside s);
     }
 
 -- ---- what a value in range gives the equations

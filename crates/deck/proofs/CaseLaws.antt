@@ -114,14 +114,14 @@ records-are deck n count room i xs p q f =
 
 pub no-case-is : (r : Record) → r ≡ noRecord
     → _≡_ {A = Case}
-    (record { site = r; chemicals = record { count = 0; records = replicate 16 r }; receptors = record { count = 0; records = replicate 4 r } })
+    (record { site = r; chemicals = record { count = 0; records = replicate 16 r }; receptors = record { count = 0; records = replicate 8 r } })
     noCase
 unfolding noCase
 no-case-is r e =
-    ap (λ (x : Record). record { site = x; chemicals = record { count = 0; records = replicate 16 x }; receptors = record { count = 0; records = replicate 4 x } }) e
+    ap (λ (x : Record). record { site = x; chemicals = record { count = 0; records = replicate 16 x }; receptors = record { count = 0; records = replicate 8 x } }) e
 
 pub case-is : (deck : List ℕ) (m n : ℕ) (site : Record) (cs rs : List Record) → site ≡ recordOf deck 1 2 → cs ≡ recordsOf deck 3 m 16
-    → rs ≡ recordsOf deck (3 + 4 * m) n 4
+    → rs ≡ recordsOf deck (3 + 4 * m) n 8
     → _≡_ {A = Case}
     (record { site = site; chemicals = record { count = m; records = cs }; receptors = record { count = n; records = rs } })
     (caseWith deck m n)

@@ -7,6 +7,7 @@ use Prim.Native.Nat.{ℕ}
 use Rattle.deck.specs.Conditions.{Condition, first, NoneHolds, conditions}
 use Rattle.deck.specs.Cases.{readOf}
 use Rattle.deck.specs.declared.Status.the-variants.{Read, Stopped}
+use Rattle.slots.specs.declared.Sort.{Sort}
 use Rattle.deck.proofs.Scan.{first-read}
 
 pub read-none : (cs : List Condition) → first cs ≡ Read → NoneHolds cs
@@ -19,6 +20,7 @@ none-read [] n = refl
 none-read (c ∷ cs) n =
     ap (λ (b : Bool). cond b (Stopped (c .number) (c .line) (c .field)) (first cs)) (n .0) ∙ none-read cs (n .1)
 
-pub read-exactly : (deck : List ℕ) → (readOf deck .status ≡ Read → NoneHolds (conditions deck)) × (NoneHolds (conditions deck) → readOf deck .status ≡ Read)
+pub read-exactly : (sort : Sort) (deck : List ℕ)
+    → (readOf sort deck .status ≡ Read → NoneHolds (conditions sort deck)) × (NoneHolds (conditions sort deck) → readOf sort deck .status ≡ Read)
 unfolding readOf
-read-exactly deck = (read-none (conditions deck), none-read (conditions deck))
+read-exactly sort deck = (read-none (conditions sort deck), none-read (conditions sort deck))

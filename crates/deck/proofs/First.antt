@@ -16,6 +16,7 @@ use Rattle.deck.specs.Ranges.{inRange}
 use Rattle.slots.specs.Slots.{unused}
 use Rattle.deck.specs.Conditions.{Condition, first, upTo, fieldConditions, misspelled, misplaced, outOfRange, fieldAt}
 use Rattle.slots.specs.declared.Rule.{Rule}
+use Rattle.slots.specs.declared.Sort.{Sort}
 use Rattle.deck.specs.declared.Status.{Status}
 use Rattle.deck.specs.declared.Status.the-variants.{Read, Stopped}
 use Rattle.deck.specs.declared.Word.{Word}
@@ -97,8 +98,17 @@ module _ (rule : Rule) (w : Word) (n f : ℕ) where
   unfolding first fieldConditions misspelled misplaced outOfRange
   field-later d p e u = rw (e, u)
 
+-- field f of line n by the rules of its line
+unfoldable pub fieldBy : List Rule → List ℕ → ℕ → ℕ → List Condition
+fieldBy rules line n f = fieldConditions (getD rules (f - 1) unused) (wordOf (fieldIn line f)) n f
+
 -- the field that the code reads is the one that the list has
-pub field-turn : (kind n f : ℕ) (line part : List ℕ) (rules : List Rule) (s : Status) → rules ≡ rulesOf kind → part ≡ fieldIn line (f + 1)
-    → s ≡ first (fieldConditions (getD rules f unused) (wordOf part) n (f + 1)) → s ≡ first (fieldAt kind line n (f + 1))
-unfolding fieldAt
-field-turn kind n f line part rules s r p e = rw (← r, ← p, add-sub-cancel f 1) e
+pub field-turn : (n f : ℕ) (line part : List ℕ) (rules : List Rule) (s : Status) → part ≡ fieldIn line (f + 1)
+    → s ≡ first (fieldConditions (getD rules f unused) (wordOf part) n (f + 1)) → s ≡ first (fieldBy rules line n (f + 1))
+unfolding fieldBy
+field-turn n f line part rules s p e = rw (← p, add-sub-cancel f 1) e
+
+pub fields-by : (sort : Sort) (kind n : ℕ) (line : List ℕ) (rules : List Rule) → rules ≡ rulesOf sort kind
+    → (k : ℕ) → first (upTo (fieldBy rules line n) k) ≡ first (upTo (fieldAt sort kind line n) k)
+unfolding fieldAt fieldBy
+fields-by sort kind n line rules e k = ap (λ (rs : List Rule). first (upTo (fieldBy rs line n) k)) e

@@ -9,8 +9,9 @@ use borrow.Author.Tests.{eq-eqb, ne-eqb, not-true, not-false}
 use lib.Dec.{leb, eqb}
 use lib.ListN.{length, getD, take, drop}
 use Rattle.deck.specs.Parts.{leading}
-use Rattle.deck.specs.Kinds.{kindOf, S1, S2, C1, C2, C3, C4, R1, R2, R3, R4, EN, kindOrder, befores, among}
+use Rattle.deck.specs.Kinds.{kindOf, maxReceptors, S1, S2, C1, C2, C3, C4, R1, R2, R3, R4, EN, kindOrder, befores, among}
 use Rattle.slots.specs.Slots.{fieldsPerLine}
+use Rattle.slots.specs.declared.Sort.{Sort}
 use Rattle.deck.specs.Conditions.{first, upTo, fieldAt, badBytes, badKind, begins, idOf, sameLetter, wrongId, badId, lineConditionsAfter}
 use Rattle.deck.specs.declared.Status.{Status}
 use Rattle.deck.specs.declared.Status.the-variants.{Stopped}
@@ -49,21 +50,21 @@ unfolding badBytes
 bytes-feed line n e h = simp (sym e ∙ h)
 
 -- ---- 21
-module _ (before kind chemicals receptors : ℕ) (r : Bool) (e : r ≡ among before (befores kindOrder kind)) where
-  pub kind-out : not r ≡ true → true ≡ badKind before kind chemicals receptors
+module _ (sort : Sort) (before kind chemicals receptors : ℕ) (r : Bool) (e : r ≡ among before (befores kindOrder kind)) where
+  pub kind-out : not r ≡ true → true ≡ badKind sort before kind chemicals receptors
   unfolding badKind
   kind-out h = simp (sym e ∙ not-true r h)
 
-  pub kind-chemical : not r ≡ false → kind ≡ C1 → leb 16 chemicals ≡ badKind before kind chemicals receptors
+  pub kind-chemical : not r ≡ false → kind ≡ C1 → leb 16 chemicals ≡ badKind sort before kind chemicals receptors
   unfolding badKind
   kind-chemical h k =
       simp (sym e ∙ not-false r h, eq-eqb kind C1 k, ne-eqb kind R1 (λ q. omega arith), or-false)
 
-  pub kind-receptor : not r ≡ false → (kind ≡ C1 → ⊥) → kind ≡ R1 → leb 4 receptors ≡ badKind before kind chemicals receptors
+  pub kind-receptor : not r ≡ false → (kind ≡ C1 → ⊥) → kind ≡ R1 → (m : ℕ) → m ≡ maxReceptors sort → leb m receptors ≡ badKind sort before kind chemicals receptors
   unfolding badKind
-  kind-receptor h n k = simp (sym e ∙ not-false r h, ne-eqb kind C1 n, eq-eqb kind R1 k)
+  kind-receptor h n k m q = simp (sym e ∙ not-false r h, ne-eqb kind C1 n, eq-eqb kind R1 k) (ap (λ (x : ℕ). leb x receptors) q)
 
-  pub kind-other : not r ≡ false → (kind ≡ C1 → ⊥) → (kind ≡ R1 → ⊥) → false ≡ badKind before kind chemicals receptors
+  pub kind-other : not r ≡ false → (kind ≡ C1 → ⊥) → (kind ≡ R1 → ⊥) → false ≡ badKind sort before kind chemicals receptors
   unfolding badKind
   kind-other h n m = simp (sym e ∙ not-false r h, ne-eqb kind C1 n, ne-eqb kind R1 m)
 
@@ -96,16 +97,16 @@ module _ (before idBefore kind : ℕ) (line : List ℕ) where
   other-id h id e r f = simp (ne-eqb kind EN h) (f ∙ ap (wrongId before idBefore kind) e)
 
 -- ---- a line
-module _ (before idBefore chemicals receptors n kind : ℕ) (line : List ℕ) (k : kind ≡ kindOf line) where
-  pub line-bytes : (r : Bool) → r ≡ badBytes line → r ≡ true → Stopped 12 n 0 ≡ first (lineConditionsAfter before idBefore chemicals receptors line n)
+module _ (sort : Sort) (before idBefore chemicals receptors n kind : ℕ) (line : List ℕ) (k : kind ≡ kindOf line) where
+  pub line-bytes : (r : Bool) → r ≡ badBytes line → r ≡ true → Stopped 12 n 0 ≡ first (lineConditionsAfter sort before idBefore chemicals receptors line n)
   unfolding first lineConditionsAfter
   line-bytes r e h = simp (sym e ∙ h)
 
-  module _ (r : Bool) (e : r ≡ badBytes line) (h : r ≡ false) (q : Bool) (f : q ≡ badKind before kind chemicals receptors) where
-    kind-is : q ≡ badKind before (kindOf line) chemicals receptors
-    kind-is = f ∙ ap (λ (m : ℕ). badKind before m chemicals receptors) k
+  module _ (r : Bool) (e : r ≡ badBytes line) (h : r ≡ false) (q : Bool) (f : q ≡ badKind sort before kind chemicals receptors) where
+    kind-is : q ≡ badKind sort before (kindOf line) chemicals receptors
+    kind-is = f ∙ ap (λ (m : ℕ). badKind sort before m chemicals receptors) k
 
-    pub line-kind : q ≡ true → Stopped 21 n 0 ≡ first (lineConditionsAfter before idBefore chemicals receptors line n)
+    pub line-kind : q ≡ true → Stopped 21 n 0 ≡ first (lineConditionsAfter sort before idBefore chemicals receptors line n)
     unfolding first lineConditionsAfter
     line-kind g = simp (sym e ∙ h, sym kind-is ∙ g)
 
@@ -113,14 +114,14 @@ module _ (before idBefore chemicals receptors n kind : ℕ) (line : List ℕ) (k
       id-is : p ≡ badId before idBefore (kindOf line) line
       id-is = i ∙ ap (λ (m : ℕ). badId before idBefore m line) k
 
-      pub line-id : p ≡ true → Stopped 22 n 0 ≡ first (lineConditionsAfter before idBefore chemicals receptors line n)
+      pub line-id : p ≡ true → Stopped 22 n 0 ≡ first (lineConditionsAfter sort before idBefore chemicals receptors line n)
       unfolding first lineConditionsAfter
       line-id j = simp (sym e ∙ h, sym kind-is ∙ g, sym id-is ∙ j)
 
-      pub line-fields : p ≡ false → (s : Status) → s ≡ first (upTo (fieldAt kind line n) fieldsPerLine)
-          → s ≡ first (lineConditionsAfter before idBefore chemicals receptors line n)
+      pub line-fields : p ≡ false → (s : Status) → s ≡ first (upTo (fieldAt sort kind line n) fieldsPerLine)
+          → s ≡ first (lineConditionsAfter sort before idBefore chemicals receptors line n)
       unfolding first lineConditionsAfter
-      line-fields j s t = simp (sym e ∙ h, sym kind-is ∙ g, sym id-is ∙ j) (t ∙ ap (λ (m : ℕ). first (upTo (fieldAt m line n) fieldsPerLine)) k)
+      line-fields j s t = simp (sym e ∙ h, sym kind-is ∙ g, sym id-is ∙ j) (t ∙ ap (λ (m : ℕ). first (upTo (fieldAt sort m line n) fieldsPerLine)) k)
 
 -- ---- the lines before, with one more
 pub count-more : (kind k n : ℕ) → kind ≡ k → n + 1 ≡ cond (eqb kind k) (suc n) n

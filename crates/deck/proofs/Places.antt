@@ -10,8 +10,9 @@ use mathlib.Core.List.{List, [], _∷_, _++_}
 use borrow.Author.Tests.{eqb-true, not-false}
 use lib.Dec.{eqb, leb}
 use Rattle.deck.specs.Parts.{linesOf, lineOf, within}
-use Rattle.deck.specs.Kinds.{Follows, _after_, kindOf, start, S1, S2, C1, C2, C3, C4, R1, R2, R3, R4, EN, kindOrder, befores, among}
+use Rattle.deck.specs.Kinds.{Follows, _after_, kindOf, maxReceptors, start, S1, S2, C1, C2, C3, C4, R1, R2, R3, R4, EN, kindOrder, befores, among}
 use Rattle.deck.specs.Conditions.{Condition, at, first, upTo, badKind, badLength, noEnd, idOf, countOf, lineConditionsAfter, lineConditions, conditions}
+use Rattle.slots.specs.declared.Sort.{Sort}
 use Rattle.deck.specs.declared.Status.{Status}
 use Rattle.deck.specs.declared.Status.the-variants.{Read, Stopped}
 use Rattle.deck.proofs.First.{orElse, first-append}
@@ -83,31 +84,31 @@ phase k =
 abbrev by-phase : ℕ → ℕ → ℕ → ℕ → ℕ
 by-phase k site chemical receptor = cond (eqb (phase k) 0) site (cond (eqb (phase k) 1) chemical receptor)
 
--- where line n of kind k stands, after c chemicals and r receptors began
-record Shape (n k c r : ℕ) : Type 0 where
+-- where line n of kind k stands, after c chemicals and r receptors began, of which there may be most
+record Shape (most n k c r : ℕ) : Type 0 where
   place : n + 4 ≡ off k + 4 * c + 4 * r
   low : 3 ≤ off k
   c-low : by-phase k 0 1 1 ≤ c
   c-high : c ≤ by-phase k 0 16 16
   r-low : by-phase k 0 0 1 ≤ r
-  r-high : r ≤ by-phase k 0 0 4
+  r-high : r ≤ by-phase k 0 0 most
 
 -- what each row of the order tells of a kind b and the kind a before it
-record Known (a b : ℕ) : Type 0 where
+record Known (most a b : ℕ) : Type 0 where
   -- from a line to the next
-  step : (n c r : ℕ) → Shape n a c r → cond (eqb b C1) (suc c) c ≤ 16 → cond (eqb b R1) (suc r) r ≤ 4
-      → Shape (suc n) b (cond (eqb b C1) (suc c) c) (cond (eqb b R1) (suc r) r)
+  step : (n c r : ℕ) → Shape most n a c r → cond (eqb b C1) (suc c) c ≤ 16 → cond (eqb b R1) (suc r) r ≤ most
+      → Shape most (suc n) b (cond (eqb b C1) (suc c) c) (cond (eqb b R1) (suc r) r)
   -- nothing follows EN
   last : a ≡ EN → ⊥
   -- the kind at a place
-  site : (n c r j : ℕ) → Shape n b c r → n ≡ 1 + j → j < 2 → b ≡ S1 + j
-  chemical : (n c r i j : ℕ) → Shape n b c r → r ≡ 0 → n ≡ 3 + 4 * i + j → j < 4 → b ≡ C1 + j
-  early : (n c r m : ℕ) → Shape n b c r → r ≡ 0 → c ≤ m → 3 + 4 * m ≤ n → ⊥
-  receptor : (n c r i j : ℕ) → Shape n b c r → 1 ≤ r → n ≡ 3 + 4 * c + 4 * i + j → j < 4 → (b ≡ EN → ⊥) → b ≡ R1 + j
+  site : (n c r j : ℕ) → Shape most n b c r → n ≡ 1 + j → j < 2 → b ≡ S1 + j
+  chemical : (n c r i j : ℕ) → Shape most n b c r → r ≡ 0 → n ≡ 3 + 4 * i + j → j < 4 → b ≡ C1 + j
+  early : (n c r m : ℕ) → Shape most n b c r → r ≡ 0 → c ≤ m → 3 + 4 * m ≤ n → ⊥
+  receptor : (n c r i j : ℕ) → Shape most n b c r → 1 ≤ r → n ≡ 3 + 4 * c + 4 * i + j → j < 4 → (b ≡ EN → ⊥) → b ≡ R1 + j
 
-known-rows : Rows Known kindOrder
+known-rows : (most : ℕ) → Rows (Known most) kindOrder
 unfolding kindOrder
-known-rows = (
+known-rows most = (
   (omega arith, tt),
   (
     (omega arith, tt),
@@ -127,8 +128,8 @@ known-rows = (
   ),
 )
 
-known : (a b : ℕ) → among a (befores kindOrder b) ≡ true → Known a b
-known a b h = rows-hold Known kindOrder a b known-rows h
+known : (most a b : ℕ) → among a (befores kindOrder b) ≡ true → Known most a b
+known most a b h = rows-hold (Known most) kindOrder a b (known-rows most) h
 
 -- ---- counts only grow
 grown : (t : Bool) (c : ℕ) → c ≤ cond t (suc c) c
@@ -142,10 +143,10 @@ count-grows deck k n (suc j) =
     rw add-suc
     (omega (arith, count-grows deck k n j, grown (eqb (kindOf (lineOf deck (suc (n + j)))) k) (countOf deck k (n + j))))
 
-pub may-follow : (before kind c r : ℕ) → badKind before kind c r ≡ false → among before (befores kindOrder kind) ≡ true
+pub may-follow : (sort : Sort) (before kind c r : ℕ) → badKind sort before kind c r ≡ false → among before (befores kindOrder kind) ≡ true
 unfolding badKind
-may-follow before kind c r e =
-    let a = neither (not (among before (befores kindOrder kind)) || eqb kind C1 && leb 16 c) (eqb kind R1 && leb 4 r) e in
+may-follow sort before kind c r e =
+    let a = neither (not (among before (befores kindOrder kind)) || eqb kind C1 && leb 16 c) (eqb kind R1 && leb (maxReceptors sort) r) e in
     let b = neither (not (among before (befores kindOrder kind))) (eqb kind C1 && leb 16 c) (a .0) in
     not-false (among before (befores kindOrder kind)) (b .0)
 
@@ -159,55 +160,55 @@ phases′ p c true u h = omega arith
 phases′ p c false true h = omega arith
 phases′ p c false false h = h
 
-all-few : {n k c r : ℕ} → Shape n k c r → (c ≤ 16) × (r ≤ 4)
-all-few {n} {k} {c} {r} s = (phases 16 c (eqb (phase k) 0) (eqb (phase k) 1) (s .c-high), phases′ 4 r (eqb (phase k) 0) (eqb (phase k) 1) (s .r-high))
+all-few : {most n k c r : ℕ} → Shape most n k c r → (c ≤ 16) × (r ≤ most)
+all-few {most} {n} {k} {c} {r} s = (phases 16 c (eqb (phase k) 0) (eqb (phase k) 1) (s .c-high), phases′ most r (eqb (phase k) 0) (eqb (phase k) 1) (s .r-high))
 
 -- ---- an accepted deck
-module _ (deck : List ℕ) (e : first (conditions deck) ≡ Read) where
-  parts : (badLength deck ≡ false) × ((first (upTo (lineConditions deck) (linesOf deck)) ≡ Read) × (noEnd deck ≡ false))
+module _ (sort : Sort) (deck : List ℕ) (e : first (conditions sort deck) ≡ Read) where
+  parts : (badLength sort deck ≡ false) × ((first (upTo (lineConditions sort deck) (linesOf deck)) ≡ Read) × (noEnd deck ≡ false))
   unfolding conditions
   parts =
-      let a = first-read (at 11 0 0 (badLength deck)) (upTo (lineConditions deck) (linesOf deck) ++ (at 21 (linesOf deck + 1) 0 (noEnd deck) ∷ [])) e in
-      let b = append-read (upTo (lineConditions deck) (linesOf deck)) (at 21 (linesOf deck + 1) 0 (noEnd deck) ∷ []) (a .1) in
+      let a = first-read (at 11 0 0 (badLength sort deck)) (upTo (lineConditions sort deck) (linesOf deck) ++ (at 21 (linesOf deck + 1) 0 (noEnd deck) ∷ [])) e in
+      let b = append-read (upTo (lineConditions sort deck) (linesOf deck)) (at 21 (linesOf deck + 1) 0 (noEnd deck) ∷ []) (a .1) in
       (a .0, (b .0, first-read (at 21 (linesOf deck + 1) 0 (noEnd deck)) [] (b .1) .0))
 
   pub line-facts : (n : ℕ) → n < linesOf deck
-      → LineRead (kindOf (lineOf deck n)) (idOf (lineOf deck n)) (countOf deck C1 n) (countOf deck R1 n) (suc n) (lineOf deck (suc n))
+      → LineRead sort (kindOf (lineOf deck n)) (idOf (lineOf deck n)) (countOf deck C1 n) (countOf deck R1 n) (suc n) (lineOf deck (suc n))
   unfolding lineConditions
   line-facts n h =
-      line-read _ _ _ _ (suc n) (lineOf deck (suc n))
+      line-read sort _ _ _ _ (suc n) (lineOf deck (suc n))
       (subst
       (λ (m : ℕ).
       first
-      (lineConditionsAfter (kindOf (lineOf deck m)) (idOf (lineOf deck m)) (countOf deck C1 m) (countOf deck R1 m)
+      (lineConditionsAfter sort (kindOf (lineOf deck m)) (idOf (lineOf deck m)) (countOf deck C1 m) (countOf deck R1 m)
       (lineOf deck (suc n)) (suc n))
       ≡ Read)
-      (omega arith) (upTo-each (lineConditions deck) (linesOf deck) (parts .1 .0) n h))
+      (omega arith) (upTo-each (lineConditions sort deck) (linesOf deck) (parts .1 .0) n h))
 
-  follows : (n : ℕ) → n < linesOf deck → Known (kindOf (lineOf deck n)) (kindOf (lineOf deck (suc n)))
-  follows n h = known _ _ (may-follow _ _ _ _ (line-facts n h .kind))
+  follows : (n : ℕ) → n < linesOf deck → Known (maxReceptors sort) (kindOf (lineOf deck n)) (kindOf (lineOf deck (suc n)))
+  follows n h = known _ _ _ (may-follow sort _ _ _ _ (line-facts n h .kind))
 
   first-kind : kindOf (lineOf deck 0) ≡ start
   unfolding kindOf lineOf within
   first-kind = refl
 
-  shape-at : (n : ℕ) → n ≤ linesOf deck → Shape n (kindOf (lineOf deck n)) (countOf deck C1 n) (countOf deck R1 n)
+  shape-at : (n : ℕ) → n ≤ linesOf deck → Shape (maxReceptors sort) n (kindOf (lineOf deck n)) (countOf deck C1 n) (countOf deck R1 n)
   unfolding countOf
-  shape-at zero h = subst (λ (k : ℕ). Shape 0 k 0 0) (sym first-kind) (omega arith)
+  shape-at zero h = subst (λ (k : ℕ). Shape (maxReceptors sort) 0 k 0 0) (sym first-kind) (omega arith)
   shape-at (suc n) h =
       let s = shape-at n (omega arith) in
       follows n h .step n (countOf deck C1 n) (countOf deck R1 n) s
-      (few-chemicals _ _ _ _ (line-facts n h .kind) (all-few s .0))
-      (few-receptors _ _ _ _ (line-facts n h .kind) (all-few s .1))
+      (few-chemicals sort _ _ _ _ (line-facts n h .kind) (all-few s .0))
+      (few-receptors sort _ _ _ _ (line-facts n h .kind) (all-few s .1))
 
   end-kind : kindOf (lineOf deck (linesOf deck)) ≡ EN
   unfolding noEnd
   end-kind = eqb-true _ _ (not-false _ (parts .1 .1))
 
-  end-place : Shape (linesOf deck) EN (countOf deck C1 (linesOf deck)) (countOf deck R1 (linesOf deck))
-  end-place = subst (λ (k : ℕ). Shape (linesOf deck) k (countOf deck C1 (linesOf deck)) (countOf deck R1 (linesOf deck))) end-kind (shape-at (linesOf deck) (le-refl (linesOf deck)))
+  end-place : Shape (maxReceptors sort) (linesOf deck) EN (countOf deck C1 (linesOf deck)) (countOf deck R1 (linesOf deck))
+  end-place = subst (λ (k : ℕ). Shape (maxReceptors sort) (linesOf deck) k (countOf deck C1 (linesOf deck)) (countOf deck R1 (linesOf deck))) end-kind (shape-at (linesOf deck) (le-refl (linesOf deck)))
 
-  pub counts : ((1 ≤ countOf deck C1 (linesOf deck)) × (countOf deck C1 (linesOf deck) ≤ 16)) × ((1 ≤ countOf deck R1 (linesOf deck)) × (countOf deck R1 (linesOf deck) ≤ 4))
+  pub counts : ((1 ≤ countOf deck C1 (linesOf deck)) × (countOf deck C1 (linesOf deck) ≤ 16)) × ((1 ≤ countOf deck R1 (linesOf deck)) × (countOf deck R1 (linesOf deck) ≤ maxReceptors sort))
   counts = let s = end-place in ((s .c-low, s .c-high), (s .r-low, s .r-high))
 
   pub lines-are : linesOf deck ≡ 3 + 4 * countOf deck C1 (linesOf deck) + 4 * countOf deck R1 (linesOf deck)
@@ -224,8 +225,8 @@ module _ (deck : List ℕ) (e : first (conditions deck) ≡ Read) where
   kept-if : (n : ℕ) (t : Bool) → suc n ≤ linesOf deck → 1 ≤ countOf deck R1 (suc n) → eqb (kindOf (lineOf deck (suc n))) C1 ≡ t
       → cond t (suc (countOf deck C1 n)) (countOf deck C1 n) ≡ countOf deck C1 n
   kept-if n true h p e =
-      let s : Shape (suc n) C1 (countOf deck C1 (suc n)) (countOf deck R1 (suc n)) =
-      subst (λ (k : ℕ). Shape (suc n) k (countOf deck C1 (suc n)) (countOf deck R1 (suc n))) (eqb-true _ _ e) (shape-at (suc n) h) in
+      let s : Shape (maxReceptors sort) (suc n) C1 (countOf deck C1 (suc n)) (countOf deck R1 (suc n)) =
+      subst (λ (k : ℕ). Shape (maxReceptors sort) (suc n) k (countOf deck C1 (suc n)) (countOf deck R1 (suc n))) (eqb-true _ _ e) (shape-at (suc n) h) in
       absurd (omega (arith, s .r-high))
   kept-if n false h p e = refl
 

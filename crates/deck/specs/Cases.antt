@@ -5,11 +5,12 @@ use mathlib.Core.List.{List, [], _∷_, _++_}
 use lib.ListN.{getD, replicate}
 use Rattle.deck.specs.Parts.{linesOf, lineOf, fieldOf}
 use Rattle.deck.specs.Numbers.{wordOf}
-use Rattle.deck.specs.Kinds.{C1, R1, maxChemicals, maxReceptors, siteLines, recordLines}
+use Rattle.deck.specs.Kinds.{C1, R1, maxChemicals, mostReceptors, siteLines, recordLines}
 use Rattle.deck.specs.Conditions.{first, conditions, countOf, idOf}
 use Rattle.slots.specs.Slots.{Slot, fieldsPerLine, ownerOf, placeOf}
 use Rattle.slots.specs.declared.Owner.{Owner}
 use Rattle.slots.specs.declared.Owner.the-variants.{Site, Chemical, Receptor}
+use Rattle.slots.specs.declared.Sort.{Sort}
 use Rattle.deck.specs.declared.Word.{Word}
 use Rattle.deck.specs.declared.Word.the-variants.{Blank, Dash, Number, Other}
 use Rattle.deck.specs.declared.Value.{Value}
@@ -69,7 +70,7 @@ caseWith deck chemicals receptors =
     record {
       site = recordOf deck 1 siteLines;
       chemicals = record { count = chemicals; records = recordsOf deck chemicalsStart chemicals maxChemicals };
-      receptors = record { count = receptors; records = recordsOf deck (chemicalsStart + recordLines * chemicals) receptors maxReceptors };
+      receptors = record { count = receptors; records = recordsOf deck (chemicalsStart + recordLines * chemicals) receptors mostReceptors };
     }
 
 -- chemicals and receptors are counted by their first lines
@@ -82,7 +83,7 @@ noCase =
     record {
       site = noRecord;
       chemicals = record { count = 0; records = replicate maxChemicals noRecord };
-      receptors = record { count = 0; records = replicate maxReceptors noRecord };
+      receptors = record { count = 0; records = replicate mostReceptors noRecord };
     }
 
 -- ---- what is printed, by name
@@ -112,8 +113,8 @@ caseFor Read deck = caseOf deck
 caseFor (Stopped number line field) deck = noCase
 
 -- the first condition met, or the case
-unfoldable pub readOf : List ℕ → Reading
-readOf deck = record { status = first (conditions deck); case = caseFor (first (conditions deck)) deck }
+unfoldable pub readOf : Sort → List ℕ → Reading
+readOf sort deck = record { status = first (conditions sort deck); case = caseFor (first (conditions sort deck)) deck }
 
 -- number, line and field as document 01 tells them; all 0 where the deck is read
 unfoldable pub toldOf : Status → Told

@@ -1,5 +1,5 @@
--- Where a deck stops (document 01): the conditions 11 to 33 as one ordered list. The answer is the first that holds, and a deck is read
--- exactly where none holds. Later stages append their own conditions to this list.
+-- Where a deck stops (document 01): the conditions 11 to 33 as one ordered list, for a deck of either sort. The answer is the first that
+-- holds, and a deck is read exactly where none holds. Later stages append their own conditions to this list.
 -- Assumes nothing.
 use mathlib.Core.Path.{_≡_}
 use Prim.Native.Nat.{ℕ, zero, suc, _+_, _*_, _-_, _/_, _%_}
@@ -13,6 +13,7 @@ use Rattle.deck.specs.Kinds.{kindOf, S1, C1, R1, EN, maxChemicals, maxRe
 use Rattle.deck.specs.Ranges.{inRange}
 use Rattle.slots.specs.Slots.{fieldsPerLine, unused}
 use Rattle.slots.specs.declared.Rule.{Rule}
+use Rattle.slots.specs.declared.Sort.{Sort}
 use Rattle.deck.specs.declared.Status.{Status}
 use Rattle.deck.specs.declared.Status.the-variants.{Read, Stopped}
 use Rattle.deck.specs.declared.Word.{Word}
@@ -67,8 +68,8 @@ unfoldable pub fieldConditions : Rule → Word → ℕ → ℕ → List Conditio
 fieldConditions rule word n f = at 31 n f (misspelled word) ∷ at 32 n f (misplaced rule word) ∷ at 33 n f (outOfRange rule word) ∷ []
 
 -- field f of line n, which is of this kind
-unfoldable pub fieldAt : ℕ → List ℕ → ℕ → ℕ → List Condition
-fieldAt kind line n f = fieldConditions (getD (rulesOf kind) (f - 1) unused) (wordOf (fieldIn line f)) n f
+unfoldable pub fieldAt : Sort → ℕ → List ℕ → ℕ → ℕ → List Condition
+fieldAt sort kind line n f = fieldConditions (getD (rulesOf sort kind) (f - 1) unused) (wordOf (fieldIn line f)) n f
 
 -- ---- a line: 12, 21, 22, then its fields from the left
 -- byte 81 no line feed, or another byte outside 32-126
@@ -76,11 +77,11 @@ unfoldable pub badBytes : List ℕ → Bool
 badBytes line = not (eqb (leading 32 126 line) 80 && eqb (getD line 80 0) 10)
 
 -- a kind that cannot come next; chemicals and receptors are those that began before
-unfoldable pub badKind : ℕ → ℕ → ℕ → ℕ → Bool
-badKind before kind chemicals receptors =
+unfoldable pub badKind : Sort → ℕ → ℕ → ℕ → ℕ → Bool
+badKind sort before kind chemicals receptors =
     not (among before (befores kindOrder kind))
     || eqb kind C1 && leb maxChemicals chemicals
-    || eqb kind R1 && leb maxReceptors receptors
+    || eqb kind R1 && leb (maxReceptors sort) receptors
 
 -- the first line of a record
 unfoldable pub begins : ℕ → Bool
@@ -103,12 +104,12 @@ unfoldable pub badId : ℕ → ℕ → ℕ → List ℕ → Bool
 badId before idBefore kind line = cond (eqb kind EN) (not (eqb (leading 32 32 (drop 2 line)) 78)) (wrongId before idBefore kind (idOf line))
 
 -- line n, after a line of kind before with id idBefore
-unfoldable pub lineConditionsAfter : ℕ → ℕ → ℕ → ℕ → List ℕ → ℕ → List Condition
-lineConditionsAfter before idBefore chemicals receptors line n =
+unfoldable pub lineConditionsAfter : Sort → ℕ → ℕ → ℕ → ℕ → List ℕ → ℕ → List Condition
+lineConditionsAfter sort before idBefore chemicals receptors line n =
     at 12 n 0 (badBytes line)
-    ∷ at 21 n 0 (badKind before (kindOf line) chemicals receptors)
+    ∷ at 21 n 0 (badKind sort before (kindOf line) chemicals receptors)
     ∷ at 22 n 0 (badId before idBefore (kindOf line) line)
-    ∷ upTo (fieldAt (kindOf line) line n) fieldsPerLine
+    ∷ upTo (fieldAt sort (kindOf line) line n) fieldsPerLine
 
 -- ---- the deck
 -- how many of the lines 1 to n have this kind
@@ -116,25 +117,25 @@ unfoldable pub countOf : List ℕ → ℕ → ℕ → ℕ
 countOf deck kind zero = 0
 countOf deck kind (suc n) = cond (eqb (kindOf (lineOf deck (suc n))) kind) (suc (countOf deck kind n)) (countOf deck kind n)
 
-unfoldable pub lineConditions : List ℕ → ℕ → List Condition
-lineConditions deck n =
-    lineConditionsAfter (kindOf (lineOf deck (n - 1))) (idOf (lineOf deck (n - 1))) (countOf deck C1 (n - 1)) (countOf deck R1 (n - 1))
+unfoldable pub lineConditions : Sort → List ℕ → ℕ → List Condition
+lineConditions sort deck n =
+    lineConditionsAfter sort (kindOf (lineOf deck (n - 1))) (idOf (lineOf deck (n - 1))) (countOf deck C1 (n - 1)) (countOf deck R1 (n - 1))
     (lineOf deck n) n
 
--- the site, all chemicals and receptors, and EN: 6,723 bytes
-abbrev pub maxLength : ℕ
-maxLength = deckLineWidth * (siteLines + recordLines * (maxChemicals + maxReceptors) + 1)
+-- the site, all chemicals and receptors, and EN: 6,723 bytes, or a composite's 8,019
+abbrev pub maxLength : Sort → ℕ
+maxLength sort = deckLineWidth * (siteLines + recordLines * (maxChemicals + maxReceptors sort) + 1)
 
--- length 0, above 6,723, or no multiple of 81
-unfoldable pub badLength : List ℕ → Bool
-badLength deck = eqb (length deck) 0 || ltb maxLength (length deck) || not (eqb (length deck % deckLineWidth) 0)
+-- length 0, above the most, or no multiple of 81
+unfoldable pub badLength : Sort → List ℕ → Bool
+badLength sort deck = eqb (length deck) 0 || ltb (maxLength sort) (length deck) || not (eqb (length deck % deckLineWidth) 0)
 
 -- no EN at the deck's end, told as the line past the last
 unfoldable pub noEnd : List ℕ → Bool
 noEnd deck = not (eqb (kindOf (lineOf deck (linesOf deck))) EN)
 
-unfoldable pub conditions : List ℕ → List Condition
-conditions deck =
-    at 11 0 0 (badLength deck)
-    ∷ upTo (lineConditions deck) (linesOf deck)
+unfoldable pub conditions : Sort → List ℕ → List Condition
+conditions sort deck =
+    at 11 0 0 (badLength sort deck)
+    ∷ upTo (lineConditions sort deck) (linesOf deck)
     ++ (at 21 (linesOf deck + 1) 0 (noEnd deck) ∷ [])

@@ -9,6 +9,8 @@ use Rattle.slots.specs.Slots.{unused, lineRules}
 use Rattle.slots.specs.declared.Owner.{Owner}
 use Rattle.slots.specs.declared.Owner.the-variants.{Site, Chemical, Receptor}
 use Rattle.slots.specs.declared.Rule.{Rule}
+use Rattle.slots.specs.declared.Sort.{Sort}
+use Rattle.slots.specs.declared.Sort.the-variants.{Ordinary, Composite}
 
 -- A kind is columns 1-2 as one number: 256 × the first byte + the second.
 unfoldable pub kindOf : List ℕ → ℕ
@@ -51,12 +53,17 @@ R4 = 256 * 82 + 52
 abbrev pub EN : ℕ
 EN = 256 * 69 + 78
 
--- How many chemicals and receptors a deck may have.
+-- How many chemicals and receptors a deck may have; a composite's has more receptors, the life stages of one person (document 02, P2).
 abbrev pub maxChemicals : ℕ
 maxChemicals = 16
 
-abbrev pub maxReceptors : ℕ
-maxReceptors = 4
+abbrev pub maxReceptors : Sort → ℕ
+maxReceptors Ordinary = 4
+maxReceptors Composite = 8
+
+-- the room for them in a case, which has one shape for both sorts
+abbrev pub mostReceptors : ℕ
+mostReceptors = maxReceptors Composite
 
 -- lines of the site's record, and of a chemical's or a receptor's
 abbrev pub siteLines : ℕ
@@ -119,9 +126,9 @@ kinds =
     ∷ []
 
 -- the rules of a line's fields, by its kind; a kind of no record, as EN, has later slots alone
-unfoldable pub rulesIn : List Belongs → ℕ → List Rule
-rulesIn [] kind = unused ∷ unused ∷ unused ∷ unused ∷ unused ∷ unused ∷ []
-rulesIn ((k isLine n of owner) ∷ rest) kind = cond (eqb kind k) (lineRules owner n) (rulesIn rest kind)
+unfoldable pub rulesIn : Sort → List Belongs → ℕ → List Rule
+rulesIn sort [] kind = unused ∷ unused ∷ unused ∷ unused ∷ unused ∷ unused ∷ []
+rulesIn sort ((k isLine n of owner) ∷ rest) kind = cond (eqb kind k) (lineRules sort owner n) (rulesIn sort rest kind)
 
-unfoldable pub rulesOf : ℕ → List Rule
-rulesOf kind = rulesIn kinds kind
+unfoldable pub rulesOf : Sort → ℕ → List Rule
+rulesOf sort kind = rulesIn sort kinds kind

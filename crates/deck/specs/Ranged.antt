@@ -1,11 +1,13 @@
--- A case in range (document 01, "Deck"): one to sixteen chemicals, one to four receptors, and each slot, by its name, as its rule asks.
+-- A case in range (document 01, "Deck"): one to sixteen chemicals, one to four receptors (a composite's deck: to eight), and each slot, by its name,
+-- as its rule in a deck of this sort asks.
 -- Assumes nothing.
 use mathlib.Core.Path.{_≡_}
 use Prim.Native.Nat.{ℕ, _≤_, _<_}
 use mathlib.Core.Bool.{true, not, _||_}
 use lib.IntN.{ℤ}
-use Rattle.slots.specs.Slots.{Slot, ruleOf}
+use Rattle.slots.specs.Slots.{Slot, ruleFor}
 use Rattle.slots.specs.declared.Rule.{Rule}
+use Rattle.slots.specs.declared.Sort.{Sort}
 use Rattle.deck.specs.Kinds.{maxChemicals, maxReceptors}
 use Rattle.deck.specs.Ranges.{above, below, inRange}
 use Rattle.deck.specs.Cases.{printed}
@@ -25,9 +27,9 @@ Fits rule Absent = (rule .dash || not (rule .used)) ≡ true
 Fits rule (Printed power digits) = (rule .used ≡ true) × (inRange rule digits power ≡ true) × Spelled digits power
 
 -- for each receptor j and chemical i, from 0
-pub record Ranged (case : Case) : Type 0 where
+pub record Ranged (sort : Sort) (case : Case) : Type 0 where
   pub some-chemicals : 1 ≤ case .chemicals .count
   pub few-chemicals : case .chemicals .count ≤ maxChemicals
   pub some-receptors : 1 ≤ case .receptors .count
-  pub few-receptors : case .receptors .count ≤ maxReceptors
-  pub fits : (j i : ℕ) → j < case .receptors .count → i < case .chemicals .count → (s : Slot) → Fits (ruleOf s) (printed case j i s)
+  pub few-receptors : case .receptors .count ≤ maxReceptors sort
+  pub fits : (j i : ℕ) → j < case .receptors .count → i < case .chemicals .count → (s : Slot) → Fits (ruleFor sort s) (printed case j i s)

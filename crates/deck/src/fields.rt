@@ -29,23 +29,24 @@ use crate::spelling::word;
 use slots::FIELDS;
 use slots::Owner;
 use slots::Rule;
+use slots::Sort;
 use slots::UNUSED;
 
 // The rules of the six fields of a line, by its kind.
-fn rules(kind: u32) -> [Rule; FIELDS]
-    ensures { λ r. ⌜ r ≡ rulesOf kind ⌝ }
+fn rules(sort: Sort, kind: u32) -> [Rule; FIELDS]
+    ensures { λ r. ⌜ r ≡ rulesOf sort kind ⌝ }
 {
     match kind {
-        S1 => slots::rules(Owner::Site, 0),
-        S2 => slots::rules(Owner::Site, 1),
-        C1 => slots::rules(Owner::Chemical, 0),
-        C2 => slots::rules(Owner::Chemical, 1),
-        C3 => slots::rules(Owner::Chemical, 2),
-        C4 => slots::rules(Owner::Chemical, 3),
-        R1 => slots::rules(Owner::Receptor, 0),
-        R2 => slots::rules(Owner::Receptor, 1),
-        R3 => slots::rules(Owner::Receptor, 2),
-        R4 => slots::rules(Owner::Receptor, 3),
+        S1 => slots::rules(sort, Owner::Site, 0),
+        S2 => slots::rules(sort, Owner::Site, 1),
+        C1 => slots::rules(sort, Owner::Chemical, 0),
+        C2 => slots::rules(sort, Owner::Chemical, 1),
+        C3 => slots::rules(sort, Owner::Chemical, 2),
+        C4 => slots::rules(sort, Owner::Chemical, 3),
+        R1 => slots::rules(sort, Owner::Receptor, 0),
+        R2 => slots::rules(sort, Owner::Receptor, 1),
+        R3 => slots::rules(sort, Owner::Receptor, 2),
+        R4 => slots::rules(sort, Owner::Receptor, 3),
         _ => [UNUSED, UNUSED, UNUSED, UNUSED, UNUSED, UNUSED],
     }
 }
@@ -171,11 +172,11 @@ fn range_status(rule: Rule, digits: u64, power: i32, n: usize, f: usize) -> Stat
 }
 
 // The conditions of the six fields of line n, from the left.
-pub(crate) fn fields_status(line: &[u8], kind: u32, n: usize) -> Status
+pub(crate) fn fields_status(sort: Sort, line: &[u8], kind: u32, n: usize) -> Status
     requires { ⌜ length (now line) ≡ 81 ⌝ }
-    ensures { λ r. ⌜ r ≡ first (upTo (fieldAt kind (now (line .entry)) n) fieldsPerLine) ⌝ }
+    ensures { λ r. ⌜ r ≡ first (upTo (fieldAt sort kind (now (line .entry)) n) fieldsPerLine) ⌝ }
 {
-    let rules = rules(kind);
+    let rules = rules(sort, kind);
     let mut f: usize = 0;
     while f < FIELDS {
         let rule = rules[f];

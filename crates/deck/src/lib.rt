@@ -12,6 +12,7 @@ use records::no_case;
 use scanning::bad_length;
 use scanning::scan_lines;
 use slots::SLOTS;
+pub use slots::Sort;
 pub use spelling::lowered;
 pub use spelling::raised;
 use spelling::word;
@@ -35,11 +36,18 @@ pub const RECORD_LINES: usize = 4;
 
 pub const MAX_CHEMICALS: usize = 16;
 
+// Receptors of an ordinary deck.
 pub const MAX_RECEPTORS: usize = 4;
+
+// Receptors of a composite's deck: the life stages of one person.
+pub const MAX_STAGES: usize = 8;
 
 // The site, all chemicals and receptors, and EN.
 pub const MAX_LENGTH: usize = LINE_WIDTH
     * (SITE_LINES + RECORD_LINES * (MAX_CHEMICALS + MAX_RECEPTORS) + 1);
+
+pub const MAX_COMPOSITE_LENGTH: usize = LINE_WIDTH
+    * (SITE_LINES + RECORD_LINES * (MAX_CHEMICALS + MAX_STAGES) + 1);
 
 // Digits of a number before and after its point, zeros counted: as many as the columns of a field hold.
 pub const MAX_DIGITS: usize = FIELD_WIDTH;
@@ -77,9 +85,10 @@ pub struct Chemicals {
     pub records: [Record; MAX_CHEMICALS],
 }
 
+// One shape for both sorts of deck: room for the most that either has.
 pub struct Receptors {
     pub count: usize,
-    pub records: [Record; MAX_RECEPTORS],
+    pub records: [Record; MAX_STAGES],
 }
 
 pub struct Case {
@@ -147,15 +156,15 @@ fn stopped(status: Status) -> Reading
     Reading { status, case }
 }
 
-// The case that the deck spells, or the first condition that holds, in document 01's order.
-pub fn read(deck: &[u8]) -> Reading
-    ensures { λ r. ⌜ r ≡ readOf (now (deck .entry)) ⌝ }
-    ensures { λ r. ⌜ toldOf (r .status) ≡ toldOf (first (conditions (now (deck .entry)))) ⌝ }
+// The case that a deck of this sort spells, or the first condition that holds, in document 01's order.
+pub fn read(deck: &[u8], sort: Sort) -> Reading
+    ensures { λ r. ⌜ r ≡ readOf sort (now (deck .entry)) ⌝ }
+    ensures { λ r. ⌜ toldOf (r .status) ≡ toldOf (first (conditions sort (now (deck .entry)))) ⌝ }
 {
-    if bad_length(deck) {
+    if bad_length(deck, sort) {
         return stopped(Status::Stopped(11, 0, 0));
     }
-    let scan = scan_lines(deck);
+    let scan = scan_lines(deck, sort);
     let status = scan.status;
     let Status::Read = status else {
         return stopped(status);

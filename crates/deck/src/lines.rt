@@ -5,14 +5,16 @@ ghost use mathlib.Core.List.{[], _∷_};
 ghost use Prim.Native.Nat.{suc, _+_, _<_, _≤_};
 ghost use lib.Dec.{eqb};
 ghost use lib.ListN.{length, drop};
-ghost use Rattle.deck.specs.Kinds.{kindOf, kindOrder, befores, among, C1, R1, EN};
+ghost use Rattle.deck.specs.Kinds.{kindOf, maxReceptors, kindOrder, befores, among, C1, R1, EN};
 ghost use Rattle.deck.specs.Conditions.{first, badBytes, badKind, begins, idOf, wrongId, badId, lineConditionsAfter};
 use crate::MAX_CHEMICALS;
 use crate::MAX_RECEPTORS;
+use crate::MAX_STAGES;
 use crate::Status;
 use crate::fields::fields_status;
 use crate::spelling::id_in;
 use crate::spelling::leading_bytes;
+use slots::Sort;
 
 // The kinds of lines: columns 1-2 as one number, the first byte × 256 + the second. START stands before line 1.
 pub(crate) const START: u32 = 0;
@@ -110,8 +112,17 @@ fn either(x: u32, a: u32, b: u32) -> bool
     x == b
 }
 
-fn bad_kind(seen: Seen, kind: u32) -> bool
-    ensures { λ r. ⌜ r ≡ badKind (seen .kind) kind (seen .chemicals) (seen .receptors) ⌝ }
+fn max_receptors(sort: Sort) -> usize
+    ensures { λ r. ⌜ r ≡ maxReceptors sort ⌝ }
+{
+    match sort {
+        Sort::Ordinary => MAX_RECEPTORS,
+        Sort::Composite => MAX_STAGES,
+    }
+}
+
+fn bad_kind(sort: Sort, seen: Seen, kind: u32) -> bool
+    ensures { λ r. ⌜ r ≡ badKind sort (seen .kind) kind (seen .chemicals) (seen .receptors) ⌝ }
 {
     if !may_follow(seen.kind, kind) {
         return true;
@@ -120,7 +131,7 @@ fn bad_kind(seen: Seen, kind: u32) -> bool
         return MAX_CHEMICALS <= seen.chemicals;
     }
     if kind == R1 {
-        return MAX_RECEPTORS <= seen.receptors;
+        return max_receptors(sort) <= seen.receptors;
     }
     false
 }
@@ -162,21 +173,28 @@ fn bad_id(seen: Seen, kind: u32, id: u32, line: &[u8]) -> bool
 }
 
 // The conditions of line n, of this kind and id.
-pub(crate) fn line_status(line: &[u8], n: usize, seen: Seen, kind: u32, id: u32) -> Status
+pub(crate) fn line_status(
+    sort: Sort,
+    line: &[u8],
+    n: usize,
+    seen: Seen,
+    kind: u32,
+    id: u32,
+) -> Status
     requires { ⌜ length (now line) ≡ 81 ⌝ }
     requires { ⌜ (kind ≡ kindOf (now line)) × (id ≡ idOf (now line)) ⌝ }
-    ensures { λ r. ⌜ r ≡ first (lineConditionsAfter (seen .kind) (seen .id) (seen .chemicals) (seen .receptors) (now (line .entry)) n) ⌝ }
+    ensures { λ r. ⌜ r ≡ first (lineConditionsAfter sort (seen .kind) (seen .id) (seen .chemicals) (seen .receptors) (now (line .entry)) n) ⌝ }
 {
     if bad_bytes(line) {
         return Status::Stopped(12, n, 0);
     }
-    if bad_kind(seen, kind) {
+    if bad_kind(sort, seen, kind) {
         return Status::Stopped(21, n, 0);
     }
     if bad_id(seen, kind, id, line) {
         return Status::Stopped(22, n, 0);
     }
-    fields_status(line, kind, n)
+    fields_status(sort, line, kind, n)
 }
 
 impl Seen {

@@ -2,14 +2,14 @@
 ghost use mathlib.Core.Path.{_≡_};
 ghost use Prim.Native.Nat.{_<_, _≤_};
 ghost use Rattle.deck.specs.Parts.{lineOf};
-ghost use Rattle.deck.specs.Kinds.{maxChemicals, maxReceptors};
+ghost use Rattle.deck.specs.Kinds.{maxChemicals, mostReceptors};
 ghost use Rattle.deck.specs.Conditions.{idOf};
 ghost use Rattle.deck.specs.Cases.{valueOf, slotSpelled, recordOf, recordsOf, caseWith, noRecord, noCase, chemicalsStart};
 use crate::Case;
 use crate::Chemicals;
 use crate::Filled;
 use crate::MAX_CHEMICALS;
-use crate::MAX_RECEPTORS;
+use crate::MAX_STAGES;
 use crate::RECORD_LINES;
 use crate::Receptors;
 use crate::Record;
@@ -98,12 +98,12 @@ fn chemicals(deck: &[u8], count: usize) -> [Record; MAX_CHEMICALS]
     records
 }
 
-fn receptors(deck: &[u8], n: usize, count: usize) -> [Record; MAX_RECEPTORS]
-    requires { ⌜ (n < 500) × (count ≤ 4) ⌝ }
-    ensures { λ r. ⌜ r ≡ recordsOf (now (deck .entry)) n count maxReceptors ⌝ }
+fn receptors(deck: &[u8], n: usize, count: usize) -> [Record; MAX_STAGES]
+    requires { ⌜ (n < 500) × (count ≤ 8) ⌝ }
+    ensures { λ r. ⌜ r ≡ recordsOf (now (deck .entry)) n count mostReceptors ⌝ }
 {
     let none = no_record();
-    let mut records = [none; MAX_RECEPTORS];
+    let mut records = [none; MAX_STAGES];
     let mut i: usize = 0;
     while i < count {
         records[i] = record_at(deck, n + RECORD_LINES * i, RECORD_LINES);
@@ -114,7 +114,7 @@ fn receptors(deck: &[u8], n: usize, count: usize) -> [Record; MAX_RECEPTORS]
 
 // The case with so many chemicals and receptors.
 pub(crate) fn case_with(deck: &[u8], chemical_count: usize, receptor_count: usize) -> Case
-    requires { ⌜ («chemical_count» ≤ 16) × («receptor_count» ≤ 4) ⌝ }
+    requires { ⌜ («chemical_count» ≤ 16) × («receptor_count» ≤ 8) ⌝ }
     ensures { λ r. ⌜ r ≡ caseWith (now (deck .entry)) «chemical_count» «receptor_count» ⌝ }
 {
     let site = record_at(deck, 1, SITE_LINES);
@@ -142,7 +142,7 @@ pub(crate) fn no_case() -> Case
 {
     let none = no_record();
     let chemical_records = [none; MAX_CHEMICALS];
-    let receptor_records = [none; MAX_RECEPTORS];
+    let receptor_records = [none; MAX_STAGES];
     Case {
         site: none,
         chemicals: Chemicals {

@@ -6,8 +6,9 @@ ghost use mathlib.Core.List.{[], _∷_, _++_};
 ghost use Prim.Native.Nat.{_+_, _≤_, _<_};
 ghost use Rattle.deck.specs.Parts.{linesOf};
 ghost use Rattle.deck.specs.Kinds.{C1, R1, EN};
-ghost use Rattle.deck.specs.Conditions.{at, first, upTo, lineConditions, noEnd, countOf, badLength};
+ghost use Rattle.deck.specs.Conditions.{at, first, upTo, lineConditions, noEnd, countOf, maxLength, badLength};
 use crate::LINE_WIDTH;
+use crate::MAX_COMPOSITE_LENGTH;
 use crate::MAX_LENGTH;
 use crate::Status;
 use crate::line;
@@ -17,6 +18,7 @@ use crate::lines::Seen;
 use crate::lines::id_of;
 use crate::lines::kind_of;
 use crate::lines::line_status;
+use slots::Sort;
 
 // The first condition of the lines and the deck's end that holds; where none does, how many chemicals and receptors there are.
 pub(crate) struct Scan {
@@ -25,23 +27,32 @@ pub(crate) struct Scan {
     pub(crate) receptors: usize,
 }
 
-pub(crate) fn bad_length(deck: &[u8]) -> bool
-    ensures { λ r. ⌜ r ≡ badLength (now (deck .entry)) ⌝ }
+fn max_length(sort: Sort) -> usize
+    ensures { λ r. ⌜ r ≡ maxLength sort ⌝ }
+{
+    match sort {
+        Sort::Ordinary => MAX_LENGTH,
+        Sort::Composite => MAX_COMPOSITE_LENGTH,
+    }
+}
+
+pub(crate) fn bad_length(deck: &[u8], sort: Sort) -> bool
+    ensures { λ r. ⌜ r ≡ badLength sort (now (deck .entry)) ⌝ }
 {
     if deck.len() == 0 {
         return true;
     }
-    if MAX_LENGTH < deck.len() {
+    if max_length(sort) < deck.len() {
         return true;
     }
     deck.len() % LINE_WIDTH != 0
 }
 
-pub(crate) fn scan_lines(deck: &[u8]) -> Scan
+pub(crate) fn scan_lines(deck: &[u8], sort: Sort) -> Scan
     ensures { λ r. ⌜
         r .status
         ≡ first
-        (upTo (lineConditions (now (deck .entry))) (linesOf (now (deck .entry)))
+        (upTo (lineConditions sort (now (deck .entry))) (linesOf (now (deck .entry)))
         ++ (at 21 (linesOf (now (deck .entry)) + 1) 0 (noEnd (now (deck .entry))) ∷ []))
         ⌝ }
     ensures { λ r. ⌜
@@ -49,7 +60,7 @@ pub(crate) fn scan_lines(deck: &[u8]) -> Scan
         → (r .chemicals ≡ countOf (now (deck .entry)) C1 (linesOf (now (deck .entry))))
         × (r .receptors ≡ countOf (now (deck .entry)) R1 (linesOf (now (deck .entry)))))
         ⌝ }
-    ensures { λ r. ⌜ (r .chemicals ≤ 16) × (r .receptors ≤ 4) ⌝ }
+    ensures { λ r. ⌜ (r .chemicals ≤ 16) × (r .receptors ≤ 8) ⌝ }
 {
     let lines = deck.len() / LINE_WIDTH;
     let mut seen = Seen {
@@ -63,7 +74,7 @@ pub(crate) fn scan_lines(deck: &[u8]) -> Scan
         let l = line(deck, n + 1);
         let kind = kind_of(l);
         let id = id_of(l);
-        let status = line_status(l, n + 1, seen, kind, id);
+        let status = line_status(sort, l, n + 1, seen, kind, id);
         let Status::Read = status else {
             return Scan {
                 status,
@@ -79,7 +90,7 @@ pub(crate) fn scan_lines(deck: &[u8]) -> Scan
 
 // No EN at the end is told as the line past the last.
 fn ended(seen: Seen, lines: usize) -> Scan
-    requires { ⌜ (lines < 1000000000000000000) × ((seen .chemicals ≤ 16) × (seen .receptors ≤ 4)) ⌝ }
+    requires { ⌜ (lines < 1000000000000000000) × ((seen .chemicals ≤ 16) × (seen .receptors ≤ 8)) ⌝ }
     ensures { λ r. ⌜ r .status ≡ cond (eqb (seen .kind) EN) Status.Read (Status.Stopped 21 (lines + 1) 0) ⌝ }
     ensures { λ r. ⌜ (r .chemicals ≡ seen .chemicals) × (r .receptors ≡ seen .receptors) ⌝ }
 {

@@ -22,7 +22,9 @@ use Rattle.equations.specs.declared.Pathway.{Pathway}
 use Rattle.equations.specs.declared.Pathway.the-variants.{Air, SoilSummer, SoilWinter, Skin, AboveGround, BelowGround}
 use Rattle.equations.specs.declared.Effect.{Effect}
 use Rattle.equations.specs.declared.Effect.the-variants.{Hazard, Cancer}
-use Rattle.slots.specs.Slots.{Slot, table, same, isIn, placeIn, entryRule, ruleAt, ownerOf, placeOf, ruleOf, neverZero, atMostOne}
+use Rattle.slots.specs.declared.Owner.{Owner}
+use Rattle.slots.specs.declared.Owner.the-variants.{Site, Chemical, Receptor}
+use Rattle.slots.specs.Slots.{Slot, table, same, isIn, placeIn, entryRule, ownerOf, placeOf, ruleOf, neverZero, atMostOne}
 use Rattle.equations.specs.Formula.{Letter, slot, rest, phi, Formula, Algebra, read, pairs, fractions}
 use Rattle.equations.specs.Series.{terms, pairSeries, exactSeries}
 use Rattle.equations.specs.Letters.{tD}
@@ -32,14 +34,18 @@ use Rattle.equations.specs.Readings.{Inputs, letters, plain, asAnswers, 
 use Rattle.equations.specs.Ranges.{sixtyFour}
 use Rattle.equations.proofs.Limits.{at-most-whole}
 use Rattle.equations.proofs.Nearness.{Near, near-more, spread}
-use Rattle.equations.proofs.Profile.{Profile, profiles, ofNumber, positives, usable, joined, Fits, Good, both, parts, good-number}
+use Rattle.equations.proofs.Profile.{Profile, profiles, ofNumber, positives, usable, joined, Fits, Good, both, parts, good-more, good-number}
 use Rattle.equations.proofs.FormulaLaws.{profile, reads-good}
 use Rattle.equations.proofs.SeriesLaws.{seriesProfile, series-good}
 
--- The profile of a slot. A site's or a chemical's value is printed: 0 or from 10^−20 to 10^20, and entered one part wide. A receptor's may be
--- a mean over life stages: what eight printed values and their years give by the rule.
+-- The profile of a printed value of a slot: 0 or from 10^−20 to 10^20, and entered one part wide.
+unfoldable pub ofPrinted : Slot → Profile
+ofPrinted s = record { size = 20; width = 1; positive = neverZero s; answered = true }
+
+-- The profile of a slot. A site's or a chemical's value is printed; a receptor's may be a mean over life stages: what eight printed values
+-- and their years give by the rule.
 unfoldable pub ofSlot : Slot → Profile
-ofSlot s = record { size = byOwner (ownerOf s) 20 20 76; width = byOwner (ownerOf s) 1 1 35; positive = neverZero s; answered = true }
+ofSlot s = record { size = byOwner (ownerOf s) 20 20 74; width = byOwner (ownerOf s) 1 1 35; positive = neverZero s; answered = true }
 
 -- 1 less it is taken from what is printed, where the slot is at most 1 and no receptor's, which twelve digits leave 0 or at least 10^−12
 unfoldable pub ofRest : Slot → Profile
@@ -47,6 +53,23 @@ ofRest s = record { size = 12; width = 1; positive = false; answered = byOwner (
 
 unfoldable pub ofSlots : Inputs Profile
 ofSlots = record { value = ofSlot; rest = ofRest }
+
+-- A printed value fits every slot.
+printed-size : (o : Owner) → 20 ≤ byOwner o 20 20 74
+unfolding byOwner
+printed-size Site = lit≤ tt
+printed-size Chemical = lit≤ tt
+printed-size Receptor = lit≤ tt
+
+printed-width : (o : Owner) → 1 ≤ byOwner o 1 1 35
+unfolding byOwner
+printed-width Site = lit≤ tt
+printed-width Chemical = lit≤ tt
+printed-width Receptor = lit≤ tt
+
+pub printed-good : (s : Slot) {o : Outcome Pair} {x : Fraction} → Good (ofPrinted s) o x → Good (ofSlot s) o x
+unfolding ofPrinted ofSlot
+printed-good s g = good-more (ofPrinted s) (ofSlot s) (printed-size (ownerOf s)) (printed-width (ownerOf s)) (λ t. t) g
 
 -- An input in range: its pair is as its slot's profile says and holds the exact value; so is 1 less it, where it is taken.
 pub record InRange (s : Slot) (env : Inputs Pair) (v : Fraction) : Type 0 where
@@ -62,7 +85,7 @@ unfoldable pub ofX : Profile
 ofX = plain profiles ofSlot x
 
 pub x-profile : ofX ≡ answeredAs 215 40 false
-unfolding ofX plain read profiles letters x page.k page.u page.kse page.ksr page.ksl ofNumber joined joint spread positives usable ofSlot byOwner table same isIn placeIn entryRule ruleAt ownerOf placeOf ruleOf neverZero atMostOne
+unfolding ofX plain read profiles letters x page.k page.u page.kse page.ksr page.ksl ofNumber joined joint spread positives usable ofSlot byOwner table same isIn placeIn entryRule ownerOf placeOf ruleOf neverZero atMostOne
 x-profile = refl
 
 -- whether the profiles of a line say that it is answered and narrow, from φ's
@@ -88,7 +111,7 @@ phi-profile = ap seriesProfile x-profile ∙ series-profile
 
 -- The profiles of the lines, and with them of all that stands in a line.
 line-computed : (e : Effect) (p : Pathway) → lineCheck (answeredAs 57387 11225 true) e p ≡ true
-unfolding lineCheck profile read profiles letters page.line page.figureBy page.intake page.intakeBy page.factor page.medium page.byMedium page.exposure page.B page.AT page.reference page.referenceSlot page.byRoute page.A page.C page.D page.g page.aboveGround page.belowGround x page.k page.u page.kse page.ksr page.ksl ofNumber joined joint spread positives usable ofSlots ofSlot ofRest byOwner table same isIn placeIn entryRule ruleAt ownerOf placeOf ruleOf neverZero atMostOne
+unfolding lineCheck profile read profiles letters page.line page.figureBy page.intake page.intakeBy page.factor page.medium page.byMedium page.exposure page.B page.AT page.reference page.referenceSlot page.byRoute page.A page.C page.D page.g page.aboveGround page.belowGround x page.k page.u page.kse page.ksr page.ksl ofNumber joined joint spread positives usable ofSlots ofSlot ofRest byOwner table same isIn placeIn entryRule ownerOf placeOf ruleOf neverZero atMostOne
 line-computed Hazard Air = refl
 line-computed Hazard SoilSummer = refl
 line-computed Hazard SoilWinter = refl

@@ -18,9 +18,9 @@ use Rattle.pair.specs.Number.{isPair, value, place, depth}
 use Rattle.pair.specs.Calls.{Outcome, is, after, entry}
 use Rattle.pair.specs.Promises.{Operation, sums, products, quotients, call, exactResult, lowEnd, highEnd, withLow, withHigh, Holds, Around, grown, Sized, scaled}
 use Rattle.pair.proofs.Promises as promises
-use Rattle.pair.proofs.Promises.{Within, Usable, joint, value-proper, answered-within, rounds, ends-proper, pair-again, holds}
+use Rattle.pair.proofs.Promises.{Within, Usable, joint, sized-on, value-proper, answered-within, rounds, ends-proper, pair-again, holds}
 use Rattle.equations.specs.Formula.{Algebra}
-use Rattle.equations.proofs.Nearness.{Near, near-from, near-through, near-above, near-down, near-up, spread, NearAlong, near-exactly}
+use Rattle.equations.proofs.Nearness.{Near, near-from, near-more, near-through, near-above, near-down, near-up, spread, NearAlong, near-exactly}
 
 -- What is known of a pair: its ends are 0 or from 10^−size to 10^size, its high end is its low end and at most width parts in 10^8 more,
 -- its low end is above 0, and it is answered.
@@ -168,6 +168,22 @@ good-op o P Q {x} {y} a b h =
                 (low-above o (P .positive) (Q .positive) p q t (a .fits .positive) (b .fits .positive));
           };
       held = holds o p q (r .0) x y (r .1) (a .held) (b .held);
+    }
+
+-- What fits a profile fits a wider one.
+pub good-more : (P Q : Profile) {o : Outcome Pair} {x : Fraction} → P .size ≤ Q .size → P .width ≤ Q .width → (Q .positive ≡ true → P .positive ≡ true) → Good P o x → Good Q o x
+good-more P Q h w above g =
+    record {
+      answer = g .answer;
+      told = g .told;
+      fits =
+          record {
+            pair = g .fits .pair;
+            within = record { low = sized-on h (g .fits .within .low); high = sized-on h (g .fits .within .high) };
+            wide = near-more w (g .fits .wide);
+            positive = λ t. g .fits .positive (above t);
+          };
+      held = g .held;
     }
 
 -- A constant.

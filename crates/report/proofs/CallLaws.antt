@@ -1,28 +1,34 @@
--- The report call: what it answers and leaves in the buffer, stage by stage, is what the definitions say. Assumes nothing.
+-- The report calls: what they answer and leave in the buffer is what the definitions say. First the call on a scenario in memory, stage by
+-- stage; then any call on a deck that hands it a sound scenario. Assumes nothing.
 use mathlib.Core.Path.{_≡_, refl, sym, ap, _∙_}
-use mathlib.Core.List.{List, _++_}
+use mathlib.Core.Bool.{true, false, _||_}
+use mathlib.Core.List.{List, _∷_, _++_}
 use Prim.Native.Nat.{ℕ, _≤_, _<_}
 use borrow.Author.Tests.{lt-ltb, le-ltb}
+use lib.Dec.{ltb}
 use lib.ListN.{length, drop}
 use Rattle.deck.specs.declared.Case.{Case}
 use Rattle.deck.specs.declared.Reading.{Reading}
 use Rattle.deck.specs.declared.Status.{Status}
 use Rattle.deck.specs.declared.Status.the-variants.{Read, Stopped}
 use Rattle.deck.specs.declared.Told.{Told}
-use Rattle.deck.specs.Conditions.{Condition, first, conditions}
+use Rattle.deck.specs.Conditions.{Condition, at, first, conditions}
 use Rattle.deck.specs.Cases.{caseOf, caseFor, readOf, toldOf}
-use Rattle.deck.specs.Ranged.{Ranged}
-use Rattle.deck.proofs.Accepted.{accepted}
 use Rattle.deck.proofs.First.{orElse, first-append}
+use Rattle.deck.proofs.Scan.{first-read}
 use Rattle.deck.proofs.Places.{append-read}
 use Rattle.text.specs.declared.Row.{Row}
 use Rattle.text.specs.Text.{linesText}
 use Rattle.sheet.specs.declared.Counts.{Counts}
+use Rattle.sheet.specs.declared.Scenario.{Scenario}
+use Rattle.sheet.specs.Values.{scenarioWith}
 use Rattle.sheet.specs.Sheet.{fastChemicals, largeLines}
-use Rattle.sheet.specs.Counts.{caseConditions, cellsOf, cellsFor, countsOf}
-use Rattle.report.specs.Report.{rowsOf, lengthOf, reportConditions, allConditions, statusOf, outcomeFor, outcomeOf, bufferFor, bufferOf}
-use Rattle.report.specs.Inner.{reportIn}
-use Rattle.sheet.proofs.CaseLaws.{conditions-agree}
+use Rattle.sheet.specs.DemandThree.{Exact}
+use Rattle.sheet.specs.Counts.{tooMany, sheetConditions, cellsOf, cellsFor, countsOf}
+use Rattle.report.specs.Report.{rowsOf, lengthOf, reportConditions, Call, scenarioOf, exactOf, allConditions, statusOf, outcomeFor, outcomeOf, bufferWith, bufferFor, bufferOf}
+use Rattle.report.specs.Scenario.{reportIn, writtenRows, writtenConditions, writtenStatus, writtenOutcome, writtenBuffer}
+use Rattle.sheet.proofs.Sound.{Sound}
+use Rattle.sheet.proofs.CaseLaws.{few-records, conditions-agree}
 use Rattle.report.proofs.ReportLaws.{rows-held}
 
 -- ---- two lists of conditions, one after the other
@@ -38,93 +44,125 @@ first-passes : (xs ys : List Condition) (s : Status) → first xs ≡ Read → s
 unfolding orElse
 first-passes xs ys s e q = q ∙ sym (first-append xs ys ∙ ap (λ (x : Status). orElse x (first ys)) e)
 
--- ---- 51
-short : (case : Case) (room : ℕ) → room < lengthOf case → Stopped 51 0 0 ≡ first (reportConditions case room)
-unfolding reportConditions first
-short case room h = rw (lt-ltb _ _ h) refl
-
-long-enough : (case : Case) (room : ℕ) → lengthOf case ≤ room → first (fastChemicals case ++ largeLines case) ≡ first (reportConditions case room)
-unfolding reportConditions first
-long-enough case room h = rw (le-ltb _ _ h) refl
-
--- ---- a deck and a buffer
-module _ (deck buffer : List ℕ) where
-  refused : (s : Status) (number line field : ℕ) (told : Told) → s ≡ statusOf deck (length buffer) → s ≡ Stopped number line field → told ≡ toldOf s
-      → (told ≡ outcomeOf deck (length buffer)) × (buffer ≡ bufferOf deck buffer)
-  unfolding toldOf outcomeOf outcomeFor bufferOf bufferFor
+-- ---- a scenario and a buffer
+module _ (scenario : Scenario) (buffer : List ℕ) where
+  refused : (s : Status) (number line field : ℕ) (told : Told) → s ≡ writtenStatus scenario (length buffer) → s ≡ Stopped number line field → told ≡ toldOf s
+      → (told ≡ writtenOutcome scenario (length buffer)) × (buffer ≡ writtenBuffer scenario buffer)
+  unfolding toldOf writtenOutcome outcomeFor writtenBuffer bufferWith
   refused s number line field told e q t = (t ∙ rw (← e, q) refl, rw (← e, q) refl)
 
-  -- the deck stops
-  pub deck-stops : (s : Status) (number line field : ℕ) (told : Told) → s ≡ first (conditions deck) → s ≡ Stopped number line field → told ≡ toldOf s
-      → (told ≡ outcomeOf deck (length buffer)) × (buffer ≡ bufferOf deck buffer)
-  unfolding statusOf allConditions
-  deck-stops s number line field told e q t =
-      refused s number line field told (first-stops (conditions deck) (reportConditions (caseOf deck) (length buffer)) s number line field e q) q t
+  -- 21
+  many : tooMany scenario ≡ true → (told : Told) → told ≡ toldOf (Stopped 21 0 0) → (told ≡ writtenOutcome scenario (length buffer)) × (buffer ≡ writtenBuffer scenario buffer)
+  unfolding writtenStatus writtenConditions first
+  many h told t = refused (Stopped 21 0 0) 21 0 0 told (rw h refl) refl t
 
-  -- the deck is read
-  module _ (reading : Reading) (of-deck : reading ≡ readOf deck) (status-read : reading .status ≡ Read) where
-    read : first (conditions deck) ≡ Read
+  refusal : (number : ℕ) (told : Told) → (told .number ≡ number) × (told .line ≡ 0) × (told .field ≡ 0) → told ≡ toldOf (Stopped number 0 0)
+  unfolding toldOf
+  refusal number told e = λ i. record { number = e .0 i; line = e .1 i; field = e .2 i }
+
+  pub many-chemicals : 16 < scenario .chemicals .count → (told : Told) → (told .number ≡ 21) × (told .line ≡ 0) × (told .field ≡ 0)
+      → (told ≡ writtenOutcome scenario (length buffer)) × (buffer ≡ writtenBuffer scenario buffer)
+  unfolding tooMany
+  many-chemicals h told t = many (rw (lt-ltb 16 (scenario .chemicals .count) h) refl) told (refusal 21 told t)
+
+  module _ (few-chemicals : scenario .chemicals .count ≤ 16) where
+    pub many-receptors : 4 < scenario .receptors .count → (told : Told) → (told .number ≡ 21) × (told .line ≡ 0) × (told .field ≡ 0)
+        → (told ≡ writtenOutcome scenario (length buffer)) × (buffer ≡ writtenBuffer scenario buffer)
+    unfolding tooMany
+    many-receptors h told t = many (rw (le-ltb 16 (scenario .chemicals .count) few-chemicals, lt-ltb 4 (scenario .receptors .count) h) refl) told (refusal 21 told t)
+
+    module _ (few-receptors : scenario .receptors .count ≤ 4) where
+      few : tooMany scenario ≡ false
+      unfolding tooMany
+      few = rw (le-ltb 16 (scenario .chemicals .count) few-chemicals, le-ltb 4 (scenario .receptors .count) few-receptors) refl
+
+      -- 51
+      pub too-short : length buffer < lengthOf scenario → (told : Told) → (told .number ≡ 51) × (told .line ≡ 0) × (told .field ≡ 0)
+          → (told ≡ writtenOutcome scenario (length buffer)) × (buffer ≡ writtenBuffer scenario buffer)
+      unfolding writtenStatus writtenConditions first
+      too-short h told t = refused (Stopped 51 0 0) 51 0 0 told (rw (few, lt-ltb _ _ h) refl) refl (refusal 51 told t)
+
+      -- the report has room
+      module _ (room : lengthOf scenario ≤ length buffer) (counts : Counts) (of-scenario : counts ≡ countsOf scenario) where
+        status-is : counts .status ≡ writtenStatus scenario (length buffer)
+        unfolding writtenStatus writtenConditions first countsOf
+        status-is = ap (λ (c : Counts). c .status) of-scenario ∙ rw (few, le-ltb _ _ room) refl
+
+        -- the sheet stops
+        pub sheet-stops : (number line field : ℕ) (told : Told) → counts .status ≡ Stopped number line field → told ≡ toldOf (counts .status)
+            → (told ≡ writtenOutcome scenario (length buffer)) × (buffer ≡ writtenBuffer scenario buffer)
+        sheet-stops number line field told q t = refused (counts .status) number line field told status-is q t
+
+        -- and the report is written
+        module _ (none : counts .status ≡ Read) where
+          cells-are : counts .cells ≡ cellsOf scenario
+          unfolding countsOf cellsFor
+          cells-are =
+              let s : first (sheetConditions scenario) ≡ Read = sym (ap (λ (c : Counts). c .status) of-scenario) ∙ none in
+              ap (λ (c : Counts). c .cells) of-scenario ∙ ap (λ (x : Status). cellsFor x scenario) s
+
+          pub written : (out : List ℕ) (n : ℕ) → n ≡ lengthOf scenario
+              → out ≡ linesText (reportIn (counts .cells) (scenario .chemicals) (scenario .receptors .list) (scenario .receptors .count)) ++ drop (lengthOf scenario) buffer
+              → (_≡_ {A = Told} (record { number = 0; line = n; field = 0 }) (writtenOutcome scenario (length buffer))) × (out ≡ writtenBuffer scenario buffer)
+          unfolding writtenOutcome outcomeFor writtenBuffer bufferWith writtenRows
+          written out n m o =
+              let s : writtenStatus scenario (length buffer) ≡ Read = sym status-is ∙ none in (
+                rw (s, m) refl,
+                rw s
+                    (o
+                    ∙ ap (λ (cells : List ℕ). linesText (reportIn cells (scenario .chemicals) (scenario .receptors .list) (scenario .receptors .count)) ++ drop (lengthOf scenario) buffer) cells-are),
+              )
+
+-- ---- a sound scenario: the report is document 01's
+module _ (scenario : Scenario) {exact : Exact} (sound : Sound scenario exact) (buffer : List ℕ) where
+  status-agrees : writtenStatus scenario (length buffer) ≡ first (reportConditions scenario (length buffer))
+  unfolding writtenStatus writtenConditions reportConditions first
+  status-agrees = rw (few-records scenario sound, conditions-agree scenario sound) refl
+
+  rows-agree : first (reportConditions scenario (length buffer)) ≡ Read → writtenRows scenario ≡ rowsOf scenario
+  unfolding writtenRows reportConditions
+  rows-agree e =
+      let t = append-read (fastChemicals scenario) (largeLines scenario) (first-read (at 51 0 0 (ltb (length buffer) (lengthOf scenario))) (fastChemicals scenario ++ largeLines scenario) e .1) in
+      rows-held scenario sound (t .0) (t .1)
+
+  buffer-if : (s : Status) → first (reportConditions scenario (length buffer)) ≡ s → bufferWith s (writtenRows scenario) (lengthOf scenario) buffer ≡ bufferFor s scenario buffer
+  unfolding bufferWith bufferFor
+  buffer-if Read e = ap (λ (rows : List Row). linesText rows ++ drop (lengthOf scenario) buffer) (rows-agree e)
+  buffer-if (Stopped number line field) e = refl
+
+-- ---- any call on a deck
+module _ (call : Call) (deck buffer : List ℕ) where
+  -- the deck stops
+  pub deck-stops : (s : Status) (number line field : ℕ) (told : Told) → s ≡ first (conditions (call .sort) deck) → s ≡ Stopped number line field → told ≡ toldOf s
+      → (told ≡ outcomeOf call deck (length buffer)) × (buffer ≡ bufferOf call deck buffer)
+  unfolding statusOf allConditions toldOf outcomeOf outcomeFor bufferOf bufferFor bufferWith
+  deck-stops s number line field told e q t =
+      let f : s ≡ statusOf call deck (length buffer) = first-stops (conditions (call .sort) deck) (reportConditions (scenarioOf call deck) (length buffer)) s number line field e q in
+      (t ∙ rw (← f, q) refl, rw (← f, q) refl)
+
+  -- the deck is read, and its scenario handed to the call above
+  module _ (reading : Reading) (of-deck : reading ≡ readOf (call .sort) deck) (status-read : reading .status ≡ Read) where
+    pub deck-read : first (conditions (call .sort) deck) ≡ Read
     unfolding readOf
-    read = sym (ap (λ (r : Reading). r .status) of-deck) ∙ status-read
+    deck-read = sym (ap (λ (r : Reading). r .status) of-deck) ∙ status-read
 
     case-is : reading .case ≡ caseOf deck
     unfolding readOf caseFor
-    case-is = ap (λ (r : Reading). r .case) of-deck ∙ ap (λ (s : Status). caseFor s deck) read
+    case-is = ap (λ (r : Reading). r .case) of-deck ∙ ap (λ (s : Status). caseFor s deck) deck-read
 
-    ranged : Ranged (reading .case)
-    ranged = rw case-is (accepted deck read)
-
-    pub few : (reading .case .chemicals .count ≤ 16) × (reading .case .receptors .count ≤ 4)
-    few = (ranged .few-chemicals, ranged .few-receptors)
-
-    status-is : (s : Status) → s ≡ first (reportConditions (reading .case) (length buffer)) → s ≡ statusOf deck (length buffer)
-    unfolding statusOf allConditions
-    status-is s e =
-        first-passes (conditions deck) (reportConditions (caseOf deck) (length buffer)) s read
-        (e ∙ ap (λ (c : Case). first (reportConditions c (length buffer))) case-is)
-
-    pub too-short : length buffer < lengthOf (reading .case)
-        → (_≡_ {A = Told} (record { number = 51; line = 0; field = 0 }) (outcomeOf deck (length buffer))) × (buffer ≡ bufferOf deck buffer)
-    unfolding toldOf
-    too-short h = refused (Stopped 51 0 0) 51 0 0 _ (status-is (Stopped 51 0 0) (short (reading .case) (length buffer) h)) refl refl
-
-    -- the report has room
-    module _ (room : lengthOf (reading .case) ≤ length buffer) (counts : Counts) (of-case : counts ≡ countsOf (reading .case)) where
-      first-is : counts .status ≡ first (fastChemicals (reading .case) ++ largeLines (reading .case))
-      unfolding countsOf
-      first-is = ap (λ (c : Counts). c .status) of-case ∙ conditions-agree (reading .case) ranged
-
-      counts-status : counts .status ≡ statusOf deck (length buffer)
-      counts-status = status-is (counts .status) (first-is ∙ long-enough (reading .case) (length buffer) room)
-
-      -- the sheet stops
-      pub sheet-stops : (number line field : ℕ) (told : Told) → counts .status ≡ Stopped number line field → told ≡ toldOf (counts .status)
-          → (told ≡ outcomeOf deck (length buffer)) × (buffer ≡ bufferOf deck buffer)
-      sheet-stops number line field told q t = refused (counts .status) number line field told counts-status q t
-
-      -- and the report is written
-      module _ (none : counts .status ≡ Read) where
-        cells-are : counts .cells ≡ cellsOf (reading .case)
-        unfolding countsOf cellsFor
-        cells-are =
-            let s : first (caseConditions (reading .case)) ≡ Read = sym (ap (λ (c : Counts). c .status) of-case) ∙ none in
-            ap (λ (c : Counts). c .cells) of-case ∙ ap (λ (x : Status). cellsFor x (reading .case)) s
-
-        rows-are : reportIn (counts .cells) (reading .case .chemicals) (reading .case .receptors .records) (reading .case .receptors .count) ≡ rowsOf (reading .case)
-        rows-are =
-            let t = append-read (fastChemicals (reading .case)) (largeLines (reading .case)) (sym first-is ∙ none) in
-            ap (λ (cells : List ℕ). reportIn cells (reading .case .chemicals) (reading .case .receptors .records) (reading .case .receptors .count)) cells-are
-            ∙ rows-held (reading .case) ranged (t .0) (t .1)
-
-        pub written : (out : List ℕ) (n : ℕ) → n ≡ lengthOf (reading .case)
-            → out ≡ linesText (reportIn (counts .cells) (reading .case .chemicals) (reading .case .receptors .records) (reading .case .receptors .count)) ++ drop (lengthOf (reading .case)) buffer
-            → (_≡_ {A = Told} (record { number = 0; line = n; field = 0 }) (outcomeOf deck (length buffer))) × (out ≡ bufferOf deck buffer)
-        unfolding outcomeOf outcomeFor bufferOf bufferFor
-        written out n m o =
-            let s : statusOf deck (length buffer) ≡ Read = sym counts-status ∙ none in (
-              rw (s, m, case-is) refl,
-              rw s
-                  (o
-                  ∙ ap (λ (rows : List Row). linesText rows ++ drop (lengthOf (reading .case)) buffer) rows-are
-                  ∙ ap (λ (c : Case). linesText (rowsOf c) ++ drop (lengthOf c) buffer) case-is),
-            )
+    pub answers : Sound (scenarioOf call deck) (exactOf call deck) → (scenario : Scenario) → scenario ≡ scenarioWith (reading .case) (call .receptors (reading .case))
+        → (told : Told) (out : List ℕ) → told ≡ writtenOutcome scenario (length buffer) → out ≡ writtenBuffer scenario buffer
+        → (told ≡ outcomeOf call deck (length buffer)) × (out ≡ bufferOf call deck buffer)
+    unfolding writtenOutcome writtenBuffer outcomeOf bufferOf statusOf allConditions scenarioOf
+    answers sound scenario made told out t o =
+        let same : scenario ≡ scenarioOf call deck = made ∙ ap (λ (c : Case). scenarioWith c (call .receptors c)) case-is in
+        let here : first (reportConditions (scenarioOf call deck) (length buffer)) ≡ statusOf call deck (length buffer) =
+        first-passes (conditions (call .sort) deck) (reportConditions (scenarioOf call deck) (length buffer)) _ deck-read refl
+        in
+        let agreed : writtenStatus (scenarioOf call deck) (length buffer) ≡ statusOf call deck (length buffer) = status-agrees (scenarioOf call deck) sound buffer ∙ here in (
+          t ∙ ap (λ (x : Scenario). outcomeFor (writtenStatus x (length buffer)) x) same ∙ ap (λ (s : Status). outcomeFor s (scenarioOf call deck)) agreed,
+          o
+              ∙ ap (λ (x : Scenario). bufferWith (writtenStatus x (length buffer)) (writtenRows x) (lengthOf x) buffer) same
+              ∙ ap (λ (s : Status). bufferWith s (writtenRows (scenarioOf call deck)) (lengthOf (scenarioOf call deck)) buffer) agreed
+              ∙ buffer-if (scenarioOf call deck) sound buffer (statusOf call deck (length buffer)) here,
+        )

@@ -1,13 +1,16 @@
--- Demand 3 of document 01, for every accepted deck: that of its case. Assumes nothing.
-use Rattle.deck.specs.Cases.{caseOf}
-use Rattle.deck.proofs.Accepted.{accepted}
-use Rattle.sheet.specs.DemandThree.{CaseDemand3}
+-- Demand 3 of document 01, for every accepted deck of any call whose scenarios are sound. Assumes nothing.
+use Rattle.deck.specs.declared.Case.{Case}
+use Rattle.sheet.proofs.DemandThree.{scenario-demand-3}
+use Rattle.report.specs.Report.{Call, ordinary, scenarioOf}
+use Rattle.report.specs.DemandTwo.{Entered}
 use Rattle.report.specs.DemandThree.{Demand3}
-use Rattle.sheet.proofs.DemandThree.{case-demand-3}
-use Rattle.report.proofs.DemandTwo.{clear}
+use Rattle.report.proofs.DemandTwo.{Sounds, clear, ordinary-sounds}
 
-pub demand-3 : Demand3
-unfolding Demand3 CaseDemand3
-demand-3 deck a =
-    let none = clear deck (a .room) (a .none) in
-    case-demand-3 (caseOf deck) (accepted deck (none .0)) (none .1 .0) (none .1 .1)
+pub demand-3-of : (call : Call) (Made : Case → Type 0) → Sounds call Made → Demand3 call
+unfolding Demand3
+demand-3-of call Made sounds deck a =
+    let none = clear call deck (a .room) (a .none) in
+    scenario-demand-3 (scenarioOf call deck) (sounds .sound deck (none .0)) (none .1 .0) (none .1 .1)
+
+pub demand-3 : Demand3 ordinary
+demand-3 = demand-3-of ordinary Entered ordinary-sounds

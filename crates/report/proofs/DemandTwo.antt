@@ -3,17 +3,23 @@ use mathlib.Core.Path.{_≡_, refl, sym, ap, _∙_, subst}
 use mathlib.Core.Bool.{Bool, true, false, cond}
 use mathlib.Core.List.{List, [], _∷_, _++_, append-assoc}
 use mathlib.Core.Logic.{_⊎_, inl, inr}
-use Prim.Native.Nat.{ℕ, _+_, _*_, _-_, _<_}
+use Prim.Native.Nat.{ℕ, _+_, _*_, _-_, _^_, _<_}
 use native.Mathlib.Omega.{arith}
 use lib.Dec.{ltb}
+use lib.IntN.{ℤ}
 use lib.ListN.{length, take, drop, length-append}
 use lib.Seq.{take-at, drop-at}
+use Rattle.pair.specs.Calls.{is, entry, oneMinusEntry}
+use Rattle.slots.specs.declared.Sort.{Sort}
+use Rattle.slots.specs.declared.Sort.the-variants.{Ordinary}
+use Rattle.slots.specs.Slots.{Slot, atMostOne}
 use Rattle.equations.specs.declared.Effect.{Effect}
 use Rattle.deck.specs.declared.Case.{Case}
 use Rattle.deck.specs.declared.Status.{Status}
 use Rattle.deck.specs.declared.Status.the-variants.{Read, Stopped}
 use Rattle.deck.specs.Conditions.{Condition, at, first, NoneHolds, conditions}
-use Rattle.deck.specs.Cases.{caseOf}
+use Rattle.deck.specs.declared.Value.the-variants as Values
+use Rattle.deck.specs.Cases.{caseOf, chemicalAt}
 use Rattle.deck.specs.Ranged.{Ranged}
 use Rattle.deck.proofs.Accepted.{accepted}
 use Rattle.deck.proofs.Exactly.{read-none}
@@ -22,11 +28,18 @@ use Rattle.deck.proofs.Places.{append-read}
 use Rattle.text.specs.declared.Row.{Row}
 use Rattle.text.specs.Text.{rowText, linesText}
 use Rattle.text.proofs.Rows.{length-row, length-lines, lines-append}
+use Rattle.sheet.specs.declared.Receptor as receptors
+use Rattle.sheet.specs.declared.Receptors.{Receptors}
+use Rattle.sheet.specs.declared.Scenario.{Scenario}
+use Rattle.sheet.specs.Values.{chemicalIn, receptorIn, printedIn, pairsAt, scenarioWith, entered, enteredFrom, ordinaryOf, exactAt}
+use Rattle.sheet.specs.DemandThree.{Exact}
 use Rattle.sheet.specs.Sheet.{pathwayAt, hasReference, chained, linesPerReceptor, fastChemicals, largeLines}
-use Rattle.report.specs.Report.{rowAt, totalRow, rowsAt, rowsOf, linesOfReport, lengthOf, reportConditions, allConditions, statusOf, outcomeFor, outcomeOf, bufferFor, bufferOf}
-use Rattle.report.specs.DemandTwo.{lineIn, ByRule, Printed, Reported, Refused, Demand2}
+use Rattle.report.specs.Report.{rowAt, totalRow, rowsAt, rowsOf, linesOfReport, lengthOf, reportConditions, Call, ordinary, scenarioOf, exactOf, allConditions, statusOf, outcomeFor, outcomeOf, bufferWith, bufferFor, bufferOf}
+use Rattle.report.specs.DemandTwo.{lineIn, ByRule, Printed, Reported, Refused, Demand2, Entered}
 use Rattle.sheet.proofs.CaseLaws.{line-by-rule}
-use Rattle.sheet.proofs.Inputs.{entered, rested}
+use Rattle.sheet.proofs.Sound.{Sound}
+use Rattle.sheet.proofs.Inputs.{source-entered, source-rested}
+use Rattle.sheet.proofs.Entered.{entered-at, ordinary-sound, receptor-entered}
 use Rattle.sheet.proofs.Chains.{chained-split, chained-length}
 use Rattle.report.proofs.Fitting.{SmallIds, small-ids, row-fits, total-row-fits}
 
@@ -53,10 +66,10 @@ unfolding first
 stopped-met [] number line field e = absurd (never (Stopped number line field) number line field refl (sym e))
 stopped-met (c ∷ cs) number line field e = met-here c cs number line field (c .holds) refl e (stopped-met cs number line field)
 
-refused : (deck buffer : List ℕ) (number line field : ℕ) → statusOf deck (length buffer) ≡ Stopped number line field → Refused deck buffer
-unfolding statusOf outcomeOf outcomeFor bufferOf bufferFor
-refused deck buffer number line field e =
-    let m : Met (allConditions deck (length buffer)) number line field = stopped-met (allConditions deck (length buffer)) number line field e in
+refused : (call : Call) (deck buffer : List ℕ) (number line field : ℕ) → statusOf call deck (length buffer) ≡ Stopped number line field → Refused call deck buffer
+unfolding statusOf outcomeOf outcomeFor bufferOf bufferFor bufferWith
+refused call deck buffer number line field e =
+    let m : Met (allConditions call deck (length buffer)) number line field = stopped-met (allConditions call deck (length buffer)) number line field e in
     record {
       before = m .before;
       met = m .met;
@@ -64,8 +77,8 @@ refused deck buffer number line field e =
       order = m .order;
       none = m .none;
       holds = m .holds;
-      told = ap (λ (s : Status). outcomeFor s (caseOf deck)) (e ∙ m .told);
-      same = ap (λ (s : Status). bufferFor s (caseOf deck) buffer) e;
+      told = ap (λ (s : Status). outcomeFor s (scenarioOf call deck)) (e ∙ m .told);
+      same = ap (λ (s : Status). bufferFor s (scenarioOf call deck) buffer) e;
     }
 
 -- ---- where a row stands among rows, and its line in their text
@@ -118,94 +131,138 @@ at-part f n m k l row h same a =
 alone : (row : Row) → At (row ∷ []) 0 row
 alone row = record { before = []; after = []; split = refl; place = refl }
 
--- ---- the report of a case
-module _ (case : Case) where
+-- ---- what is printed of the site and of the chemicals is entered
+record Sources (scenario : Scenario) : Type 0 where
+  entered : (j i : ℕ) → i < scenario .chemicals .count → (s : Slot) (digits : ℕ) (power : ℤ)
+      → printedIn scenario i s ≡ Values.Printed power digits → entry digits power ≡ is (pairsAt scenario j i .value s)
+  rested : (j i : ℕ) → i < scenario .chemicals .count → (s : Slot) (digits : ℕ) (power : ℤ)
+      → printedIn scenario i s ≡ Values.Printed power digits → atMostOne s ≡ true → oneMinusEntry digits power ≡ is (pairsAt scenario j i .rest s)
+
+sources-of : (sort : Sort) (case : Case) → Ranged sort case → (receptors′ : Receptors) → Sources (scenarioWith case receptors′)
+unfolding scenarioWith
+sources-of sort case ranged receptors′ =
+    record { entered = λ j i h s digits power e. source-entered sort case ranged receptors′ j i h s digits power e; rested = λ j i h s digits power e. source-rested sort case ranged receptors′ j i h s digits power e }
+
+-- ---- the report of a scenario
+module _ (scenario : Scenario) where
   lines : ℕ → ℕ → List Row
-  lines j i = chained (λ p. rowAt case j i p ∷ []) 6
+  lines j i = chained (λ p. rowAt scenario j i p ∷ []) 6
 
   lines-six : (j i : ℕ) → length (lines j i) ≡ 6
   unfolding lines
-  lines-six j i = chained-length (λ p. rowAt case j i p ∷ []) 6 1 (λ p. refl)
+  lines-six j i = chained-length (λ p. rowAt scenario j i p ∷ []) 6 1 (λ p. refl)
 
-  lines-all : (j : ℕ) → length (chained (lines j) (case .chemicals .count)) ≡ case .chemicals .count * 6
-  lines-all j = chained-length (lines j) (case .chemicals .count) 6 (lines-six j)
+  lines-all : (j : ℕ) → length (chained (lines j) (scenario .chemicals .count)) ≡ scenario .chemicals .count * 6
+  lines-all j = chained-length (lines j) (scenario .chemicals .count) 6 (lines-six j)
 
-  rows-length : (j : ℕ) → length (rowsAt case j) ≡ linesPerReceptor case
+  rows-length : (j : ℕ) → length (rowsAt scenario j) ≡ linesPerReceptor scenario
   unfolding rowsAt linesPerReceptor lines
-  rows-length j = length-append (chained (lines j) (case .chemicals .count)) (totalRow case j ∷ []) ∙ omega (arith, lines-all j)
+  rows-length j = length-append (chained (lines j) (scenario .chemicals .count)) (totalRow scenario j ∷ []) ∙ omega (arith, lines-all j)
 
-  report-length : length (rowsOf case) ≡ linesOfReport case
+  report-length : length (rowsOf scenario) ≡ linesOfReport scenario
   unfolding rowsOf linesOfReport
-  report-length = chained-length (rowsAt case) (case .receptors .count) (linesPerReceptor case) rows-length
+  report-length = chained-length (rowsAt scenario) (scenario .receptors .count) (linesPerReceptor scenario) rows-length
 
-  line-at : (j i p : ℕ) → j < case .receptors .count → i < case .chemicals .count → p < 6 → At (rowsOf case) (j * linesPerReceptor case + (i * 6 + (p * 1 + 0))) (rowAt case j i p)
+  line-at : (j i p : ℕ) → j < scenario .receptors .count → i < scenario .chemicals .count → p < 6 → At (rowsOf scenario) (j * linesPerReceptor scenario + (i * 6 + (p * 1 + 0))) (rowAt scenario j i p)
   unfolding rowsOf rowsAt lines
   line-at j i p a b c =
-      at-part (rowsAt case) (case .receptors .count) (linesPerReceptor case) j (i * 6 + (p * 1 + 0)) (rowAt case j i p) a rows-length
-      (at-before (chained (lines j) (case .chemicals .count)) (totalRow case j ∷ []) (i * 6 + (p * 1 + 0)) (rowAt case j i p)
-      (at-part (lines j) (case .chemicals .count) 6 i (p * 1 + 0) (rowAt case j i p) b (lines-six j)
-      (at-part (λ p. rowAt case j i p ∷ []) 6 1 p 0 (rowAt case j i p) c (λ q. refl) (alone (rowAt case j i p)))))
+      at-part (rowsAt scenario) (scenario .receptors .count) (linesPerReceptor scenario) j (i * 6 + (p * 1 + 0)) (rowAt scenario j i p) a rows-length
+      (at-before (chained (lines j) (scenario .chemicals .count)) (totalRow scenario j ∷ []) (i * 6 + (p * 1 + 0)) (rowAt scenario j i p)
+      (at-part (lines j) (scenario .chemicals .count) 6 i (p * 1 + 0) (rowAt scenario j i p) b (lines-six j)
+      (at-part (λ p. rowAt scenario j i p ∷ []) 6 1 p 0 (rowAt scenario j i p) c (λ q. refl) (alone (rowAt scenario j i p)))))
 
-  total-at : (j : ℕ) → j < case .receptors .count → At (rowsOf case) (j * linesPerReceptor case + (case .chemicals .count * 6 + 0)) (totalRow case j)
+  total-at : (j : ℕ) → j < scenario .receptors .count → At (rowsOf scenario) (j * linesPerReceptor scenario + (scenario .chemicals .count * 6 + 0)) (totalRow scenario j)
   unfolding rowsOf rowsAt lines
   total-at j a =
-      at-part (rowsAt case) (case .receptors .count) (linesPerReceptor case) j (case .chemicals .count * 6 + 0) (totalRow case j) a rows-length
-      (at-after (chained (lines j) (case .chemicals .count)) (totalRow case j ∷ []) (case .chemicals .count * 6) 0 (totalRow case j) (lines-all j) (alone (totalRow case j)))
+      at-part (rowsAt scenario) (scenario .receptors .count) (linesPerReceptor scenario) j (scenario .chemicals .count * 6 + 0) (totalRow scenario j) a rows-length
+      (at-after (chained (lines j) (scenario .chemicals .count)) (totalRow scenario j ∷ []) (scenario .chemicals .count * 6) 0 (totalRow scenario j) (lines-all j) (alone (totalRow scenario j)))
 
   -- the whole of it
-  module _ (ids : SmallIds case) (ranged : Ranged case) (slow : first (fastChemicals case) ≡ Read) (small : first (largeLines case) ≡ Read) where
-    by-rule : (e : Effect) (j i p : ℕ) → j < case .receptors .count → i < case .chemicals .count → p < 6 → hasReference e case i (pathwayAt p) ≡ true
-        → ByRule e case j i (pathwayAt p)
+  module _ (ids : SmallIds scenario) {exact : Exact} (sound : Sound scenario exact) (slow : first (fastChemicals scenario) ≡ Read) (small : first (largeLines scenario) ≡ Read) where
+    by-rule : (e : Effect) (j i p : ℕ) → j < scenario .receptors .count → i < scenario .chemicals .count → p < 6 → hasReference e scenario i (pathwayAt p) ≡ true
+        → ByRule e scenario j i (pathwayAt p)
     by-rule e j i p a b h t =
-        let l = line-by-rule case ranged slow small e j i p a b h t in
+        let l = line-by-rule scenario sound slow small e j i p a b h t in
         record { pair = l .pair; rule = l .rule; proper = l .proper; units = l .units; counted = l .counted; columns = l .columns }
 
-    printed : (rest : List ℕ) → Printed case (linesText (rowsOf case) ++ rest)
-    printed rest =
+    printed : Sources scenario → (rest : List ℕ) → Printed scenario (linesText (rowsOf scenario) ++ rest)
+    printed sources rest =
         record {
           line = λ j i p a b c.
-              let e : j * linesPerReceptor case + (i * 6 + (p * 1 + 0)) ≡ j * linesPerReceptor case + i * 6 + p = omega arith in
-              subst (λ (l : ℕ). lineIn (linesText (rowsOf case) ++ rest) l ≡ rowText (rowAt case j i p)) e
-              (at-line (rowsOf case) (j * linesPerReceptor case + (i * 6 + (p * 1 + 0))) (rowAt case j i p) rest (line-at j i p a b c));
+              let e : j * linesPerReceptor scenario + (i * 6 + (p * 1 + 0)) ≡ j * linesPerReceptor scenario + i * 6 + p = omega arith in
+              subst (λ (l : ℕ). lineIn (linesText (rowsOf scenario) ++ rest) l ≡ rowText (rowAt scenario j i p)) e
+              (at-line (rowsOf scenario) (j * linesPerReceptor scenario + (i * 6 + (p * 1 + 0))) (rowAt scenario j i p) rest (line-at j i p a b c));
           total = λ j a.
-              let e : j * linesPerReceptor case + (case .chemicals .count * 6 + 0) ≡ j * linesPerReceptor case + case .chemicals .count * 6 = omega arith in
-              subst (λ (l : ℕ). lineIn (linesText (rowsOf case) ++ rest) l ≡ rowText (totalRow case j)) e
-              (at-line (rowsOf case) (j * linesPerReceptor case + (case .chemicals .count * 6 + 0)) (totalRow case j) rest (total-at j a));
+              let e : j * linesPerReceptor scenario + (scenario .chemicals .count * 6 + 0) ≡ j * linesPerReceptor scenario + scenario .chemicals .count * 6 = omega arith in
+              subst (λ (l : ℕ). lineIn (linesText (rowsOf scenario) ++ rest) l ≡ rowText (totalRow scenario j)) e
+              (at-line (rowsOf scenario) (j * linesPerReceptor scenario + (scenario .chemicals .count * 6 + 0)) (totalRow scenario j) rest (total-at j a));
           rule = by-rule;
-          line-fits = row-fits case ids ranged slow small;
-          total-fits = total-row-fits case ids ranged slow small;
-          entered = entered case ranged;
-          rested = rested case ranged;
+          line-fits = row-fits scenario ids sound slow small;
+          total-fits = total-row-fits scenario ids sound slow small;
+          entered = λ j i h. sources .entered j i;
+          rested = λ j i h. sources .rested j i;
         }
 
--- none of the conditions after the deck's own holds
-pub clear : (deck : List ℕ) (room : ℕ) → first (allConditions deck room) ≡ Read
-    → (first (conditions deck) ≡ Read) × ((first (fastChemicals (caseOf deck)) ≡ Read) × (first (largeLines (caseOf deck)) ≡ Read))
-unfolding allConditions reportConditions
-clear deck room e =
-    let case = caseOf deck in
-    let t = append-read (conditions deck) (reportConditions case room) e in
-    let u = first-read (at 51 0 0 (ltb room (lengthOf case))) (fastChemicals case ++ largeLines case) (t .1) in
-    (t .0, append-read (fastChemicals case) (largeLines case) (u .1))
+-- What the laws ask of a call: that every deck which it reads gives a sound scenario with ids of six digits, and receptors made as it says.
+pub record Sounds (call : Call) (Made : Case → Type 0) : Type 0 where
+  pub sound : (deck : List ℕ) → first (conditions (call .sort) deck) ≡ Read → Sound (scenarioOf call deck) (exactOf call deck)
+  pub ids : (deck : List ℕ) → first (conditions (call .sort) deck) ≡ Read → SmallIds (scenarioOf call deck)
+  pub made : (deck : List ℕ) → first (conditions (call .sort) deck) ≡ Read → Made (caseOf deck)
 
-reported : (deck buffer : List ℕ) → statusOf deck (length buffer) ≡ Read → Reported deck buffer
-unfolding statusOf outcomeOf outcomeFor bufferOf bufferFor lengthOf
-reported deck buffer e =
-    let case = caseOf deck in
-    let none = clear deck (length buffer) e in
-    let text : bufferOf deck buffer ≡ linesText (rowsOf case) ++ drop (lengthOf case) buffer = ap (λ (s : Status). bufferFor s case buffer) e in
-    let long : length (linesText (rowsOf case)) ≡ lengthOf case = length-lines (rowsOf case) ∙ ap (λ (n : ℕ). 95 * n) (report-length case) in
+-- none of the conditions after the deck's own holds
+pub clear : (call : Call) (deck : List ℕ) (room : ℕ) → first (allConditions call deck room) ≡ Read
+    → (first (conditions (call .sort) deck) ≡ Read) × ((first (fastChemicals (scenarioOf call deck)) ≡ Read) × (first (largeLines (scenarioOf call deck)) ≡ Read))
+unfolding allConditions reportConditions
+clear call deck room e =
+    let scenario = scenarioOf call deck in
+    let t = append-read (conditions (call .sort) deck) (reportConditions scenario room) e in
+    let u = first-read (at 51 0 0 (ltb room (lengthOf scenario))) (fastChemicals scenario ++ largeLines scenario) (t .1) in
+    (t .0, append-read (fastChemicals scenario) (largeLines scenario) (u .1))
+
+module _ (call : Call) (Made : Case → Type 0) (sounds : Sounds call Made) where
+  deck-sources : (deck : List ℕ) → first (conditions (call .sort) deck) ≡ Read → Sources (scenarioOf call deck)
+  unfolding scenarioOf
+  deck-sources deck e = sources-of (call .sort) (caseOf deck) (accepted (call .sort) deck e) (call .receptors (caseOf deck))
+
+  reported : (deck buffer : List ℕ) → statusOf call deck (length buffer) ≡ Read → Reported call Made deck buffer
+  unfolding statusOf outcomeOf outcomeFor bufferOf bufferFor bufferWith lengthOf
+  reported deck buffer e =
+      let scenario = scenarioOf call deck in
+      let none = clear call deck (length buffer) e in
+      let text : bufferOf call deck buffer ≡ linesText (rowsOf scenario) ++ drop (lengthOf scenario) buffer = ap (λ (s : Status). bufferFor s scenario buffer) e in
+      let long : length (linesText (rowsOf scenario)) ≡ lengthOf scenario = length-lines (rowsOf scenario) ∙ ap (λ (n : ℕ). 95 * n) (report-length scenario) in
+      record {
+        none = read-none (allConditions call deck (length buffer)) e;
+        told = ap (λ (s : Status). outcomeFor s scenario) e;
+        printed =
+            subst (Printed scenario) (sym text)
+            (printed scenario (sounds .ids deck (none .0)) (sounds .sound deck (none .0)) (none .1 .0) (none .1 .1) (deck-sources deck (none .0)) (drop (lengthOf scenario) buffer));
+        made = sounds .made deck (none .0);
+        past = ap (drop (lengthOf scenario)) text ∙ drop-at (linesText (rowsOf scenario)) (drop (lengthOf scenario) buffer) (lengthOf scenario) long;
+      }
+
+  by-status : (deck buffer : List ℕ) (s : Status) → statusOf call deck (length buffer) ≡ s → Reported call Made deck buffer ⊎ Refused call deck buffer
+  by-status deck buffer Read e = inl (reported deck buffer e)
+  by-status deck buffer (Stopped number line field) e = inr (refused call deck buffer number line field e)
+
+  -- for any such call
+  pub demand-2-of : Demand2 call Made
+  unfolding Demand2
+  demand-2-of deck buffer = by-status deck buffer (statusOf call deck (length buffer)) refl
+
+-- ---- the ordinary call
+entered-ids : (deck : List ℕ) → Ranged Ordinary (caseOf deck) → (j : ℕ) → j < caseOf deck .receptors .count → receptorIn (scenarioOf ordinary deck) j .id < 10 ^ 6
+unfolding receptorIn scenarioOf ordinary scenarioWith entered
+entered-ids deck ranged j h = subst (λ (r : receptors.Receptor). r .id < 10 ^ 6) (sym (entered-at (caseOf deck) ranged j h)) (small-ids deck .0 j h)
+
+pub ordinary-sounds : Sounds ordinary Entered
+unfolding ordinary scenarioOf exactOf exactAt ordinaryOf scenarioWith enteredFrom chemicalIn chemicalAt
+ordinary-sounds =
     record {
-      none = read-none (allConditions deck (length buffer)) e;
-      told = ap (λ (s : Status). outcomeFor s case) e;
-      printed = subst (Printed case) (sym text) (printed case (small-ids deck) (accepted deck (none .0)) (none .1 .0) (none .1 .1) (drop (lengthOf case) buffer));
-      past = ap (drop (lengthOf case)) text ∙ drop-at (linesText (rowsOf case)) (drop (lengthOf case) buffer) (lengthOf case) long;
+      sound = λ deck e. ordinary-sound (caseOf deck) (accepted Ordinary deck e);
+      ids = λ deck e. record { receptor = entered-ids deck (accepted Ordinary deck e); chemical = small-ids deck .1 };
+      made = λ deck e. record { entered = receptor-entered (caseOf deck) (accepted Ordinary deck e) };
     }
 
-by-status : (deck buffer : List ℕ) (s : Status) → statusOf deck (length buffer) ≡ s → Reported deck buffer ⊎ Refused deck buffer
-by-status deck buffer Read e = inl (reported deck buffer e)
-by-status deck buffer (Stopped number line field) e = inr (refused deck buffer number line field e)
-
-pub demand-2 : Demand2
-unfolding Demand2
-demand-2 deck buffer = by-status deck buffer (statusOf deck (length buffer)) refl
+pub demand-2 : Demand2 ordinary Entered
+demand-2 = demand-2-of ordinary Entered ordinary-sounds

@@ -1,7 +1,7 @@
 -- The crate's laws: the report as it is written, and demands 1 to 3 of document 01 (`DemandTwo`, `DemandThree`). Assumes nothing.
 mod Written
 mod ReportLaws
-mod CallLaws
+pub mod CallLaws
 pub mod Fitting
 pub mod DemandTwo
 pub mod DemandThree

@@ -14,8 +14,10 @@ use Rattle.text.specs.declared.Row.{Row}
 use Rattle.text.specs.Text.{rowText, linesText, lineAfter}
 use Rattle.text.proofs.Places.{grown, lent}
 use Rattle.text.proofs.Rows.{length-lines, length-one, lines-append, one-line, last-line, line-own}
+use Rattle.sheet.specs.declared.Receptor.{Receptor}
+use Rattle.sheet.specs.Values.{noReceptor}
 use Rattle.sheet.specs.Sheet.{chained}
-use Rattle.report.specs.Inner.{rowIn, totalRowIn, linesIn, rowsIn, reportIn}
+use Rattle.report.specs.Scenario.{rowIn, totalRowIn, linesIn, rowsIn, reportIn}
 use Rattle.sheet.proofs.Chains.{chained-more, chained-length}
 
 -- parts of a report, each of so many bytes, one after the other
@@ -84,13 +86,13 @@ pub within : (count j n : ℕ) → j < count → 95 * (n * 6 + 1) * j + 95 * (n 
 within count j n h = omega (arith, mul-le-mul-left (95 * (n * 6 + 1)) h)
 
 -- receptor j's lines are written
-pub receptor-more : (cells : List ℕ) (chemicals′ : Chemicals) (records : List Record) (blank : Record) (entry out last : List ℕ) (j : ℕ) → j < length records
-    → last ≡ linesText (rowsIn cells j (getD records j blank .id) chemicals′)
+pub receptor-more : (cells : List ℕ) (chemicals′ : Chemicals) (list : List Receptor) (blank : Receptor) (entry out last : List ℕ) (j : ℕ) → j < length list
+    → last ≡ linesText (rowsIn cells j (getD list j blank .id) chemicals′)
     → let width = 95 * (chemicals′ .count * 6 + 1) in
-    out ≡ linesText (reportIn cells chemicals′ records j) ++ drop (width * j) entry
-    → take (width * j) out ++ (last ++ drop (width * j + width - width * j) (drop (width * j) out)) ≡ linesText (reportIn cells chemicals′ records (j + 1)) ++ drop (width * (j + 1)) entry
+    out ≡ linesText (reportIn cells chemicals′ list j) ++ drop (width * j) entry
+    → take (width * j) out ++ (last ++ drop (width * j + width - width * j) (drop (width * j) out)) ≡ linesText (reportIn cells chemicals′ list (j + 1)) ++ drop (width * (j + 1)) entry
 unfolding reportIn
-receptor-more cells chemicals′ records blank entry out last j here l e =
-    part-more (λ k. rowsIn cells k (getD records k noRecord .id) chemicals′) (95 * (chemicals′ .count * 6 + 1))
-    (λ k. length-rows-in cells k (getD records k noRecord .id) chemicals′) entry out last j
-    (l ∙ ap (λ (c : Record). linesText (rowsIn cells j (c .id) chemicals′)) (read-any records j here blank noRecord)) e
+receptor-more cells chemicals′ list blank entry out last j here l e =
+    part-more (λ k. rowsIn cells k (getD list k noReceptor .id) chemicals′) (95 * (chemicals′ .count * 6 + 1))
+    (λ k. length-rows-in cells k (getD list k noReceptor .id) chemicals′) entry out last j
+    (l ∙ ap (λ (c : Receptor). linesText (rowsIn cells j (c .id) chemicals′)) (read-any list j here blank noReceptor)) e

@@ -5,18 +5,17 @@ use Prim.Native.Nat.{ℕ, _≤_, _<_}
 use Rattle.equations.specs.declared.Effect.{Effect}
 use Rattle.deck.specs.declared.Status.the-variants.{Read}
 use Rattle.deck.specs.Conditions.{first}
-use Rattle.deck.specs.Cases.{caseOf}
 use Rattle.sheet.specs.Sheet.{totalAt}
 use Rattle.sheet.specs.DemandThree.{TotalHolds, linesAdded, exactTotal}
-use Rattle.report.specs.Report.{allConditions}
+use Rattle.report.specs.Report.{Call, scenarioOf, exactOf, allConditions}
 
--- a deck is accepted where no condition of document 01's table holds, with some buffer
-pub record Accepted (deck : List ℕ) : Type 0 where
+-- a deck is accepted by a call where no condition of document 01's table holds, with some buffer
+pub record Accepted (call : Call) (deck : List ℕ) : Type 0 where
   pub room : ℕ
-  pub none : first (allConditions deck room) ≡ Read
+  pub none : first (allConditions call deck room) ≡ Read
 
 -- for every accepted deck, receptor, effect and number N of series terms from 256 up
-unfoldable pub Demand3 : Type 0
-Demand3 =
-    (deck : List ℕ) → Accepted deck → (j : ℕ) → j < caseOf deck .receptors .count → (N : ℕ) → 256 ≤ N → (e : Effect) →
-    TotalHolds (totalAt e (caseOf deck) j) (linesAdded e (caseOf deck)) (exactTotal e (caseOf deck) N j)
+unfoldable pub Demand3 : Call → Type 0
+Demand3 call =
+    (deck : List ℕ) → Accepted call deck → (j : ℕ) → j < scenarioOf call deck .receptors .count → (N : ℕ) → 256 ≤ N → (e : Effect) →
+    TotalHolds (totalAt e (scenarioOf call deck) j) (linesAdded e (scenarioOf call deck)) (exactTotal e (scenarioOf call deck) (exactOf call deck) N j)

@@ -10,64 +10,91 @@ use Rattle.deck.specs.declared.Status.{Status}
 use Rattle.deck.specs.declared.Status.the-variants.{Read, Stopped}
 use Rattle.deck.specs.declared.Told.{Told}
 use Rattle.deck.specs.Conditions.{Condition, at, first, conditions}
-use Rattle.deck.specs.Cases.{caseOf, chemicalAt, receptorAt}
+use Rattle.deck.specs.Cases.{caseOf}
+use Rattle.pair.specs.Fraction.{Fraction}
+use Rattle.slots.specs.declared.Sort.{Sort}
+use Rattle.slots.specs.declared.Sort.the-variants.{Ordinary}
+use Rattle.slots.specs.Slots.{Slot}
 use Rattle.text.specs.declared.Row.{Row}
 use Rattle.text.specs.Text.{reportLineWidth, linesText}
+use Rattle.sheet.specs.declared.Receptors.{Receptors}
+use Rattle.sheet.specs.declared.Scenario.{Scenario}
+use Rattle.sheet.specs.Values.{chemicalIn, receptorIn, scenarioWith, enteredFrom, exactFrom, exactWith}
 use Rattle.sheet.specs.Sheet.{pathwaysPerChemical, pathwayAt, columnsAt, totalAt, chained, linesPerReceptor, fastChemicals, largeLines}
 
 -- ---- the lines: of receptor j, chemical i and pathway p, all counted from 0; pathways are printed from 1
-unfoldable pub rowAt : Case → ℕ → ℕ → ℕ → Row
-rowAt case j i p =
+unfoldable pub rowAt : Scenario → ℕ → ℕ → ℕ → Row
+rowAt scenario j i p =
     record {
-      receptor = receptorAt case j .id;
-      chemical = chemicalAt case i .id;
+      receptor = receptorIn scenario j .id;
+      chemical = chemicalIn scenario i .id;
       pathway = suc p;
-      hazard = columnsAt Hazard case j i (pathwayAt p);
-      cancer = columnsAt Cancer case j i (pathwayAt p);
+      hazard = columnsAt Hazard scenario j i (pathwayAt p);
+      cancer = columnsAt Cancer scenario j i (pathwayAt p);
     }
 
-unfoldable pub totalRow : Case → ℕ → Row
-totalRow case j =
-    record { receptor = receptorAt case j .id; chemical = 0; pathway = 0; hazard = totalAt Hazard case j; cancer = totalAt Cancer case j }
+unfoldable pub totalRow : Scenario → ℕ → Row
+totalRow scenario j =
+    record { receptor = receptorIn scenario j .id; chemical = 0; pathway = 0; hazard = totalAt Hazard scenario j; cancer = totalAt Cancer scenario j }
 
 -- per receptor, per chemical, pathways 1 to 6, then one total line
-unfoldable pub rowsAt : Case → ℕ → List Row
-rowsAt case j = chained (λ i. chained (λ p. rowAt case j i p ∷ []) pathwaysPerChemical) (case .chemicals .count) ++ (totalRow case j ∷ [])
+unfoldable pub rowsAt : Scenario → ℕ → List Row
+rowsAt scenario j = chained (λ i. chained (λ p. rowAt scenario j i p ∷ []) pathwaysPerChemical) (scenario .chemicals .count) ++ (totalRow scenario j ∷ [])
 
-unfoldable pub rowsOf : Case → List Row
-rowsOf case = chained (rowsAt case) (case .receptors .count)
+unfoldable pub rowsOf : Scenario → List Row
+rowsOf scenario = chained (rowsAt scenario) (scenario .receptors .count)
 
-unfoldable pub linesOfReport : Case → ℕ
-linesOfReport case = case .receptors .count * linesPerReceptor case
+unfoldable pub linesOfReport : Scenario → ℕ
+linesOfReport scenario = scenario .receptors .count * linesPerReceptor scenario
 
-unfoldable pub lengthOf : Case → ℕ
-lengthOf case = reportLineWidth * linesOfReport case
+unfoldable pub lengthOf : Scenario → ℕ
+lengthOf scenario = reportLineWidth * linesOfReport scenario
 
 -- ---- the conditions of document 01's table, for a deck and a report buffer of so many bytes
 -- after the deck's own: 51, 41 by chemical, 42 by line
-unfoldable pub reportConditions : Case → ℕ → List Condition
-reportConditions case room = at 51 0 0 (ltb room (lengthOf case)) ∷ fastChemicals case ++ largeLines case
+unfoldable pub reportConditions : Scenario → ℕ → List Condition
+reportConditions scenario room = at 51 0 0 (ltb room (lengthOf scenario)) ∷ fastChemicals scenario ++ largeLines scenario
 
-unfoldable pub allConditions : List ℕ → ℕ → List Condition
-allConditions deck room = conditions deck ++ reportConditions (caseOf deck) room
+-- A call on a deck: the sort of deck that it reads, and the receptors that it makes of the case, as pairs and exactly.
+pub record Call : Type 0 where
+  pub sort : Sort
+  pub receptors : Case → Receptors
+  pub exact : Case → ℕ → Slot → Fraction
+
+-- the ordinary one: a deck's receptors as printed
+unfoldable pub ordinary : Call
+ordinary = record { sort = Ordinary; receptors = enteredFrom; exact = exactFrom }
+
+-- what a call's report is worked from, and what demand 3 sets it against
+unfoldable pub scenarioOf : Call → List ℕ → Scenario
+scenarioOf call deck = scenarioWith (caseOf deck) (call .receptors (caseOf deck))
+
+unfoldable pub exactOf : Call → List ℕ → ℕ → ℕ → Slot → Fraction
+exactOf call deck = exactWith (caseOf deck) (call .exact (caseOf deck))
+
+unfoldable pub allConditions : Call → List ℕ → ℕ → List Condition
+allConditions call deck room = conditions (call .sort) deck ++ reportConditions (scenarioOf call deck) room
 
 -- the first of them that holds, or none
-unfoldable pub statusOf : List ℕ → ℕ → Status
-statusOf deck room = first (allConditions deck room)
+unfoldable pub statusOf : Call → List ℕ → ℕ → Status
+statusOf call deck room = first (allConditions call deck room)
 
 -- ---- the call
 -- success returns 0, the report's length, 0; a refusal its number, line and field
-unfoldable pub outcomeFor : Status → Case → Told
-outcomeFor Read case = record { number = 0; line = lengthOf case; field = 0 }
-outcomeFor (Stopped number line field) case = record { number = number; line = line; field = field }
+unfoldable pub outcomeFor : Status → Scenario → Told
+outcomeFor Read scenario = record { number = 0; line = lengthOf scenario; field = 0 }
+outcomeFor (Stopped number line field) scenario = record { number = number; line = line; field = field }
 
-unfoldable pub outcomeOf : List ℕ → ℕ → Told
-outcomeOf deck room = outcomeFor (statusOf deck room) (caseOf deck)
+unfoldable pub outcomeOf : Call → List ℕ → ℕ → Told
+outcomeOf call deck room = outcomeFor (statusOf call deck room) (scenarioOf call deck)
 
 -- the report, and past it what was there before; a refusal changes no byte
-unfoldable pub bufferFor : Status → Case → List ℕ → List ℕ
-bufferFor Read case buffer = linesText (rowsOf case) ++ drop (lengthOf case) buffer
-bufferFor (Stopped number line field) case buffer = buffer
+unfoldable pub bufferWith : Status → List Row → ℕ → List ℕ → List ℕ
+bufferWith Read rows n buffer = linesText rows ++ drop n buffer
+bufferWith (Stopped number line field) rows n buffer = buffer
 
-unfoldable pub bufferOf : List ℕ → List ℕ → List ℕ
-bufferOf deck buffer = bufferFor (statusOf deck (length buffer)) (caseOf deck) buffer
+unfoldable pub bufferFor : Status → Scenario → List ℕ → List ℕ
+bufferFor status scenario buffer = bufferWith status (rowsOf scenario) (lengthOf scenario) buffer
+
+unfoldable pub bufferOf : Call → List ℕ → List ℕ → List ℕ
+bufferOf call deck buffer = bufferFor (statusOf call deck (length buffer)) (scenarioOf call deck) buffer

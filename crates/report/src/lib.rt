@@ -1,22 +1,26 @@
-//! The report (document 01, "Report"): from a deck to its lines and totals, written into a lent buffer.
+//! The report (document 01, "Report"): from a deck, or from a scenario in memory, to its lines and totals, written into a lent buffer.
 mod rows;
 
 use crate::rows::write_rows;
+use deck::MAX_CHEMICALS;
+use deck::MAX_RECEPTORS;
 use deck::Status;
 use deck::Told;
 use sheet::PATHWAYS;
+use sheet::Scenario;
+use slots::Sort;
 use text::LINE_WIDTH;
 ghost use mathlib.Core.Path.{_≡_};
 ghost use Prim.Native.Nat.{_*_, _≤_};
 ghost use lib.ListN.{length};
 ghost use Rattle.text.specs.Text.{reportLineWidth};
-ghost use Rattle.report.specs.Report.{outcomeOf, bufferOf};
-ghost use Rattle.report.specs.Inner.{perReceptor};
+ghost use Rattle.report.specs.Report.{ordinary, outcomeOf, bufferOf};
+ghost use Rattle.report.specs.Scenario.{perReceptor, writtenOutcome, writtenBuffer};
 
 // The longest report: 388 lines.
-pub const MAX_REPORT: usize = LINE_WIDTH
-    * deck::MAX_RECEPTORS
-    * (deck::MAX_CHEMICALS * PATHWAYS + 1);
+pub const MAX_REPORT: usize = LINE_WIDTH * MAX_RECEPTORS * (MAX_CHEMICALS * PATHWAYS + 1);
+
+const TOO_MANY: u32 = 21;
 
 const TOO_SHORT: u32 = 51;
 
@@ -28,39 +32,56 @@ fn length_of(chemicals: usize, receptors: usize) -> usize
     LINE_WIDTH * (receptors * (chemicals * PATHWAYS + 1))
 }
 
-// The report of a deck into the buffer: 0, the report's length, 0; or the number, line and field of the first condition that stops it, and
-// the buffer as it was.
-pub fn report(deck: &[u8], out: &mut [u8]) -> Told
-    ensures { λ r. ⌜ r ≡ outcomeOf (now (deck .entry)) (length (now (out .entry))) ⌝ }
-    ensures { λ _. ⌜ now (out .exit) ≡ bufferOf (now (deck .entry)) (now (out .entry)) ⌝ }
+// A refusal that names neither line nor field.
+fn refused(number: u32) -> Told
+    ensures { λ r. ⌜ (r .number ≡ number) × (r .line ≡ 0) × (r .field ≡ 0) ⌝ }
 {
-    let reading = deck::read(deck);
-    let status = reading.status;
-    let Status::Read = status else {
-        return deck::tell(status);
-    };
-    let length = length_of(reading.case.chemicals.count, reading.case.receptors.count);
-    if out.len() < length {
-        return Told {
-            number: TOO_SHORT,
-            line: 0,
-            field: 0,
-        };
+    Told {
+        number,
+        line: 0,
+        field: 0,
     }
-    let counts = sheet::counts_of(reading.case);
+}
+
+// The report of a scenario into the buffer: 0, the report's length, 0; or the number, line and field of the first condition that stops it,
+// and the buffer as it was. Every call on a deck ends here, however it made its receptors.
+pub fn write_report(scenario: Scenario, out: &mut [u8]) -> Told
+    ensures { λ r. ⌜ r ≡ writtenOutcome scenario (length (now (out .entry))) ⌝ }
+    ensures { λ _. ⌜ now (out .exit) ≡ writtenBuffer scenario (now (out .entry)) ⌝ }
+{
+    if MAX_CHEMICALS < scenario.chemicals.count {
+        return refused(TOO_MANY);
+    }
+    if MAX_RECEPTORS < scenario.receptors.count {
+        return refused(TOO_MANY);
+    }
+    let length = length_of(scenario.chemicals.count, scenario.receptors.count);
+    if out.len() < length {
+        return refused(TOO_SHORT);
+    }
+    let counts = sheet::counts_of(scenario);
     let worked = counts.status;
     let Status::Read = worked else {
         return deck::tell(worked);
     };
-    write_rows(
-        out,
-        &counts.cells,
-        reading.case.chemicals,
-        reading.case.receptors,
-    );
+    write_rows(out, &counts.cells, scenario.chemicals, scenario.receptors);
     Told {
         number: 0,
         line: length,
         field: 0,
     }
+}
+
+// The report of an ordinary deck into the buffer.
+pub fn report(deck: &[u8], out: &mut [u8]) -> Told
+    ensures { λ r. ⌜ r ≡ outcomeOf ordinary (now (deck .entry)) (length (now (out .entry))) ⌝ }
+    ensures { λ _. ⌜ now (out .exit) ≡ bufferOf ordinary (now (deck .entry)) (now (out .entry)) ⌝ }
+{
+    let reading = deck::read(deck, Sort::Ordinary);
+    let status = reading.status;
+    let Status::Read = status else {
+        return deck::tell(status);
+    };
+    let scenario = sheet::ordinary_of(reading.case);
+    write_report(scenario, out)
 }

@@ -1,8 +1,8 @@
 // The report's lines, from the cells that hold their counts into a lent buffer.
 use deck::Chemicals;
-use deck::Receptors;
 use equations::Effect;
 use sheet::PATHWAYS;
+use sheet::Receptors;
 use text::LINE_WIDTH;
 use text::Row;
 use text::put_row;
@@ -11,7 +11,7 @@ ghost use mathlib.Core.List.{_++_};
 ghost use Prim.Native.Nat.{_*_, _≤_};
 ghost use lib.ListN.{length, drop};
 ghost use Rattle.text.specs.Text.{reportLineWidth, linesText};
-ghost use Rattle.report.specs.Inner.{perReceptor, rowIn, totalRowIn, rowsIn, reportIn};
+ghost use Rattle.report.specs.Scenario.{perReceptor, rowIn, totalRowIn, rowsIn, reportIn};
 
 // Line q of a receptor, which has this id, of the chemical that has this id.
 fn row_of(cells: &[u64], receptor: usize, id: u32, chemical: u32, q: usize) -> Row
@@ -63,14 +63,14 @@ fn write_receptor(part: &mut [u8], cells: &[u64], receptor: usize, id: u32, chem
 pub(crate) fn write_rows(out: &mut [u8], cells: &[u64], chemicals: Chemicals, receptors: Receptors)
     requires { ⌜ (chemicals .count ≤ 16) × (receptors .count ≤ 4) ⌝ }
     requires { ⌜ reportLineWidth * (receptors .count * perReceptor (chemicals .count)) ≤ length (now out) ⌝ }
-    ensures { λ _. ⌜ now (out .exit) ≡ linesText (reportIn (now (cells .entry)) chemicals (receptors .records) (receptors .count)) ++ drop (reportLineWidth * (receptors .count * perReceptor (chemicals .count))) (now (out .entry)) ⌝ }
+    ensures { λ _. ⌜ now (out .exit) ≡ linesText (reportIn (now (cells .entry)) chemicals (receptors .list) (receptors .count)) ++ drop (reportLineWidth * (receptors .count * perReceptor (chemicals .count))) (now (out .entry)) ⌝ }
 {
     let count = receptors.count;
     let width = LINE_WIDTH * (chemicals.count * PATHWAYS + 1);
     let mut j: usize = 0;
     while j < count {
         let next = j + 1;
-        let receptor = receptors.records[j];
+        let receptor = receptors.list[j];
         let at = width * j;
         write_receptor(&mut out[at..at + width], cells, j, receptor.id, chemicals);
         j = next;

@@ -12,12 +12,12 @@ use lib.Seq.{getD-set-same, getD-set-other}
 use Rattle.equations.specs.declared.Effect.{Effect}
 use Rattle.equations.specs.declared.Effect.the-variants.{Hazard, Cancer}
 use Rattle.equations.specs.declared.Values.{Values}
-use Rattle.deck.specs.declared.Record.{Record}
-use Rattle.deck.specs.Cases.{noRecord, tabulate}
+use Rattle.deck.specs.Cases.{tabulate}
 use Rattle.deck.proofs.Accepted.{filled-at}
 use Rattle.totals.specs.declared.Columns.{Columns}
+use Rattle.sheet.specs.declared.Receptor.{Receptor}
 use Rattle.sheet.specs.declared.Sources.{Sources}
-use Rattle.sheet.specs.Values.{valuesOf}
+use Rattle.sheet.specs.Values.{noReceptor}
 use Rattle.sheet.specs.Counts.{Part, Mark, Low, High, cellOf, sideOf}
 use Rattle.sheet.specs.Inner.{withCounts, columnsWorked, partOf, CellsHold, CellsEmpty, CellsFilled, SameBelow, ZeroFrom}
 
@@ -37,8 +37,8 @@ zeros zero k h = refl
 zeros (suc n) zero h = refl
 zeros (suc n) (suc k) h = zeros n k (omega arith)
 
-pub tabulate-at : (n : ℕ) (f : ℕ → ℕ) (k : ℕ) → k < n → getD (tabulate n f) k 0 ≡ f k
-tabulate-at n f k h = ap (λ (l : List ℕ). getD l k 0) (sym (append-nil (tabulate n f))) ∙ filled-at f 0 n [] k h
+pub tabulate-at : {A : Type 0} (n : ℕ) (f : ℕ → A) (d : A) (k : ℕ) → k < n → getD (tabulate n f) k d ≡ f k
+tabulate-at {A} n f d k h = ap (λ (l : List A). getD l k d) (sym (append-nil (tabulate n f))) ∙ filled-at f d n [] k h
 
 -- ---- the counts of a line stored
 module _ (cells : List ℕ) (at : ℕ) (columns : Columns) where
@@ -127,7 +127,7 @@ module _ (cells : List ℕ) (base q : ℕ) (u v : Columns) where
           ⊎-elim (λ z. rw z (line-here e w)) (λ l. line-apart e w k (λ z. omega arith) (omega arith) ∙ held e w k l) (eq-or-lt-of-le most)
 
 -- ---- a receptor's cells filled after those of the receptors before it
-module _ (site′ : Values) (sources : Sources) (records : List Record) (j : ℕ) (before after : List ℕ) (few : sources .count ≤ 16) where
+module _ (site′ : Values) (sources : Sources) (list : List Receptor) (j : ℕ) (before after : List ℕ) (few : sources .count ≤ 16) where
   -- a cell of an earlier receptor
   earlier : SameBelow (576 * j) before after → (i : ℕ) → i < j → (e : Effect) (w : Part) (q : ℕ) → q < 96
       → getD after (576 * i + 288 * sideOf e + 96 * partOf w + q) 0 ≡ getD before (576 * i + 288 * sideOf e + 96 * partOf w + q) 0
@@ -136,9 +136,9 @@ module _ (site′ : Values) (sources : Sources) (records : List Record) (j : ℕ
       let p : partOf w < 3 = part-small w in
       same (576 * i + 288 * sideOf e + 96 * partOf w + q) (omega arith)
 
-  pub receptor-held : (r : Values) → r ≡ valuesOf (getD records j noRecord) → CellsFilled site′ sources records j before → SameBelow (576 * j) before after
+  pub receptor-held : (r : Values) → r ≡ getD list j noReceptor .values → CellsFilled site′ sources list j before → SameBelow (576 * j) before after
       → CellsHold (columnsWorked site′ sources r) (sources .count * 6) after (576 * j) → CellsEmpty (sources .count * 6) after (576 * j)
-      → CellsFilled site′ sources records (j + 1) after
+      → CellsFilled site′ sources list (j + 1) after
   receptor-held r is-receptor filled same held empty i h =
       let most : i ≤ j = omega arith in
       ⊎-elim

@@ -5,11 +5,11 @@ use mathlib.Core.List.{[]}
 use Prim.Native.Nat.{ℕ, suc, _+_, _*_, _<_}
 use Rattle.equations.specs.declared.Effect.{Effect}
 use Rattle.equations.specs.declared.Effect.the-variants.{Hazard, Cancer}
-use Rattle.deck.specs.declared.Case.{Case}
 use Rattle.deck.specs.declared.Status.the-variants.{Read}
 use Rattle.deck.specs.Conditions.{at, first}
 use Rattle.deck.proofs.Scan.{first-read, neither}
 use Rattle.equations.specs.Ranges.{sixtyFour}
+use Rattle.sheet.specs.declared.Scenario.{Scenario}
 use Rattle.sheet.specs.Sheet.{pathwayAt, pathwaysPerChemical, chained, linesPerReceptor, highAbove, exponentAt, tooFast, overCap, lineTooLarge, fastChemicals, largeLines}
 use Rattle.sheet.proofs.Chains.{chained-each}
 
@@ -18,16 +18,16 @@ either Hazard f h = neither (f Hazard) (f Cancer) h .0
 either Cancer f h = neither (f Hazard) (f Cancer) h .1
 
 -- 41 does not hold
-pub not-fast : (case : Case) → first (fastChemicals case) ≡ Read → (i : ℕ) → i < case .chemicals .count → highAbove sixtyFour (exponentAt case i) ≡ false
+pub not-fast : (scenario : Scenario) → first (fastChemicals scenario) ≡ Read → (i : ℕ) → i < scenario .chemicals .count → highAbove sixtyFour (exponentAt scenario i) ≡ false
 unfolding fastChemicals tooFast
-not-fast case e i h =
-    first-read (at 41 (suc i) 0 (highAbove sixtyFour (exponentAt case i))) [] (chained-each (tooFast case) (case .chemicals .count) e i h) .0
+not-fast scenario e i h =
+    first-read (at 41 (suc i) 0 (highAbove sixtyFour (exponentAt scenario i))) [] (chained-each (tooFast scenario) (scenario .chemicals .count) e i h) .0
 
 -- 42 does not hold
-pub not-large : (case : Case) → first (largeLines case) ≡ Read → (e : Effect) (j i p : ℕ) → j < case .receptors .count → i < case .chemicals .count → p < pathwaysPerChemical → overCap e case j i (pathwayAt p) ≡ false
+pub not-large : (scenario : Scenario) → first (largeLines scenario) ≡ Read → (e : Effect) (j i p : ℕ) → j < scenario .receptors .count → i < scenario .chemicals .count → p < pathwaysPerChemical → overCap e scenario j i (pathwayAt p) ≡ false
 unfolding largeLines lineTooLarge
-not-large case none e j i p a b c =
-    let r = chained-each (λ j. chained (λ i. chained (lineTooLarge case j i) pathwaysPerChemical) (case .chemicals .count)) (case .receptors .count) none j a in
-    let s = chained-each (λ i. chained (lineTooLarge case j i) pathwaysPerChemical) (case .chemicals .count) r i b in
-    let t = chained-each (lineTooLarge case j i) pathwaysPerChemical s p c in
-    either e (λ d. overCap d case j i (pathwayAt p)) (first-read (at 42 (j * linesPerReceptor case + i * pathwaysPerChemical + suc p) 0 (overCap Hazard case j i (pathwayAt p) || overCap Cancer case j i (pathwayAt p))) [] t .0)
+not-large scenario none e j i p a b c =
+    let r = chained-each (λ j. chained (λ i. chained (lineTooLarge scenario j i) pathwaysPerChemical) (scenario .chemicals .count)) (scenario .receptors .count) none j a in
+    let s = chained-each (λ i. chained (lineTooLarge scenario j i) pathwaysPerChemical) (scenario .chemicals .count) r i b in
+    let t = chained-each (lineTooLarge scenario j i) pathwaysPerChemical s p c in
+    either e (λ d. overCap d scenario j i (pathwayAt p)) (first-read (at 42 (j * linesPerReceptor scenario + i * pathwaysPerChemical + suc p) 0 (overCap Hazard scenario j i (pathwayAt p) || overCap Cancer scenario j i (pathwayAt p))) [] t .0)

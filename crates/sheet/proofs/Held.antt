@@ -1,4 +1,4 @@
--- What the cells of a case hold, read back: a line's columns are those of the line, and a total of lines that the totals call does not
+-- What the cells of a scenario hold, read back: a line's columns are those of the line, and a total of lines that the totals call does not
 -- refuse is the receptor's total. Assumes nothing.
 use mathlib.Core.Path.{_≡_, refl, sym, ap, _∙_}
 use mathlib.Core.Bool.{true}
@@ -13,12 +13,12 @@ use lib.Seq.{getD-drop, take-suc}
 use Rattle.pair.specs.Calls.{is}
 use Rattle.equations.specs.declared.Effect.{Effect}
 use Rattle.equations.specs.declared.Effect.the-variants.{Hazard, Cancer}
-use Rattle.deck.specs.declared.Case.{Case}
 use Rattle.deck.proofs.Digits.{both}
 use Rattle.deck.proofs.CaseLaws.{length-tabulate}
 use Rattle.totals.specs.declared.Columns.{Columns}
 use Rattle.totals.specs.declared.Columns.the-variants as Cols
 use Rattle.totals.specs.Totals.{_added_, totalOf, listSum, allAtMost}
+use Rattle.sheet.specs.declared.Scenario.{Scenario}
 use Rattle.sheet.specs.Sheet.{chained, pathwayAt, columnsAt, addedOver, totalAt}
 use Rattle.sheet.specs.Counts.{Part, Mark, Low, High, cellOf, effectAt, partAt, lineColumns, cellAt, cellsOf, columnsFrom, sideOf, isHeld, columnsFound, columnsIn, totalledFrom, totalFound, totalIn}
 use Rattle.sheet.specs.Inner.{partOf, CellsHold}
@@ -154,8 +154,8 @@ column-at Cancer Mark = (refl, refl)
 column-at Cancer Low = (refl, refl)
 column-at Cancer High = (refl, refl)
 
-module _ (case : Case) (few-chemicals : case .chemicals .count ≤ 16) (few-receptors : case .receptors .count ≤ 4) (j : ℕ) (here : j < case .receptors .count) where
-  cells-held : CellsHold (λ q e. columnsAt e case j (q / 6) (pathwayAt (q % 6))) (case .chemicals .count * 6) (cellsOf case) (576 * j)
+module _ (scenario : Scenario) (few-chemicals : scenario .chemicals .count ≤ 16) (few-receptors : scenario .receptors .count ≤ 4) (j : ℕ) (here : j < scenario .receptors .count) where
+  cells-held : CellsHold (λ q e. columnsAt e scenario j (q / 6) (pathwayAt (q % 6))) (scenario .chemicals .count * 6) (cellsOf scenario) (576 * j)
   unfolding cellsOf cellAt lineColumns
   cells-held e w q h =
       let k : ℕ = 576 * j + 288 * sideOf e + 96 * partOf w + q in
@@ -164,47 +164,47 @@ module _ (case : Case) (few-chemicals : case .chemicals .count ≤ 16) (few-rece
       let a : k / 576 ≡ j = omega arith in
       let b : k % 96 ≡ q = omega arith in
       let c : k % 576 / 96 ≡ 3 * sideOf e + partOf w = omega arith in
-      tabulate-at 2304 (cellAt case) k (omega arith)
-      ∙ rw (a, b, c, column-at e w .0, column-at e w .1, lt-ltb j (case .receptors .count) here, lt-ltb q (case .chemicals .count * 6) h) refl
+      tabulate-at 2304 (cellAt scenario) 0 k (omega arith)
+      ∙ rw (a, b, c, column-at e w .0, column-at e w .1, lt-ltb j (scenario .receptors .count) here, lt-ltb q (scenario .chemicals .count * 6) h) refl
 
-  cells-long : length (cellsOf case) ≡ 2304
+  cells-long : length (cellsOf scenario) ≡ 2304
   unfolding cellsOf
-  cells-long = length-tabulate (cellAt case) 0 0 2304
+  cells-long = length-tabulate (cellAt scenario) 0 0 2304
 
-  held-at : (e : Effect) (w : Part) (q k : ℕ) → q < case .chemicals .count * 6 → k ≡ 576 * j + 288 * sideOf e + 96 * partOf w + q
-      → getD (cellsOf case) k 0 ≡ cellOf w (columnsAt e case j (q / 6) (pathwayAt (q % 6)))
+  held-at : (e : Effect) (w : Part) (q k : ℕ) → q < scenario .chemicals .count * 6 → k ≡ 576 * j + 288 * sideOf e + 96 * partOf w + q
+      → getD (cellsOf scenario) k 0 ≡ cellOf w (columnsAt e scenario j (q / 6) (pathwayAt (q % 6)))
   held-at e w q k h place = rw place (cells-held e w q h)
 
-  is-held : isHeld (cellsOf case) j ≡ true
+  is-held : isHeld (cellsOf scenario) j ≡ true
   unfolding isHeld
-  is-held = rw (eq-eqb (length (cellsOf case)) 2304 cells-long, lt-ltb j 4 (omega arith)) refl
+  is-held = rw (eq-eqb (length (cellsOf scenario)) 2304 cells-long, lt-ltb j 4 (omega arith)) refl
 
-  line-held : (q : ℕ) → q < case .chemicals .count * 6 → (e : Effect) → columnsIn (cellsOf case) j e q ≡ columnsAt e case j (q / 6) (pathwayAt (q % 6))
+  line-held : (q : ℕ) → q < scenario .chemicals .count * 6 → (e : Effect) → columnsIn (cellsOf scenario) j e q ≡ columnsAt e scenario j (q / 6) (pathwayAt (q % 6))
   unfolding columnsIn columnsFound partOf
   line-held q h e =
       let at : ℕ = 576 * j + 288 * sideOf e + q in
       rw (is-held, lt-ltb q 96 (omega arith), held-at e Mark q at h (omega arith), held-at e Low q (at + 96) h (omega arith), held-at e High q (at + 192) h (omega arith))
-      (again (columnsAt e case j (q / 6) (pathwayAt (q % 6))))
+      (again (columnsAt e scenario j (q / 6) (pathwayAt (q % 6))))
 
-  module _ (e : Effect) (small : (q : ℕ) → q < case .chemicals .count * 6 → (w : Part) → cellOf w (columnsAt e case j (q / 6) (pathwayAt (q % 6))) ≤ 10 ^ 16) where
+  module _ (e : Effect) (small : (q : ℕ) → q < scenario .chemicals .count * 6 → (w : Part) → cellOf w (columnsAt e scenario j (q / 6) (pathwayAt (q % 6))) ≤ 10 ^ 16) where
     column-is : (w : Part) (at : ℕ) → at ≡ 576 * j + 288 * sideOf e + 96 * partOf w
-        → take (case .chemicals .count * 6) (drop at (cellsOf case)) ≡ map (cellOf w) (chained (λ q. columnsAt e case j (q / 6) (pathwayAt (q % 6)) ∷ []) (case .chemicals .count * 6))
+        → take (scenario .chemicals .count * 6) (drop at (cellsOf scenario)) ≡ map (cellOf w) (chained (λ q. columnsAt e scenario j (q / 6) (pathwayAt (q % 6)) ∷ []) (scenario .chemicals .count * 6))
     column-is w at place =
         let s : sideOf e < 2 = side-small e in
         let p : partOf w < 3 = part-small w in
-        column-held (λ q. columnsAt e case j (q / 6) (pathwayAt (q % 6))) w (cellsOf case) at (case .chemicals .count * 6) (omega (arith, cells-long))
+        column-held (λ q. columnsAt e scenario j (q / 6) (pathwayAt (q % 6))) w (cellsOf scenario) at (scenario .chemicals .count * 6) (omega (arith, cells-long))
         (λ q l. held-at e w q (at + q) l (omega arith))
 
     -- the receptor's total
-    pub columns-total : totalIn (cellsOf case) j e (case .chemicals .count * 6) ≡ totalAt e case j
+    pub columns-total : totalIn (cellsOf scenario) j e (scenario .chemicals .count * 6) ≡ totalAt e scenario j
     unfolding totalIn totalFound totalAt partOf listed
     columns-total =
         let at : ℕ = 576 * j + 288 * sideOf e in
-        rw (is-held, lt-ltb (case .chemicals .count * 6) 97 (omega arith), column-is Mark at (omega arith), column-is Low (at + 96) (omega arith), column-is High (at + 96 + 96) (omega arith))
-        (total-summed (λ q. columnsAt e case j (q / 6) (pathwayAt (q % 6))) (case .chemicals .count * 6) (omega arith) small
-        ∙ summed-flat (λ i p. columnsAt e case j i (pathwayAt p)) (case .chemicals .count))
+        rw (is-held, lt-ltb (scenario .chemicals .count * 6) 97 (omega arith), column-is Mark at (omega arith), column-is Low (at + 96) (omega arith), column-is High (at + 96 + 96) (omega arith))
+        (total-summed (λ q. columnsAt e scenario j (q / 6) (pathwayAt (q % 6))) (scenario .chemicals .count * 6) (omega arith) small
+        ∙ summed-flat (λ i p. columnsAt e scenario j i (pathwayAt p)) (scenario .chemicals .count))
 
 -- a line's columns
-pub columns-held : (case : Case) → case .chemicals .count ≤ 16 → case .receptors .count ≤ 4 → (j q : ℕ) → j < case .receptors .count → q < case .chemicals .count * 6 → (e : Effect)
-    → columnsIn (cellsOf case) j e q ≡ columnsAt e case j (q / 6) (pathwayAt (q % 6))
-columns-held case few-chemicals few-receptors j q here h e = line-held case few-chemicals few-receptors j here q h e
+pub columns-held : (scenario : Scenario) → scenario .chemicals .count ≤ 16 → scenario .receptors .count ≤ 4 → (j q : ℕ) → j < scenario .receptors .count → q < scenario .chemicals .count * 6 → (e : Effect)
+    → columnsIn (cellsOf scenario) j e q ≡ columnsAt e scenario j (q / 6) (pathwayAt (q % 6))
+columns-held scenario few-chemicals few-receptors j q here h e = line-held scenario few-chemicals few-receptors j here q h e

@@ -1,40 +1,47 @@
 -- A slot's value as a pair and as an exact fraction: what is printed in its range is entered as the pair around the exact value, and 1 less
--- it likewise, as the equations ask of their inputs. Assumes nothing.
+-- it likewise, as the equations ask of their inputs. With receptors in range, however they are made, a case in range gives a sound scenario.
+-- Assumes nothing.
 use mathlib.Core.Path.{_≡_, refl, sym, _∙_, ap, subst}
-use mathlib.Core.Bool.{true}
+use mathlib.Core.Bool.{true, false, false≢true}
 use mathlib.Core.Logic.{_⊎_, inl, inr, ⊎-elim}
 use Prim.Native.Nat.{ℕ, _+_, _*_, _^_, _≤_, _<_}
 use native.Mathlib.Nat.{mul-le-mul-right, le-of-mul-le-mul-right, one-le-pow, mul-pos, le-trans, eq-zero-or-pos}
 use native.Mathlib.Omega.{arith}
 use lib.Dec.{lit<, lit≤}
 use lib.IntN.{ℤ, pos, negsuc}
-use lib.ListN.{List·getD-map}
+use lib.ListN.{getD, List·getD-map}
 use lib.Pow.{pow-add}
 use lib.Signed.{mag}
 use borrow.Author.Tests.{leb-true, not-true}
 use Rattle.pair.specs.declared.Pair.{Pair}
-use Rattle.pair.specs.Fraction.{rest}
+use Rattle.pair.specs.Fraction.{Fraction, rest}
 use Rattle.pair.specs.Number.{depth, place}
 use Rattle.pair.specs.Calls.{is, entry, oneMinusEntry, zeroPair, onePair}
 use Rattle.pair.specs.Promises.{Sized, scaled}
 use Rattle.pair.proofs.Promises.{one-entry, one-less-one, entry-answered, entry-around, scaled-proper, rest-entry-answered, rest-entry-around, rest-scaled-proper, rest-scaled-sized}
-use Rattle.slots.specs.Slots.{Slot, ownerOf, placeOf, ruleOf, neverZero, atMostOne}
+use Rattle.slots.specs.Slots.{Slot, ownerOf, placeOf, ruleOf, ruleFor, neverZero, atMostOne}
+use Rattle.slots.specs.declared.Sort.{Sort}
+use Rattle.slots.specs.declared.Rule.{Rule}
 use Rattle.slots.specs.declared.Owner.{Owner}
 use Rattle.slots.specs.declared.Owner.the-variants.{Site, Chemical, Receptor}
-use Rattle.slots.proofs.Laws.{most-rule}
+use Rattle.slots.proofs.Laws.{most-rule, rule-cases}
 use Rattle.equations.specs.declared.Values.{Values}
-use Rattle.equations.specs.Readings.{Inputs, valueIn, byOwner, inputs}
-use Rattle.equations.specs.Ranges.{Taken, InRange}
+use Rattle.equations.specs.Readings.{valueIn, byOwner, inputs}
+use Rattle.equations.proofs.Profile.{Good, good-around}
+use Rattle.equations.proofs.LineLaws.{ofPrinted, ofSlot, ofRest, InRange, printed-good}
 use Rattle.deck.specs.declared.Case.{Case}
 use Rattle.deck.specs.declared.Value.{Value}
 use Rattle.deck.specs.declared.Value.the-variants.{Absent, Printed}
 use Rattle.deck.specs.declared.Filled.{Filled}
 use Rattle.deck.specs.declared.Record.{Record}
 use Rattle.deck.specs.Ranges.{above, below, inRange}
-use Rattle.deck.specs.Cases.{noSlot, valueAt, chemicalAt, receptorAt, ownersRecord, printed}
+use Rattle.deck.specs.Cases.{noSlot, valueAt, chemicalAt, ownersRecord, printed}
 use Rattle.deck.specs.Ranged.{Spelled, Fits, Ranged}
 use Rattle.deck.proofs.Accepted.{range-positive, range-bounds}
-use Rattle.sheet.specs.Values.{orOne, pairOf, restOf, valuesOf, pairsAt, fractionOf, exactAt}
+use Rattle.sheet.specs.declared.Receptors.{Receptors}
+use Rattle.sheet.specs.declared.Scenario.{Scenario}
+use Rattle.sheet.specs.Values.{orOne, pairOf, restOf, valuesOf, noReceptor, chemicalIn, receptorIn, printedIn, pairsAt, scenarioWith, fractionOf, exactWith}
+use Rattle.sheet.proofs.Sound.{Sound}
 
 -- digits × 10^power as a field spells it, in the range of slot s
 pub record Printable (s : Slot) (digits : ℕ) (power : ℤ) : Type 0 where
@@ -91,18 +98,20 @@ module _ {s : Slot} {m : ℕ} {e : ℤ} (r : Printable s m e) where
             (r .least);
       }
 
-  -- the entry is taken around the exact value, and 1 less it around what is left
-  entry-taken : (p : Pair) → entry m e ≡ is p → Taken 20 (scaled m e) p
-  entry-taken p t = record { proper = scaled-proper m e; around = entry-around m e p t; sized = scaled-sized }
-
-  rest-taken : (p : Pair) → oneMinusEntry m e ≡ is p → atMostOne s ≡ true → Taken 12 (rest (scaled m e)) p
-  unfolding scaled
-  rest-taken p t z =
-      record { proper = rest-scaled-proper m e; around = rest-entry-around m e p t; sized = rest-scaled-sized m e (r .twelve) (omega (arith, scaled-most 1 (r .share z))) }
-
   scaled-some : neverZero s ≡ true → 0 < scaled m e .num
   unfolding scaled
   scaled-some z = mul-pos (r .some z) (ten-above (place e))
+
+  -- the entry is taken around the exact value, and 1 less it around what is left
+  entry-good : (p : Pair) → entry m e ≡ is p → Good (ofPrinted s) (is p) (scaled m e)
+  unfolding ofPrinted
+  entry-good p t = good-around (ofPrinted s) (scaled m e) p (scaled-proper m e) (entry-around m e p t) scaled-sized (lit≤ tt) refl scaled-some
+
+  rest-good : (p : Pair) → oneMinusEntry m e ≡ is p → atMostOne s ≡ true → Good (ofRest s) (is p) (rest (scaled m e))
+  unfolding scaled ofRest
+  rest-good p t z =
+      good-around (ofRest s) (rest (scaled m e)) p (rest-scaled-proper m e) (rest-entry-around m e p t)
+      (rest-scaled-sized m e (r .twelve) (omega (arith, scaled-most 1 (r .share z)))) (lit≤ tt) refl (λ f. absurd (false≢true f))
 
   -- both are answered, so that `orOne` does nothing
   entry-is : entry m e ≡ is (orOne (entry m e))
@@ -148,54 +157,124 @@ printable s m e r d =
       share = λ z. below-most s m e r 1 (leb-true (ruleOf s .most) 1 z);
     }
 
--- A value as its slot's rule asks, or a missing one, is an input that the equations take.
-module _ (s : Slot) (env : Inputs Pair) where
-  value-in-range : (v : Value) → Fits (ruleOf s) v → env .value s ≡ pairOf v → env .rest s ≡ restOf v → InRange s env (fractionOf v)
-  unfolding pairOf restOf fractionOf
-  value-in-range Absent f p q =
-      let one : Printable s 1 (pos 0) = one-printable s in
-      record {
-        value = rw p (entry-taken one onePair one-entry);
-        above = scaled-some one;
-        rest = λ z. rw q (rest-taken one zeroPair one-less-one z);
-      }
-  value-in-range (Printed e m) f p q =
-      let r : Printable s m e = printable s m e (f .1) (f .2) in
-      record {
-        value = rw p (entry-taken r (orOne (entry m e)) (entry-is r));
-        above = scaled-some r;
-        rest = λ z. rw q (rest-taken r (orOne (oneMinusEntry m e)) (rest-is r z) z);
-      }
+-- A value that is printed where a deck of this sort asks for one is as its slot's written rule asks.
+written-rule : (sort : Sort) (s : Slot) → ruleFor sort s .used ≡ true → ruleFor sort s ≡ ruleOf s
+written-rule sort s h = ⊎-elim (λ e. e) (λ e. absurd (false≢true (sym (ap (λ (r : Rule). r .used) e) ∙ h))) (rule-cases sort s)
 
--- ---- the pair at a slot is the pair of what is printed there
-value-at : (r : Record) (k : ℕ) → valueIn (valuesOf r) k ≡ pairOf (valueAt r k)
+printed-printable : (sort : Sort) (s : Slot) (m : ℕ) (e : ℤ) → Fits (ruleFor sort s) (Printed e m) → Printable s m e
+printed-printable sort s m e f = printable s m e (subst (λ (r : Rule). inRange r m e ≡ true) (written-rule sort s (f .0)) (f .1)) (f .2)
+
+-- It is a pair that the equations take, and so is 1 less it; a missing value reads as 1.
+pub value-good : (sort : Sort) (s : Slot) (v : Value) → Fits (ruleFor sort s) v → Good (ofPrinted s) (is (pairOf v)) (fractionOf v)
+unfolding pairOf fractionOf
+value-good sort s Absent f = entry-good (one-printable s) onePair one-entry
+value-good sort s (Printed e m) f =
+    let r : Printable s m e = printed-printable sort s m e f in
+    entry-good r (orOne (entry m e)) (entry-is r)
+
+left-good : (sort : Sort) (s : Slot) (v : Value) → Fits (ruleFor sort s) v → atMostOne s ≡ true → Good (ofRest s) (is (restOf v)) (rest (fractionOf v))
+unfolding restOf fractionOf
+left-good sort s Absent f z = rest-good (one-printable s) zeroPair one-less-one z
+left-good sort s (Printed e m) f z =
+    let r : Printable s m e = printed-printable sort s m e f in
+    rest-good r (orOne (oneMinusEntry m e)) (rest-is r z) z
+
+-- and its pair is the entry of what is printed
+pub value-entered : (sort : Sort) (s : Slot) (m : ℕ) (e : ℤ) → Fits (ruleFor sort s) (Printed e m) → entry m e ≡ is (pairOf (Printed e m))
+unfolding pairOf
+value-entered sort s m e f = entry-is (printed-printable sort s m e f)
+
+-- ---- the pair at a place of a record is the pair of what is printed there
+pub value-at : (r : Record) (k : ℕ) → valueIn (valuesOf r) k ≡ pairOf (valueAt r k)
 unfolding valueIn valuesOf valueAt pairOf
 value-at r k = List·getD-map (λ (s : Filled). pairOf (s .value)) (r .slots) k noSlot
 
-owners-values : (o : Owner) (case : Case) (j i : ℕ) → byOwner o (valuesOf (case .site)) (valuesOf (chemicalAt case i)) (valuesOf (receptorAt case j)) ≡ valuesOf (ownersRecord o case j i)
-unfolding byOwner ownersRecord
-owners-values Site case j i = refl
-owners-values Chemical case j i = refl
-owners-values Receptor case j i = refl
+absent-printed : {power : ℤ} {digits : ℕ} → Absent ≡ Printed power digits → ⊥
+absent-printed e = let z : _≡_ {A = ℕ} 0 1 = cc in omega arith
 
-pub pair-printed : (case : Case) (j i : ℕ) (s : Slot) → pairsAt case j i .value s ≡ pairOf (printed case j i s)
-unfolding pairsAt inputs printed
-pair-printed case j i s =
-    ap (λ (v : Values). valueIn v (placeOf s)) (owners-values (ownerOf s) case j i) ∙ value-at (ownersRecord (ownerOf s) case j i) (placeOf s)
+-- a slot of the site or of a chemical
+unfoldable pub OfSource : Owner → Type 0
+OfSource Site = Unit {0}
+OfSource Chemical = Unit {0}
+OfSource Receptor = ⊥
 
-pub inputs-ranged : (case : Case) → Ranged case → (j i : ℕ) → j < case .receptors .count → i < case .chemicals .count → (s : Slot) → InRange s (pairsAt case j i) (exactAt case j i s)
-unfolding exactAt pairsAt
-inputs-ranged case r j i h l s = value-in-range s (pairsAt case j i) (printed case j i s) (r .fits j i h l s) (pair-printed case j i s) refl
+source-pair : (o : Owner) → OfSource o → (a b : Record) (c : Values) (k : ℕ) → valueIn (byOwner o (valuesOf a) (valuesOf b) c) k ≡ pairOf (byOwner o (valueAt a k) (valueAt b k) Absent)
+unfolding OfSource byOwner
+source-pair Site t a b c k = value-at a k
+source-pair Chemical t a b c k = value-at b k
+source-pair Receptor t a b c k = absurd t
 
--- In a case in range each slot's pair is the entry of what is printed there, and 1 less a slot that is at most 1 is taken from its digits.
-module _ (case : Case) (ranged : Ranged case) (j i : ℕ) (j-small : j < case .receptors .count) (i-small : i < case .chemicals .count) (s : Slot) (digits : ℕ) (power : ℤ) (there : printed case j i s ≡ Printed power digits) where
-  fitting : Printable s digits power
-  fitting = let f = subst (Fits (ruleOf s)) there (ranged .fits j i j-small i-small s) in printable s digits power (f .1) (f .2)
+pub pair-printed : (scenario : Scenario) (j i : ℕ) (s : Slot) → OfSource (ownerOf s) → pairsAt scenario j i .value s ≡ pairOf (printedIn scenario i s)
+unfolding pairsAt inputs printedIn
+pair-printed scenario j i s t = source-pair (ownerOf s) t (scenario .site) (chemicalIn scenario i) (receptorIn scenario j .values) (placeOf s)
 
-  pub entered : entry digits power ≡ is (pairsAt case j i .value s)
-  unfolding pairOf
-  entered = entry-is fitting ∙ ap (λ (q : Pair). is q) (sym (pair-printed case j i s ∙ ap pairOf there))
+-- ---- a scenario of a case in range, with receptors whose slots' pairs are in range of these values
+module _ (sort : Sort) (case : Case) (ranged : Ranged sort case) where
+  module _ (i : ℕ) (i-small : i < case .chemicals .count) (s : Slot) where
+    fits : Fits (ruleFor sort s) (printed case 0 i s)
+    fits = ranged .fits 0 i (ranged .some-receptors) i-small s
 
-  pub rested : atMostOne s ≡ true → oneMinusEntry digits power ≡ is (pairsAt case j i .rest s)
-  unfolding pairsAt restOf
-  rested z = rest-is fitting z ∙ ap (λ (v : Value). is (restOf v)) (sym there)
+    value-by : (o : Owner) (c : Values) (x : Fraction) → Fits (ruleFor sort s) (valueAt (ownersRecord o case 0 i) (placeOf s)) → (o ≡ Receptor → Good (ofSlot s) (is (valueIn c (placeOf s))) x)
+        → Good (ofSlot s) (is (valueIn (byOwner o (valuesOf (case .site)) (valuesOf (chemicalAt case i)) c) (placeOf s)))
+        (byOwner o (fractionOf (valueAt (case .site) (placeOf s))) (fractionOf (valueAt (chemicalAt case i) (placeOf s))) x)
+    unfolding byOwner ownersRecord
+    value-by Site c x f g = rw value-at (printed-good s (value-good sort s (valueAt (case .site) (placeOf s)) f))
+    value-by Chemical c x f g = rw value-at (printed-good s (value-good sort s (valueAt (chemicalAt case i) (placeOf s)) f))
+    value-by Receptor c x f g = g refl
+
+    rest-by : (o : Owner) (x : Fraction) → Fits (ruleFor sort s) (valueAt (ownersRecord o case 0 i) (placeOf s)) → byOwner o (atMostOne s) (atMostOne s) false ≡ true
+        → Good (ofRest s) (is (restOf (byOwner o (valueAt (case .site) (placeOf s)) (valueAt (chemicalAt case i) (placeOf s)) Absent)))
+        (rest (byOwner o (fractionOf (valueAt (case .site) (placeOf s))) (fractionOf (valueAt (chemicalAt case i) (placeOf s))) x))
+    unfolding byOwner ownersRecord
+    rest-by Site x f z = left-good sort s (valueAt (case .site) (placeOf s)) f z
+    rest-by Chemical x f z = left-good sort s (valueAt (chemicalAt case i) (placeOf s)) f z
+    rest-by Receptor x f z = absurd (false≢true z)
+
+  module _ (receptors′ : Receptors) (receptor : ℕ → Slot → Fraction) where
+    input-ranged : (i : ℕ) → i < case .chemicals .count → (s : Slot) (j : ℕ)
+        → (ownerOf s ≡ Receptor → Good (ofSlot s) (is (valueIn (getD (receptors′ .list) j noReceptor .values) (placeOf s))) (receptor j s))
+        → InRange s (pairsAt (scenarioWith case receptors′) j i) (exactWith case receptor j i s)
+    unfolding pairsAt inputs printedIn scenarioWith exactWith printed chemicalIn receptorIn chemicalAt ofRest
+    input-ranged i i-small s j g =
+        record {
+          value = value-by i i-small s (ownerOf s) (getD (receptors′ .list) j noReceptor .values) (receptor j s) (fits i i-small s) g;
+          rest = λ z. rest-by i i-small s (ownerOf s) (receptor j s) (fits i i-small s) z;
+        }
+
+    pub made-sound : 1 ≤ receptors′ .count → receptors′ .count ≤ 4
+        → ((j : ℕ) → j < receptors′ .count → (s : Slot) → ownerOf s ≡ Receptor → Good (ofSlot s) (is (valueIn (getD (receptors′ .list) j noReceptor .values) (placeOf s))) (receptor j s))
+        → Sound (scenarioWith case receptors′) (exactWith case receptor)
+    unfolding scenarioWith
+    made-sound some few good =
+        record {
+          few-chemicals = ranged .few-chemicals;
+          some-receptors = some;
+          few-receptors = few;
+          inputs = λ j i h l s. input-ranged i l s j (good j h s);
+        }
+
+  -- Each slot's pair, of the site or of a chemical, is the entry of what is printed there, and 1 less a slot that is at most 1 is taken from
+  -- its digits.
+  module _ (receptors′ : Receptors) (j i : ℕ) (i-small : i < case .chemicals .count) (s : Slot) (digits : ℕ) (power : ℤ) (there : printedIn (scenarioWith case receptors′) i s ≡ Printed power digits) where
+    source-by : (o : Owner) → Fits (ruleFor sort s) (valueAt (ownersRecord o case 0 i) (placeOf s))
+        → byOwner o (valueAt (case .site) (placeOf s)) (valueAt (chemicalAt case i) (placeOf s)) Absent ≡ Printed power digits
+        → OfSource o × Fits (ruleFor sort s) (Printed power digits)
+    unfolding byOwner ownersRecord OfSource
+    source-by Site f e = (tt, subst (Fits (ruleFor sort s)) e f)
+    source-by Chemical f e = (tt, subst (Fits (ruleFor sort s)) e f)
+    source-by Receptor f e = absurd (absent-printed e)
+
+    of-source : OfSource (ownerOf s) × Fits (ruleFor sort s) (Printed power digits)
+    unfolding printedIn scenarioWith printed chemicalIn chemicalAt
+    of-source = source-by (ownerOf s) (fits i i-small s) there
+
+    fitting : Printable s digits power
+    fitting = printed-printable sort s digits power (of-source .1)
+
+    pub source-entered : entry digits power ≡ is (pairsAt (scenarioWith case receptors′) j i .value s)
+    unfolding pairOf
+    source-entered = entry-is fitting ∙ ap (λ (q : Pair). is q) (sym (pair-printed (scenarioWith case receptors′) j i s (of-source .0) ∙ ap pairOf there))
+
+    pub source-rested : atMostOne s ≡ true → oneMinusEntry digits power ≡ is (pairsAt (scenarioWith case receptors′) j i .rest s)
+    unfolding pairsAt restOf
+    source-rested z = rest-is fitting z ∙ ap (λ (v : Value). is (restOf v)) (sym there)

@@ -1,6 +1,7 @@
 -- The crate's laws: what is worked against what is defined, what cells hold, and demand 3 of a case (`DemandThree`). Assumes nothing.
 mod ValueLaws
 pub mod Chains
+pub mod Sound
 pub mod Inputs
 mod SourceLaws
 mod ChemicalLaws
@@ -8,6 +9,7 @@ mod ReceptorLaws
 mod CellLaws
 mod CountLaws
 pub mod Held
+pub mod Entered
 mod Clear
 mod TotalLaws
 mod LineTotals

@@ -26,15 +26,15 @@ use Rattle.equations.specs.Page.{x, line}
 use Rattle.equations.specs.Readings.{letters, plain, asAnswers, exactly, inputs, byOwner, valueIn}
 use Rattle.equations.specs.Ranges.{sixtyFour}
 use Rattle.equations.proofs.LineLaws.{Works, x-answered, line-works, line-narrow}
-use Rattle.deck.specs.declared.Case.{Case}
 use Rattle.deck.specs.Ranges.{above, below}
-use Rattle.deck.specs.Ranged.{Ranged}
 use Rattle.slots.specs.Slots.{table, same, isIn, placeIn, ownerOf, placeOf}
 use Rattle.totals.specs.declared.Columns.the-variants as Cols
-use Rattle.sheet.specs.Values.{pairsAt, exactAt}
+use Rattle.sheet.specs.declared.Scenario.{Scenario}
+use Rattle.sheet.specs.Values.{pairsAt}
 use Rattle.sheet.specs.Sheet.{hasReference, figureAt, unitOf, capOf, counted, countedIn, columnsAt, isAbove, highAbove, exponentAt, overCap}
-use Rattle.sheet.specs.DemandThree.{Enclosed, unitsPerOne, inUnitsOf, nothing, exactLine, lineCounts}
-use Rattle.sheet.proofs.Inputs.{inputs-ranged, ten-above, place-power}
+use Rattle.sheet.specs.DemandThree.{Exact, Enclosed, unitsPerOne, inUnitsOf, nothing, exactLine, lineCounts}
+use Rattle.sheet.proofs.Sound.{Sound}
+use Rattle.sheet.proofs.Inputs.{ten-above, place-power}
 use Rattle.sheet.proofs.TotalLaws.{Totals, totals-none}
 
 -- ---- bounds
@@ -145,58 +145,58 @@ enclosed-from l h n x q a b c =
       close = c;
     }
 
--- ---- a line of a case
+-- ---- a line of a scenario
 -- the line's pair, at most the cap, and its counts
-pub record Figure (case : Case) (j i : ℕ) (e : Effect) (w : Pathway) : Type 0 where
+pub record Figure (scenario : Scenario) (exact : Exact) (j i : ℕ) (e : Effect) (w : Pathway) : Type 0 where
   pub pair : Pair
-  pub works : Works (pairsAt case j i) (exactAt case j i) (line e w) pair
+  pub works : Works (pairsAt scenario j i) (exact j i) (line e w) pair
   pub capped : value (pair .high) ≤ᶠ value (capOf e)
   pub units : pairUnits.Units
   pub told : inUnits pair (unitOf e) ≡ is units
 
-module _ (case : Case) (ranged : Ranged case) (j i : ℕ) (j-small : j < case .receptors .count) (i-small : i < case .chemicals .count) (slow : highAbove sixtyFour (exponentAt case i) ≡ false) where
+module _ (scenario : Scenario) {exact : Exact} (sound : Sound scenario exact) (j i : ℕ) (j-small : j < scenario .receptors .count) (i-small : i < scenario .chemicals .count) (slow : highAbove sixtyFour (exponentAt scenario i) ≡ false) where
   -- x names no receptor's slot
-  x-same : plain pairs (asAnswers (pairsAt case j i) .value) x ≡ exponentAt case i
+  x-same : plain pairs (asAnswers (pairsAt scenario j i) .value) x ≡ exponentAt scenario i
   unfolding exponentAt plain asAnswers read letters x page.k page.u page.kse page.ksr page.ksl pairs pairsAt inputs byOwner ownerOf placeOf table same isIn placeIn
   x-same = refl
 
-  pub x-most : (p : Pair) × (plain pairs (asAnswers (pairsAt case j i) .value) x ≡ is p) × (value (p .high) ≤ᶠ value sixtyFour)
+  pub x-most : (p : Pair) × (plain pairs (asAnswers (pairsAt scenario j i) .value) x ≡ is p) × (value (p .high) ≤ᶠ value sixtyFour)
   x-most =
-      let a = x-answered (pairsAt case j i) (exactAt case j i) (inputs-ranged case ranged j i j-small i-small) in
+      let a = x-answered (pairsAt scenario j i) (exact j i) (sound .inputs j i j-small i-small) in
       let t : highAbove sixtyFour (is (a .0)) ≡ false = subst (λ (o : Outcome Pair). highAbove sixtyFour o ≡ false) (sym x-same ∙ a .1) slow in
       (a .0, a .1, not-above sixtyFour (a .0) sixty-four-number (a .2) t)
 
-  figure-works : (e : Effect) (w : Pathway) → (r : Pair) × Works (pairsAt case j i) (exactAt case j i) (line e w) r
-  figure-works e w = line-works (pairsAt case j i) (exactAt case j i) (inputs-ranged case ranged j i j-small i-small) (x-most .0) (x-most .1) (x-most .2) e w
+  figure-works : (e : Effect) (w : Pathway) → (r : Pair) × Works (pairsAt scenario j i) (exact j i) (line e w) r
+  figure-works e w = line-works (pairsAt scenario j i) (exact j i) (sound .inputs j i j-small i-small) (x-most .0) (x-most .1) (x-most .2) e w
 
-  pub figure-counted : (e : Effect) (w : Pathway) → highAbove (capOf e) (figureAt e case j i w) ≡ false → Figure case j i e w
+  pub figure-counted : (e : Effect) (w : Pathway) → highAbove (capOf e) (figureAt e scenario j i w) ≡ false → Figure scenario exact j i e w
   unfolding figureAt
   figure-counted e w c =
       let r : Pair = figure-works e w .0 in
-      let k : Works (pairsAt case j i) (exactAt case j i) (line e w) r = figure-works e w .1 in
+      let k : Works (pairsAt scenario j i) (exact j i) (line e w) r = figure-works e w .1 in
       let b : value (r .high) ≤ᶠ value (capOf e) = not-above (capOf e) r (cap-number e) (k .pair) (subst (λ (o : Outcome Pair). highAbove (capOf e) o ≡ false) (k .told) c) in
       let a = units-answered r (unitOf e) (k .pair) (unit-reach e) (through (value-proper (capOf e)) b (cap-units e 9999999999999999999 (lit≤ tt))) in
       record { pair = r; works = k; capped = b; units = a .0; told = a .1 }
 
-  figure-totals : (e : Effect) (w : Pathway) → highAbove (capOf e) (figureAt e case j i w) ≡ false → (N : ℕ) → 256 ≤ N →
-      Totals (countedIn (unitOf e) (figureAt e case j i w)) 1 (inUnitsOf e (exactly N (exactAt case j i) (line e w)))
+  figure-totals : (e : Effect) (w : Pathway) → highAbove (capOf e) (figureAt e scenario j i w) ≡ false → (N : ℕ) → 256 ≤ N →
+      Totals (countedIn (unitOf e) (figureAt e scenario j i w)) 1 (inUnitsOf e (exactly N (exact j i) (line e w)))
   unfolding figureAt countedIn counted Totals
   figure-totals e w c N n =
-      let f : Figure case j i e w = figure-counted e w c in
-      let x : Fraction = exactly N (exactAt case j i) (line e w) in
+      let f : Figure scenario exact j i e w = figure-counted e w c in
+      let x : Fraction = exactly N (exact j i) (line e w) in
       let q : Enclosed (f .units .low) (f .units .high) 1 (inUnitsOf e x) =
-      line-enclosed e (f .pair) (f .units) x (f .told) (f .works .held N n) (line-narrow (pairsAt case j i) (exactAt case j i) e w (f .pair) (f .works))
+      line-enclosed e (f .pair) (f .units) x (f .told) (f .works .held N n) (line-narrow (pairsAt scenario j i) (exact j i) e w (f .pair) (f .works))
       in
       let s = count-small e (f .pair) (f .units) x (f .told) (f .works .held N n) (f .capped) in
       rw (f .works .told, f .told) (enclosed-from _ _ (f .units) (inUnitsOf e x) q (omega arith) (omega (arith, s)) (omega (arith, q .close)))
 
-  by-reference : (t : Bool) (e : Effect) (w : Pathway) → (t && highAbove (capOf e) (figureAt e case j i w)) ≡ false → (N : ℕ) → 256 ≤ N →
-      Totals (cond t (countedIn (unitOf e) (figureAt e case j i w)) Cols.Absent) (cond t 1 0) (cond t (inUnitsOf e (exactly N (exactAt case j i) (line e w))) nothing)
+  by-reference : (t : Bool) (e : Effect) (w : Pathway) → (t && highAbove (capOf e) (figureAt e scenario j i w)) ≡ false → (N : ℕ) → 256 ≤ N →
+      Totals (cond t (countedIn (unitOf e) (figureAt e scenario j i w)) Cols.Absent) (cond t 1 0) (cond t (inUnitsOf e (exactly N (exact j i) (line e w))) nothing)
   by-reference true e w c N n = figure-totals e w c N n
   by-reference false e w c N n = totals-none
 
   -- A line's columns and its exact fraction; without the reference value it counts nothing.
-  pub line-totals : (e : Effect) (w : Pathway) → overCap e case j i w ≡ false → (N : ℕ) → 256 ≤ N →
-      Totals (columnsAt e case j i w) (lineCounts e case i w) (exactLine e case N j i w)
+  pub line-totals : (e : Effect) (w : Pathway) → overCap e scenario j i w ≡ false → (N : ℕ) → 256 ≤ N →
+      Totals (columnsAt e scenario j i w) (lineCounts e scenario i w) (exactLine e scenario exact N j i w)
   unfolding overCap columnsAt lineCounts exactLine
-  line-totals e w c N n = by-reference (hasReference e case i w) e w c N n
+  line-totals e w c N n = by-reference (hasReference e scenario i w) e w c N n

@@ -11,15 +11,14 @@ use Rattle.equations.specs.declared.Pathway.{Pathway}
 use Rattle.equations.specs.declared.Values.{Values}
 use Rattle.equations.proofs.ValueLaws.{read-any}
 use Rattle.pathway.specs.Lines.{Figured}
-use Rattle.deck.specs.declared.Record.{Record}
 use Rattle.deck.specs.declared.Status.{Status}
 use Rattle.deck.specs.declared.Status.the-variants.{Read, Stopped}
 use Rattle.deck.specs.Conditions.{first}
-use Rattle.deck.specs.Cases.{noRecord}
 use Rattle.totals.specs.declared.Columns.{Columns}
+use Rattle.sheet.specs.declared.Receptor.{Receptor}
 use Rattle.sheet.specs.declared.Source.{Source}
 use Rattle.sheet.specs.declared.Sources.{Sources}
-use Rattle.sheet.specs.Values.{valuesOf}
+use Rattle.sheet.specs.Values.{noReceptor}
 use Rattle.sheet.specs.Sheet.{chained, pathwayAt}
 use Rattle.sheet.specs.Inner.{noSource, sourceAt, columnsOf, figuresFrom, figureFor, figuresWorked, columnsWorked, isLarge, largeLine, largeWorked, perReceptor, allLarge}
 use Rattle.sheet.proofs.Chains.{goes-on, stops}
@@ -54,20 +53,20 @@ module _ (site′ : Values) (sources : Sources) (r : Values) (before q : ℕ) (n
       stops (largeLine site′ sources r before) q none (Stopped 42 (before + (q + 1)) 0) here (sources .count * 6) l 42 (before + (q + 1)) 0 refl
 
 -- Receptor after receptor.
-module _ (site′ : Values) (sources : Sources) (records : List Record) (blank : Record) (j : ℕ) (here : j < length records) (r : Values)
-    (is-receptor : r ≡ valuesOf (getD records j blank)) where
-  pub receptor-is : r ≡ valuesOf (getD records j noRecord)
-  receptor-is = is-receptor ∙ ap valuesOf (read-any records j here blank noRecord)
+module _ (site′ : Values) (sources : Sources) (list : List Receptor) (blank : Receptor) (j : ℕ) (here : j < length list) (r : Values)
+    (is-receptor : r ≡ getD list j blank .values) where
+  pub receptor-is : r ≡ getD list j noReceptor .values
+  receptor-is = is-receptor ∙ ap (λ (x : Receptor). x .values) (read-any list j here blank noReceptor)
 
-  module _ (s : Status) (is-first : s ≡ first (largeWorked site′ sources r (j * perReceptor (sources .count)))) (none : first (allLarge site′ sources records j) ≡ Read) where
-    large-is-here : s ≡ first (largeWorked site′ sources (valuesOf (getD records j noRecord)) (j * perReceptor (sources .count)))
+  module _ (s : Status) (is-first : s ≡ first (largeWorked site′ sources r (j * perReceptor (sources .count)))) (none : first (allLarge site′ sources list j) ≡ Read) where
+    large-is-here : s ≡ first (largeWorked site′ sources (getD list j noReceptor .values) (j * perReceptor (sources .count)))
     large-is-here = is-first ∙ ap (λ (x : Values). first (largeWorked site′ sources x (j * perReceptor (sources .count)))) receptor-is
 
-    pub large-on : s ≡ Read → first (allLarge site′ sources records (j + 1)) ≡ Read
+    pub large-on : s ≡ Read → first (allLarge site′ sources list (j + 1)) ≡ Read
     unfolding allLarge
-    large-on read = goes-on (λ k. largeWorked site′ sources (valuesOf (getD records k noRecord)) (k * perReceptor (sources .count))) j none s large-is-here read
+    large-on read = goes-on (λ k. largeWorked site′ sources (getD list k noReceptor .values) (k * perReceptor (sources .count))) j none s large-is-here read
 
-    pub large-stops : (count : ℕ) → j < count → (number line field : ℕ) → s ≡ Stopped number line field → s ≡ first (allLarge site′ sources records count)
+    pub large-stops : (count : ℕ) → j < count → (number line field : ℕ) → s ≡ Stopped number line field → s ≡ first (allLarge site′ sources list count)
     unfolding allLarge
     large-stops count l number line field q =
-        stops (λ k. largeWorked site′ sources (valuesOf (getD records k noRecord)) (k * perReceptor (sources .count))) j none s large-is-here count l number line field q
+        stops (λ k. largeWorked site′ sources (getD list k noReceptor .values) (k * perReceptor (sources .count))) j none s large-is-here count l number line field q

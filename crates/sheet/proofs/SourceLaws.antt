@@ -1,11 +1,11 @@
--- What the crates below work for a chemical and for its lines is the page read from the case's slots: for every case in which the chemical's
+-- What the crates below work for a chemical and for its lines is the page read from the scenario's slots: for every scenario in which the chemical's
 -- media are worked, each line's columns and its cap are those of the definitions. Assumes nothing.
 use mathlib.Core.Path.{_≡_, refl, sym, _∙_, ap, ap₂}
 use mathlib.Core.Bool.{Bool, true, false, cond, _&&_, true≢false}
 use Prim.Native.Nat.{ℕ, _<_}
 use Rattle.pair.specs.declared.Pair.{Pair}
 use Rattle.pair.specs.Calls.{Outcome, is, refused, mapped, checked, after, afterOne, product, quotient}
-use Rattle.slots.specs.Slots.{table, same, isIn, placeIn, ownerOf, placeOf}
+use Rattle.slots.specs.Slots.{Slot, table, same, isIn, placeIn, ownerOf, placeOf}
 use Rattle.equations.specs.declared.Pathway.{Pathway}
 use Rattle.equations.specs.declared.Pathway.the-variants.{Air, SoilSummer, SoilWinter, Skin, AboveGround, BelowGround}
 use Rattle.equations.specs.declared.Effect.{Effect}
@@ -22,17 +22,17 @@ use Rattle.pathway.specs.declared.Factor.{Factor}
 use Rattle.pathway.specs.declared.Dose.{Dose}
 use Rattle.pathway.specs.declared.References.{References}
 use Rattle.pathway.specs.Lines.{Optional, some, none, workedFor, factorOf, concentrationFor, doseOf, figureOf, rfdGiven, csfGiven, rfdValue, csfValue, quotientOf, riskOf, figuresOf}
-use Rattle.deck.specs.declared.Case.{Case}
 use Rattle.deck.specs.declared.Record.{Record}
 use Rattle.deck.specs.declared.Value.{Value}
 use Rattle.deck.specs.declared.Value.the-variants.{Absent, Printed}
-use Rattle.deck.specs.Cases.{valueAt, chemicalAt, receptorAt, ownersRecord, printed}
+use Rattle.deck.specs.Cases.{valueAt}
 use Rattle.totals.specs.declared.Columns.the-variants as Cols
-use Rattle.sheet.specs.Values.{pairOf, valuesOf, particlesOf, pairsAt}
+use Rattle.sheet.specs.declared.Scenario.{Scenario}
+use Rattle.sheet.specs.Values.{pairOf, valuesOf, particlesOf, chemicalIn, receptorIn, printedIn, pairsAt}
 use Rattle.sheet.specs.Sheet.{isPrinted, hasReference, figureAt, unitOf, capOf, countedIn, columnsAt, highAbove, overCap}
 use Rattle.sheet.specs.Counts.{isRefused, mediaFor}
 use Rattle.sheet.specs.Inner.{columnsOf, aboveCap, mediaFrom, mediaWith, rfdOf, csfOf, referencesOf, sourceWith, sourceOf, figuresFrom, figureFor}
-use Rattle.sheet.proofs.Inputs.{pair-printed}
+use Rattle.sheet.proofs.Inputs.{OfSource, pair-printed}
 
 -- ---- the media
 -- media that are told hold the four concentrations
@@ -55,38 +55,38 @@ unfolding given isRefused
 given-told (is p) a c f r m h e = four-told a c f r m h e
 given-told (refused n) a c f r m h e = absurd (true≢false h)
 
--- the page's media are read alike from what the media call takes and from the case's slots
-pub medium-read : (p : Pathway) (case : Case) (j i : ℕ) →
-    worked (mediaInputs (valuesOf (case .site)) (valuesOf (chemicalAt case i)) (particlesOf (chemicalAt case i))) (page.medium p) ≡ worked (pairsAt case j i) (page.medium p)
-unfolding worked plain read letters pairs asAnswers mediaInputs pairsAt particlesOf printed ownersRecord inputs byOwner ownerOf placeOf table same isIn placeIn page.medium byMedium page.A page.D page.C page.aboveGround page.belowGround page.g page.x page.k page.u page.kse page.ksr page.ksl
-medium-read Air case j i = refl
-medium-read SoilSummer case j i = refl
-medium-read SoilWinter case j i = refl
-medium-read Skin case j i = refl
-medium-read AboveGround case j i = refl
-medium-read BelowGround case j i = refl
+-- the page's media are read alike from what the media call takes and from the scenario's slots
+pub medium-read : (p : Pathway) (scenario : Scenario) (j i : ℕ) →
+    worked (mediaInputs (valuesOf (scenario .site)) (valuesOf (chemicalIn scenario i)) (particlesOf (chemicalIn scenario i))) (page.medium p) ≡ worked (pairsAt scenario j i) (page.medium p)
+unfolding worked plain read letters pairs asAnswers mediaInputs pairsAt particlesOf printedIn inputs byOwner ownerOf placeOf table same isIn placeIn page.medium byMedium page.A page.D page.C page.aboveGround page.belowGround page.g page.x page.k page.u page.kse page.ksr page.ksl
+medium-read Air scenario j i = refl
+medium-read SoilSummer scenario j i = refl
+medium-read SoilWinter scenario j i = refl
+medium-read Skin scenario j i = refl
+medium-read AboveGround scenario j i = refl
+medium-read BelowGround scenario j i = refl
 
 -- and so are its factors, in which neither φ nor 1 − stands
-exposure-read : (p : Pathway) (case : Case) (j i : ℕ) →
-    workedFor (valuesOf (case .site)) (valuesOf (chemicalAt case i)) (valuesOf (receptorAt case j)) (page.exposure p) ≡ worked (pairsAt case j i) (page.exposure p)
+exposure-read : (p : Pathway) (scenario : Scenario) (j i : ℕ) →
+    workedFor (valuesOf (scenario .site)) (valuesOf (chemicalIn scenario i)) (receptorIn scenario j .values) (page.exposure p) ≡ worked (pairsAt scenario j i) (page.exposure p)
 unfolding workedFor worked plain read letters pairs asAnswers pairsAt page.exposure
-exposure-read Air case j i = refl
-exposure-read SoilSummer case j i = refl
-exposure-read SoilWinter case j i = refl
-exposure-read Skin case j i = refl
-exposure-read AboveGround case j i = refl
-exposure-read BelowGround case j i = refl
+exposure-read Air scenario j i = refl
+exposure-read SoilSummer scenario j i = refl
+exposure-read SoilWinter scenario j i = refl
+exposure-read Skin scenario j i = refl
+exposure-read AboveGround scenario j i = refl
+exposure-read BelowGround scenario j i = refl
 
-base-read : (e : Effect) (case : Case) (j i : ℕ) →
-    workedFor (valuesOf (case .site)) (valuesOf (chemicalAt case i)) (valuesOf (receptorAt case j)) (page.B e) ≡ worked (pairsAt case j i) (page.B e)
+base-read : (e : Effect) (scenario : Scenario) (j i : ℕ) →
+    workedFor (valuesOf (scenario .site)) (valuesOf (chemicalIn scenario i)) (receptorIn scenario j .values) (page.B e) ≡ worked (pairsAt scenario j i) (page.B e)
 unfolding workedFor worked plain read letters pairs asAnswers pairsAt page.B page.AT
-base-read Hazard case j i = refl
-base-read Cancer case j i = refl
+base-read Hazard scenario j i = refl
+base-read Cancer scenario j i = refl
 
-factor-read : (e : Effect) (p : Pathway) (case : Case) (j i : ℕ) →
-    workedFor (valuesOf (case .site)) (valuesOf (chemicalAt case i)) (valuesOf (receptorAt case j)) (page.factor e p) ≡ worked (pairsAt case j i) (page.factor e p)
+factor-read : (e : Effect) (p : Pathway) (scenario : Scenario) (j i : ℕ) →
+    workedFor (valuesOf (scenario .site)) (valuesOf (chemicalIn scenario i)) (receptorIn scenario j .values) (page.factor e p) ≡ worked (pairsAt scenario j i) (page.factor e p)
 unfolding workedFor worked plain read pairs page.factor
-factor-read e p case j i = ap₂ (after quotient) (exposure-read p case j i) (base-read e case j i)
+factor-read e p scenario j i = ap₂ (after quotient) (exposure-read p scenario j i) (base-read e scenario j i)
 
 module _ (env : Inputs Pair) (told : isRefused (mediaOf env) ≡ false) where
   parts : Told (worked env page.A) (worked env page.C) (worked env page.aboveGround) (worked env page.belowGround) (mediaFrom (mediaOf env))
@@ -114,17 +114,17 @@ dose-again (is p) = refl
 dose-again (refused n) = refl
 
 -- the dose as a pair is the page's intake
-module _ (case : Case) (j i : ℕ) (e : Effect) (p : Pathway) (m : Conc) (medium-is : worked (pairsAt case j i) (page.medium p) ≡ is (m .0)) where
+module _ (scenario : Scenario) (j i : ℕ) (e : Effect) (p : Pathway) (m : Conc) (medium-is : worked (pairsAt scenario j i) (page.medium p) ≡ is (m .0)) where
   factor : Outcome Factor
-  factor = factorOf e p (valuesOf (case .site)) (valuesOf (chemicalAt case i)) (valuesOf (receptorAt case j))
+  factor = factorOf e p (valuesOf (scenario .site)) (valuesOf (chemicalIn scenario i)) (receptorIn scenario j .values)
 
-  dose-is : mapped (λ (g : Dose). g .0) (doseOf factor m) ≡ worked (pairsAt case j i) (page.intake e p)
+  dose-is : mapped (λ (g : Dose). g .0) (doseOf factor m) ≡ worked (pairsAt scenario j i) (page.intake e p)
   unfolding factor doseOf factorOf page.intake intakeBy worked read pairs
   dose-is =
       dose-again (after product (mapped (λ (g : Factor). g .0) factor) (is (m .0)))
       ∙ ap (λ (o : Outcome Pair). after product o (is (m .0)))
-      (factor-again (workedFor (valuesOf (case .site)) (valuesOf (chemicalAt case i)) (valuesOf (receptorAt case j)) (page.factor e p)) ∙ factor-read e p case j i)
-      ∙ ap (λ (o : Outcome Pair). after product (worked (pairsAt case j i) (page.factor e p)) o) (sym medium-is)
+      (factor-again (workedFor (valuesOf (scenario .site)) (valuesOf (chemicalIn scenario i)) (receptorIn scenario j .values) (page.factor e p)) ∙ factor-read e p scenario j i)
+      ∙ ap (λ (o : Outcome Pair). after product (worked (pairsAt scenario j i) (page.factor e p)) o) (sym medium-is)
 
 -- ---- a figure
 line-by : (e : Effect) (p : Pathway) (v : Inputs Pair) → worked v (page.line e p) ≡ figureBy (after product) (after quotient) e (worked v (page.intake e p)) (is (v .value (referenceSlot e p)))
@@ -161,14 +161,25 @@ referenceAt : Effect → Pathway → Record → Value
 referenceAt Hazard p r = byRoute p (valueAt r (placeOf "RfDi")) (valueAt r (placeOf "RfDo"))
 referenceAt Cancer p r = byRoute p (valueAt r (placeOf "CSFi")) (valueAt r (placeOf "CSFo"))
 
-reference-printed : (case : Case) (j i : ℕ) (e : Effect) (p : Pathway) → printed case j i (referenceSlot e p) ≡ referenceAt e p (chemicalAt case i)
-unfolding referenceAt referenceSlot printed ownersRecord ownerOf placeOf table same isIn placeIn
-reference-printed case j i Hazard p = routed (printed case j i) p "RfDi" "RfDo"
-reference-printed case j i Cancer p = routed (printed case j i) p "CSFi" "CSFo"
+reference-printed : (scenario : Scenario) (i : ℕ) (e : Effect) (p : Pathway) → printedIn scenario i (referenceSlot e p) ≡ referenceAt e p (chemicalIn scenario i)
+unfolding referenceAt referenceSlot printedIn byOwner ownerOf placeOf table same isIn placeIn
+reference-printed scenario i Hazard p = routed (printedIn scenario i) p "RfDi" "RfDo"
+reference-printed scenario i Cancer p = routed (printedIn scenario i) p "CSFi" "CSFo"
 
-has-reference : (case : Case) (j i : ℕ) (e : Effect) (p : Pathway) → isPrinted (printed case j i (referenceSlot e p)) ≡ hasReference e case i p
-unfolding hasReference
-has-reference case j i e p = ap isPrinted (reference-printed case j i e p ∙ sym (reference-printed case 0 i e p))
+-- it is a chemical's
+by-route : {A : Type 0} (P : A → Type 0) (p : Pathway) (x y : A) → P x → P y → P (byRoute p x y)
+unfolding byRoute
+by-route P Air x y a b = a
+by-route P SoilSummer x y a b = b
+by-route P SoilWinter x y a b = b
+by-route P Skin x y a b = b
+by-route P AboveGround x y a b = b
+by-route P BelowGround x y a b = b
+
+reference-source : (e : Effect) (p : Pathway) → OfSource (ownerOf (referenceSlot e p))
+unfolding referenceSlot OfSource ownerOf table same isIn
+reference-source Hazard p = by-route (λ (s : Slot). OfSource (ownerOf s)) p "RfDi" "RfDo" tt tt
+reference-source Cancer p = by-route (λ (s : Slot). OfSource (ownerOf s)) p "CSFi" "CSFo" tt tt
 
 -- a line's figure from its dose and what is printed for its reference value
 figure-for : (e : Effect) (p : Pathway) (s c r : Values) (m : Media) (chemical : Record) →
@@ -213,59 +224,57 @@ figure-columns e d (Printed power digits) =
     let o : Outcome Pair = figureBy (after product) (after quotient) e (mapped (λ (g : Dose). g .0) d) (is (pairOf (Printed power digits))) in
     (columns-some e o, cap-some e o)
 
--- ---- a line of a case whose chemical has media
-module _ (case : Case) (j i : ℕ) (p : Pathway) (told : isRefused (mediaFor case i) ≡ false) (e : Effect) where
+-- ---- a line of a scenario whose chemical has media
+module _ (scenario : Scenario) (j i : ℕ) (p : Pathway) (told : isRefused (mediaFor scenario i) ≡ false) (e : Effect) where
   S : Values
-  S = valuesOf (case .site)
+  S = valuesOf (scenario .site)
 
   C : Values
-  C = valuesOf (chemicalAt case i)
+  C = valuesOf (chemicalIn scenario i)
 
   R : Values
-  R = valuesOf (receptorAt case j)
+  R = receptorIn scenario j .values
 
   media : Media
-  media = mediaFrom (mediaFor case i)
+  media = mediaFrom (mediaFor scenario i)
 
   value : Value
-  value = printed case j i (referenceSlot e p)
+  value = printedIn scenario i (referenceSlot e p)
 
   dose : Outcome Dose
   dose = doseOf (factorOf e p S C R) (concentrationFor p media)
 
-  figured : figureFor e (figuresFrom S R (sourceOf S (chemicalAt case i)) p) ≡ figureOf e dose (optional value)
+  figured : figureFor e (figuresFrom S R (sourceOf S (chemicalIn scenario i)) p) ≡ figureOf e dose (optional value)
   unfolding figuresFrom sourceOf sourceWith mediaWith mediaFor S C R media value dose
-  figured = figure-for e p S C R media (chemicalAt case i) ∙ ap (λ (v : Value). figureOf e dose (optional v)) (sym (reference-printed case j i e p))
+  figured = figure-for e p S C R media (chemicalIn scenario i) ∙ ap (λ (v : Value). figureOf e dose (optional v)) (sym (reference-printed scenario i e p))
 
-  intake-is : mapped (λ (g : Dose). g .0) dose ≡ worked (pairsAt case j i) (page.intake e p)
+  intake-is : mapped (λ (g : Dose). g .0) dose ≡ worked (pairsAt scenario j i) (page.intake e p)
   unfolding mediaFor S C R media dose factor
-  intake-is = dose-is case j i e p (concentrationFor p media) (sym (medium-read p case j i) ∙ medium-told (mediaInputs S C (particlesOf (chemicalAt case i))) told p)
+  intake-is = dose-is scenario j i e p (concentrationFor p media) (sym (medium-read p scenario j i) ∙ medium-told (mediaInputs S C (particlesOf (chemicalIn scenario i))) told p)
 
-  figure-is : figureBy (after product) (after quotient) e (mapped (λ (g : Dose). g .0) dose) (is (pairOf value)) ≡ figureAt e case j i p
+  figure-is : figureBy (after product) (after quotient) e (mapped (λ (g : Dose). g .0) dose) (is (pairOf value)) ≡ figureAt e scenario j i p
   unfolding figureAt value
   figure-is =
       ap (λ (o : Outcome Pair). figureBy (after product) (after quotient) e o (is (pairOf value))) intake-is
-      ∙ ap (λ (q : Pair). figureBy (after product) (after quotient) e (worked (pairsAt case j i) (page.intake e p)) (is q)) (sym (pair-printed case j i (referenceSlot e p)))
-      ∙ sym (line-by e p (pairsAt case j i))
+      ∙ ap (λ (q : Pair). figureBy (after product) (after quotient) e (worked (pairsAt scenario j i) (page.intake e p)) (is q)) (sym (pair-printed scenario j i (referenceSlot e p) (reference-source e p)))
+      ∙ sym (line-by e p (pairsAt scenario j i))
 
-  columns-agree : columnsOf e (figureFor e (figuresFrom S R (sourceOf S (chemicalAt case i)) p)) ≡ columnsAt e case j i p
-  unfolding columnsAt value
+  columns-agree : columnsOf e (figureFor e (figuresFrom S R (sourceOf S (chemicalIn scenario i)) p)) ≡ columnsAt e scenario j i p
+  unfolding columnsAt hasReference value
   columns-agree =
       ap (columnsOf e) figured
       ∙ figure-columns e dose value .0
       ∙ ap (λ (o : Outcome Pair). cond (isPrinted value) (countedIn (unitOf e) o) Cols.Absent) figure-is
-      ∙ ap (λ (t : Bool). cond t (countedIn (unitOf e) (figureAt e case j i p)) Cols.Absent) (has-reference case j i e p)
 
-  cap-agrees : aboveCap e (figureFor e (figuresFrom S R (sourceOf S (chemicalAt case i)) p)) ≡ overCap e case j i p
-  unfolding overCap value
+  cap-agrees : aboveCap e (figureFor e (figuresFrom S R (sourceOf S (chemicalIn scenario i)) p)) ≡ overCap e scenario j i p
+  unfolding overCap hasReference value
   cap-agrees =
       ap (aboveCap e) figured
       ∙ figure-columns e dose value .1
       ∙ ap (λ (o : Outcome Pair). isPrinted value && highAbove (capOf e) o) figure-is
-      ∙ ap (λ (t : Bool). t && highAbove (capOf e) (figureAt e case j i p)) (has-reference case j i e p)
 
-pub line-figures : (case : Case) (j i : ℕ) (p : Pathway) → i < case .chemicals .count → isRefused (mediaFor case i) ≡ false → (e : Effect) →
-    (columnsOf e (figureFor e (figuresFrom (valuesOf (case .site)) (valuesOf (receptorAt case j)) (sourceOf (valuesOf (case .site)) (chemicalAt case i)) p)) ≡ columnsAt e case j i p)
-    × (aboveCap e (figureFor e (figuresFrom (valuesOf (case .site)) (valuesOf (receptorAt case j)) (sourceOf (valuesOf (case .site)) (chemicalAt case i)) p)) ≡ overCap e case j i p)
+pub line-figures : (scenario : Scenario) (j i : ℕ) (p : Pathway) → i < scenario .chemicals .count → isRefused (mediaFor scenario i) ≡ false → (e : Effect) →
+    (columnsOf e (figureFor e (figuresFrom (valuesOf (scenario .site)) (receptorIn scenario j .values) (sourceOf (valuesOf (scenario .site)) (chemicalIn scenario i)) p)) ≡ columnsAt e scenario j i p)
+    × (aboveCap e (figureFor e (figuresFrom (valuesOf (scenario .site)) (receptorIn scenario j .values) (sourceOf (valuesOf (scenario .site)) (chemicalIn scenario i)) p)) ≡ overCap e scenario j i p)
 unfolding S R
-line-figures case j i p h told e = (columns-agree case j i p told e, cap-agrees case j i p told e)
+line-figures scenario j i p h told e = (columns-agree scenario j i p told e, cap-agrees scenario j i p told e)

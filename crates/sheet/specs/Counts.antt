@@ -1,5 +1,5 @@
--- The calls of the crate `sheet`: the counts of a case's lines, in cells, and a receptor's columns and totals read from them. Every case and
--- every list of cells has its answer.
+-- The calls of the crate `sheet`: the counts of a scenario's lines, in cells, and a receptor's columns and totals read from them. Every scenario
+-- and every list of cells has its answer.
 use mathlib.Core.Bool.{Bool, true, false, cond, _&&_, _||_}
 use mathlib.Core.List.{List, [], _∷_, _++_}
 use Prim.Native.Nat.{ℕ, suc, _+_, _*_, _/_, _%_, _≤_}
@@ -10,36 +10,36 @@ use Rattle.equations.specs.declared.Effect.{Effect}
 use Rattle.equations.specs.declared.Effect.the-variants.{Hazard, Cancer}
 use Rattle.media.specs.declared.Media.{Media}
 use Rattle.media.specs.Media.{mediaInputs, mediaOf}
-use Rattle.deck.specs.declared.Case.{Case}
 use Rattle.deck.specs.declared.Status.{Status}
 use Rattle.deck.specs.declared.Status.the-variants.{Read, Stopped}
-use Rattle.deck.specs.Kinds.{maxChemicals, maxReceptors}
+use Rattle.deck.specs.Kinds.{maxChemicals}
 use Rattle.deck.specs.Conditions.{Condition, at, first}
-use Rattle.deck.specs.Cases.{chemicalAt, tabulate}
+use Rattle.deck.specs.Cases.{tabulate}
 use Rattle.totals.specs.declared.Columns.{Columns}
 use Rattle.totals.specs.declared.Columns.the-variants as Cols
 use Rattle.totals.specs.Totals.{totalOf}
 use Rattle.sheet.specs.declared.Counts.{Counts}
-use Rattle.sheet.specs.Values.{valuesOf, particlesOf}
+use Rattle.sheet.specs.declared.Scenario.{Scenario}
+use Rattle.sheet.specs.Values.{mostWorked, valuesOf, particlesOf, chemicalIn}
 use Rattle.sheet.specs.Sheet.{pathwaysPerChemical, pathwayAt, columnsAt, chained, largeLines}
 
--- ---- what stops a case: more records than a deck holds (21), a chemical whose media are refused (41), a line above its cap (42). In a case
+-- ---- what stops a scenario: more records than a deck holds (21), a chemical whose media are refused (41), a line above its cap (42). In a scenario
 -- whose values lie in their ranges the media are refused exactly where x's high end is above 64 (`fast-exactly`).
-unfoldable pub tooMany : Case → Bool
-tooMany case = ltb maxChemicals (case .chemicals .count) || ltb maxReceptors (case .receptors .count)
+unfoldable pub tooMany : Scenario → Bool
+tooMany scenario = ltb maxChemicals (scenario .chemicals .count) || ltb mostWorked (scenario .receptors .count)
 
 unfoldable pub isRefused : Outcome Media → Bool
 isRefused (is m) = false
 isRefused (refused n) = true
 
-unfoldable pub mediaFor : Case → ℕ → Outcome Media
-mediaFor case i = mediaOf (mediaInputs (valuesOf (case .site)) (valuesOf (chemicalAt case i)) (particlesOf (chemicalAt case i)))
+unfoldable pub mediaFor : Scenario → ℕ → Outcome Media
+mediaFor scenario i = mediaOf (mediaInputs (valuesOf (scenario .site)) (valuesOf (chemicalIn scenario i)) (particlesOf (chemicalIn scenario i)))
 
-unfoldable pub noMediaAt : Case → ℕ → List Condition
-noMediaAt case i = at 41 (suc i) 0 (isRefused (mediaFor case i)) ∷ []
+unfoldable pub noMediaAt : Scenario → ℕ → List Condition
+noMediaAt scenario i = at 41 (suc i) 0 (isRefused (mediaFor scenario i)) ∷ []
 
-unfoldable pub caseConditions : Case → List Condition
-caseConditions case = at 21 0 0 (tooMany case) ∷ chained (noMediaAt case) (case .chemicals .count) ++ largeLines case
+unfoldable pub sheetConditions : Scenario → List Condition
+sheetConditions scenario = at 21 0 0 (tooMany scenario) ∷ chained (noMediaAt scenario) (scenario .chemicals .count) ++ largeLines scenario
 
 -- ---- cells: a receptor has six columns of 96, hazard's and cancer's: 1 for each line that has counts, the low and the high counts; all
 -- three are 0 for -, and where there is no line
@@ -53,7 +53,7 @@ abbrev pub receptorCells : ℕ
 receptorCells = 2 * effectCells
 
 abbrev pub allCells : ℕ
-allCells = maxReceptors * receptorCells
+allCells = mostWorked * receptorCells
 
 pub data Part : Type 0 where
   Mark Low High : Part
@@ -71,31 +71,31 @@ effectAt c = cond (ltb c 3) Hazard Cancer
 unfoldable pub partAt : ℕ → Part
 partAt c = cond (eqb (c % 3) 0) Mark (cond (eqb (c % 3) 1) Low High)
 
--- the columns of receptor j's line q, where the case has it
-unfoldable pub lineColumns : Case → ℕ → ℕ → Effect → Columns
-lineColumns case j q e =
-    cond (ltb j (case .receptors .count) && ltb q (case .chemicals .count * pathwaysPerChemical))
-    (columnsAt e case j (q / pathwaysPerChemical) (pathwayAt (q % pathwaysPerChemical)))
+-- the columns of receptor j's line q, where the scenario has it
+unfoldable pub lineColumns : Scenario → ℕ → ℕ → Effect → Columns
+lineColumns scenario j q e =
+    cond (ltb j (scenario .receptors .count) && ltb q (scenario .chemicals .count * pathwaysPerChemical))
+    (columnsAt e scenario j (q / pathwaysPerChemical) (pathwayAt (q % pathwaysPerChemical)))
     Cols.Absent
 
-unfoldable pub cellAt : Case → ℕ → ℕ
-cellAt case k =
+unfoldable pub cellAt : Scenario → ℕ → ℕ
+cellAt scenario k =
     let c : ℕ = k % receptorCells / mostLines in
-    cellOf (partAt c) (lineColumns case (k / receptorCells) (k % mostLines) (effectAt c))
+    cellOf (partAt c) (lineColumns scenario (k / receptorCells) (k % mostLines) (effectAt c))
 
-unfoldable pub cellsOf : Case → List ℕ
-cellsOf case = tabulate allCells (cellAt case)
+unfoldable pub cellsOf : Scenario → List ℕ
+cellsOf scenario = tabulate allCells (cellAt scenario)
 
 unfoldable pub noCells : List ℕ
 noCells = tabulate allCells (λ k. 0)
 
-unfoldable pub cellsFor : Status → Case → List ℕ
-cellsFor Read case = cellsOf case
-cellsFor (Stopped number line field) case = noCells
+unfoldable pub cellsFor : Status → Scenario → List ℕ
+cellsFor Read scenario = cellsOf scenario
+cellsFor (Stopped number line field) scenario = noCells
 
 -- the first condition that holds, and no counts; or every line's
-unfoldable pub countsOf : Case → Counts
-countsOf case = record { status = first (caseConditions case); cells = cellsFor (first (caseConditions case)) case }
+unfoldable pub countsOf : Scenario → Counts
+countsOf scenario = record { status = first (sheetConditions scenario); cells = cellsFor (first (sheetConditions scenario)) scenario }
 
 -- ---- read from cells
 unfoldable pub columnsFrom : ℕ → ℕ → ℕ → Columns
@@ -109,9 +109,9 @@ sideOf Cancer = 1
 abbrev pub columnStart : ℕ → Effect → ℕ
 columnStart j e = receptorCells * j + effectCells * sideOf e
 
--- the cells are those of a case, and hold receptor j's lines
+-- the cells are those of a scenario, and hold receptor j's lines
 unfoldable pub isHeld : List ℕ → ℕ → Bool
-isHeld cells j = eqb (length cells) allCells && ltb j maxReceptors
+isHeld cells j = eqb (length cells) allCells && ltb j mostWorked
 
 unfoldable pub columnsFound : List ℕ → ℕ → Columns
 columnsFound cells k = columnsFrom (getD cells k 0) (getD cells (k + mostLines) 0) (getD cells (k + 2 * mostLines) 0)

@@ -1,4 +1,4 @@
--- Demand 3 of a case: what a receptor's total is set against. The exact sum is that of its lines that have the reference value, each worked
+-- Demand 3 of a scenario: what a receptor's total is set against. The exact sum is that of its lines that have the reference value, each worked
 -- exactly from the printed values with N terms of the series, counted in units and not rounded.
 use mathlib.Core.Path.{_≡_}
 use mathlib.Core.Bool.{cond}
@@ -13,9 +13,12 @@ use Rattle.deck.specs.declared.Case.{Case}
 use Rattle.deck.specs.declared.Status.the-variants.{Read}
 use Rattle.deck.specs.Conditions.{first}
 use Rattle.deck.specs.Ranged.{Ranged}
+use Rattle.slots.specs.declared.Sort.the-variants.{Ordinary}
+use Rattle.slots.specs.Slots.{Slot}
 use Rattle.totals.specs.declared.Columns.{Columns}
 use Rattle.totals.specs.declared.Columns.the-variants as Cols
-use Rattle.sheet.specs.Values.{exactAt}
+use Rattle.sheet.specs.declared.Scenario.{Scenario}
+use Rattle.sheet.specs.Values.{ordinaryOf, exactAt}
 use Rattle.sheet.specs.Sheet.{pathwayAt, pathwaysPerChemical, hasReference, totalAt, fastChemicals, largeLines}
 
 -- a fraction in units of 1E-12, or of 1E-15
@@ -29,12 +32,16 @@ inUnitsOf e x = record { num = x .num * unitsPerOne e; den = x .den }
 unfoldable pub nothing : Fraction
 nothing = record { num = 0; den = 1 }
 
--- a line's exact fraction, where it counts
-unfoldable pub exactLine : Effect → Case → ℕ → ℕ → ℕ → Pathway → Fraction
-exactLine e case N j i p = cond (hasReference e case i p) (inUnitsOf e (exactly N (exactAt case j i) (line e p))) nothing
+-- the exact value of each slot, for receptor j and chemical i, both counted from 0
+abbrev pub Exact : Type 0
+Exact = ℕ → ℕ → Slot → Fraction
 
-unfoldable pub lineCounts : Effect → Case → ℕ → Pathway → ℕ
-lineCounts e case i p = cond (hasReference e case i p) 1 0
+-- a line's exact fraction, where it counts
+unfoldable pub exactLine : Effect → Scenario → Exact → ℕ → ℕ → ℕ → Pathway → Fraction
+exactLine e scenario exact N j i p = cond (hasReference e scenario i p) (inUnitsOf e (exactly N (exact j i) (line e p))) nothing
+
+unfoldable pub lineCounts : Effect → Scenario → ℕ → Pathway → ℕ
+lineCounts e scenario i p = cond (hasReference e scenario i p) 1 0
 
 -- f 0 + f 1 + .. + f (n − 1)
 unfoldable pub sumOver : (ℕ → Fraction) → ℕ → Fraction
@@ -46,11 +53,11 @@ countOver f zero = 0
 countOver f (suc n) = countOver f n + f n
 
 -- the exact sum of receptor j's lines that have the reference value, and how many they are
-unfoldable pub exactTotal : Effect → Case → ℕ → ℕ → Fraction
-exactTotal e case N j = sumOver (λ i. sumOver (λ p. exactLine e case N j i (pathwayAt p)) pathwaysPerChemical) (case .chemicals .count)
+unfoldable pub exactTotal : Effect → Scenario → Exact → ℕ → ℕ → Fraction
+exactTotal e scenario exact N j = sumOver (λ i. sumOver (λ p. exactLine e scenario exact N j i (pathwayAt p)) pathwaysPerChemical) (scenario .chemicals .count)
 
-unfoldable pub linesAdded : Effect → Case → ℕ
-linesAdded e case = countOver (λ i. countOver (λ p. lineCounts e case i (pathwayAt p)) pathwaysPerChemical) (case .chemicals .count)
+unfoldable pub linesAdded : Effect → Scenario → ℕ
+linesAdded e scenario = countOver (λ i. countOver (λ p. lineCounts e scenario i (pathwayAt p)) pathwaysPerChemical) (scenario .chemicals .count)
 
 -- a total is - exactly where no line was added; else it encloses the exact sum, by multiplying across, and its ends are close
 pub record Enclosed (low high n : ℕ) (exact : Fraction) : Type 0 where
@@ -64,9 +71,9 @@ unfoldable pub TotalHolds : Columns → ℕ → Fraction → Type 0
 TotalHolds Cols.Absent n exact = n ≡ 0
 TotalHolds (Cols.Counted low high) n exact = Enclosed low high n exact
 
--- for every case in range of which neither 41 nor 42 holds, every receptor, effect and number N of series terms from 256 up
+-- for every ordinary case in range of which neither 41 nor 42 holds, every receptor, effect and number N of series terms from 256 up
 unfoldable pub CaseDemand3 : Type 0
 CaseDemand3 =
-    (case : Case) → Ranged case → first (fastChemicals case) ≡ Read → first (largeLines case) ≡ Read →
+    (case : Case) → Ranged Ordinary case → first (fastChemicals (ordinaryOf case)) ≡ Read → first (largeLines (ordinaryOf case)) ≡ Read →
     (j : ℕ) → j < case .receptors .count → (N : ℕ) → 256 ≤ N → (e : Effect) →
-    TotalHolds (totalAt e case j) (linesAdded e case) (exactTotal e case N j)
+    TotalHolds (totalAt e (ordinaryOf case) j) (linesAdded e (ordinaryOf case)) (exactTotal e (ordinaryOf case) (exactAt case) N j)

@@ -20,7 +20,6 @@ use Rattle.pathway.specs.declared.GivenCsf.{GivenCsf}
 use Rattle.pathway.specs.declared.GivenCsf.the-variants as Csfs
 use Rattle.pathway.specs.declared.References.{References}
 use Rattle.pathway.specs.Lines.{Optional, some, none, Figured, figuresOf}
-use Rattle.deck.specs.declared.Case.{Case}
 use Rattle.deck.specs.declared.Chemicals.{Chemicals}
 use Rattle.deck.specs.declared.Record.{Record}
 use Rattle.deck.specs.declared.Value.{Value}
@@ -30,9 +29,10 @@ use Rattle.deck.specs.Conditions.{Condition, at}
 use Rattle.deck.specs.Cases.{noRecord, valueAt, tabulate}
 use Rattle.totals.specs.declared.Columns.{Columns}
 use Rattle.totals.specs.declared.Columns.the-variants as Cols
+use Rattle.sheet.specs.declared.Receptor.{Receptor}
 use Rattle.sheet.specs.declared.Source.{Source}
 use Rattle.sheet.specs.declared.Sources.{Sources}
-use Rattle.sheet.specs.Values.{pairOf, valuesOf, particlesOf}
+use Rattle.sheet.specs.Values.{pairOf, valuesOf, particlesOf, noReceptor}
 use Rattle.sheet.specs.Sheet.{pathwayAt, pathwaysPerChemical, unitOf, capOf, countedIn, highAbove, chained}
 use Rattle.sheet.specs.Counts.{Part, Mark, Low, High, cellOf, sideOf, mostLines, effectCells, receptorCells, isRefused}
 
@@ -128,8 +128,8 @@ largeWorked site′ sources r before = chained (largeLine site′ sources r befo
 abbrev pub perReceptor : ℕ → ℕ
 perReceptor n = n * pathwaysPerChemical + 1
 
-unfoldable pub allLarge : Values → Sources → List Record → ℕ → List Condition
-allLarge site′ sources records n = chained (λ j. largeWorked site′ sources (valuesOf (getD records j noRecord)) (j * perReceptor (sources .count))) n
+unfoldable pub allLarge : Values → Sources → List Receptor → ℕ → List Condition
+allLarge site′ sources receptors′ n = chained (λ j. largeWorked site′ sources (getD receptors′ j noReceptor .values) (j * perReceptor (sources .count))) n
 
 -- ---- cells
 unfoldable pub withCounts : List ℕ → ℕ → Columns → List ℕ
@@ -149,10 +149,10 @@ abbrev pub CellsEmpty : ℕ → List ℕ → ℕ → Type 0
 CellsEmpty n cells base =
     (e : Effect) (w : Part) (q : ℕ) → n < suc q → q < mostLines → getD cells (base + effectCells * sideOf e + mostLines * partOf w + q) 0 ≡ 0
 
-abbrev pub CellsFilled : Values → Sources → List Record → ℕ → List ℕ → Type 0
-CellsFilled site′ sources records n cells =
+abbrev pub CellsFilled : Values → Sources → List Receptor → ℕ → List ℕ → Type 0
+CellsFilled site′ sources receptors′ n cells =
     (j : ℕ) → j < n →
-    CellsHold (columnsWorked site′ sources (valuesOf (getD records j noRecord))) (sources .count * pathwaysPerChemical) cells (receptorCells * j)
+    CellsHold (columnsWorked site′ sources (getD receptors′ j noReceptor .values)) (sources .count * pathwaysPerChemical) cells (receptorCells * j)
     × CellsEmpty (sources .count * pathwaysPerChemical) cells (receptorCells * j)
 
 abbrev pub SameBelow : ℕ → List ℕ → List ℕ → Type 0

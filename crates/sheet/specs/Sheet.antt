@@ -1,4 +1,4 @@
--- The lines of a case, their counts and totals (document 01, "Units and totals"), and 41 and 42 of "Where a deck stops". Receptor j,
+-- The lines of a scenario, their counts and totals (document 01, "Units and totals"), and 41 and 42 of "Where a deck stops". Receptor j,
 -- chemical i and pathway p come in this order and are counted from 0.
 use mathlib.Core.Bool.{Bool, true, false, cond, not, _&&_, _||_}
 use mathlib.Core.List.{List, [], _∷_, _++_}
@@ -16,15 +16,14 @@ use Rattle.equations.specs.Formula.{pairs}
 use Rattle.equations.specs.Page.{x, line, referenceSlot}
 use Rattle.equations.specs.Ranges.{sixtyFour}
 use Rattle.equations.specs.Readings.{plain, worked}
-use Rattle.deck.specs.declared.Case.{Case}
 use Rattle.deck.specs.declared.Value.{Value}
 use Rattle.deck.specs.declared.Value.the-variants.{Absent, Printed}
 use Rattle.deck.specs.Conditions.{Condition, at}
-use Rattle.deck.specs.Cases.{printed}
 use Rattle.totals.specs.declared.Columns.{Columns}
 use Rattle.totals.specs.declared.Columns.the-variants as Cols
 use Rattle.totals.specs.Totals.{_added_}
-use Rattle.sheet.specs.Values.{pairsAt}
+use Rattle.sheet.specs.declared.Scenario.{Scenario}
+use Rattle.sheet.specs.Values.{printedIn, pairsAt}
 
 abbrev pub pathwaysPerChemical : ℕ
 pathwaysPerChemical = 6
@@ -42,12 +41,12 @@ isPrinted Absent = false
 isPrinted (Printed power digits) = true
 
 -- whether a line has the reference value that the page gives it: RfD for hazard, CSF for cancer
-unfoldable pub hasReference : Effect → Case → ℕ → Pathway → Bool
-hasReference e case i p = isPrinted (printed case 0 i (referenceSlot e p))
+unfoldable pub hasReference : Effect → Scenario → ℕ → Pathway → Bool
+hasReference e scenario i p = isPrinted (printedIn scenario i (referenceSlot e p))
 
 -- the quotient or the risk of chemical i on pathway p for receptor j, by the working rule
-unfoldable pub figureAt : Effect → Case → ℕ → ℕ → Pathway → Outcome Pair
-figureAt e case j i p = worked (pairsAt case j i) (line e p)
+unfoldable pub figureAt : Effect → Scenario → ℕ → ℕ → Pathway → Outcome Pair
+figureAt e scenario j i p = worked (pairsAt scenario j i) (line e p)
 
 -- quotients are counted in units of 1E-12, risks in 1E-15
 unfoldable pub unitOf : Effect → ℤ
@@ -63,8 +62,8 @@ countedIn u (is p) = counted (inUnits p u)
 countedIn u (refused n) = Cols.Absent
 
 -- the two columns of a line; - in both without the reference value
-unfoldable pub columnsAt : Effect → Case → ℕ → ℕ → Pathway → Columns
-columnsAt e case j i p = cond (hasReference e case i p) (countedIn (unitOf e) (figureAt e case j i p)) Cols.Absent
+unfoldable pub columnsAt : Effect → Scenario → ℕ → ℕ → Pathway → Columns
+columnsAt e scenario j i p = cond (hasReference e scenario i p) (countedIn (unitOf e) (figureAt e scenario j i p)) Cols.Absent
 
 -- f 0 added f 1 .. added f (n − 1)
 unfoldable pub addedOver : (ℕ → Columns) → ℕ → Columns
@@ -72,8 +71,8 @@ addedOver f zero = Cols.Absent
 addedOver f (suc n) = addedOver f n added f n
 
 -- a receptor's total, over its lines that have the reference value
-unfoldable pub totalAt : Effect → Case → ℕ → Columns
-totalAt e case j = addedOver (λ i. addedOver (λ p. columnsAt e case j i (pathwayAt p)) pathwaysPerChemical) (case .chemicals .count)
+unfoldable pub totalAt : Effect → Scenario → ℕ → Columns
+totalAt e scenario j = addedOver (λ i. addedOver (λ p. columnsAt e scenario j i (pathwayAt p)) pathwaysPerChemical) (scenario .chemicals .count)
 
 -- ---- 41 and 42
 -- f 0 ++ f 1 ++ .. ++ f (n − 1)
@@ -82,8 +81,8 @@ chained f zero = []
 chained f (suc n) = chained f n ++ f n
 
 -- lines of one receptor, its total line included
-unfoldable pub linesPerReceptor : Case → ℕ
-linesPerReceptor case = case .chemicals .count * pathwaysPerChemical + 1
+unfoldable pub linesPerReceptor : Scenario → ℕ
+linesPerReceptor scenario = scenario .chemicals .count * pathwaysPerChemical + 1
 
 -- above a bound, by the pair library's comparison
 unfoldable pub isAbove : Outcome Bool → Bool
@@ -95,29 +94,29 @@ highAbove bound (is p) = isAbove (compared (p .high) bound)
 highAbove bound (refused n) = false
 
 -- x, in which no slot of a receptor stands
-unfoldable pub exponentAt : Case → ℕ → Outcome Pair
-exponentAt case i = plain pairs (λ s. is (pairsAt case 0 i .value s)) x
+unfoldable pub exponentAt : Scenario → ℕ → Outcome Pair
+exponentAt scenario i = plain pairs (λ s. is (pairsAt scenario 0 i .value s)) x
 
-unfoldable pub tooFast : Case → ℕ → List Condition
-tooFast case i = at 41 (suc i) 0 (highAbove sixtyFour (exponentAt case i)) ∷ []
+unfoldable pub tooFast : Scenario → ℕ → List Condition
+tooFast scenario i = at 41 (suc i) 0 (highAbove sixtyFour (exponentAt scenario i)) ∷ []
 
 -- a quotient's high end is at most 10,000, a risk's at most 1
 unfoldable pub capOf : Effect → Number
 capOf Hazard = record { significand = 100000000; exponent = negsuc 3 }
 capOf Cancer = record { significand = 100000000; exponent = negsuc 7 }
 
-unfoldable pub overCap : Effect → Case → ℕ → ℕ → Pathway → Bool
-overCap e case j i p = hasReference e case i p && highAbove (capOf e) (figureAt e case j i p)
+unfoldable pub overCap : Effect → Scenario → ℕ → ℕ → Pathway → Bool
+overCap e scenario j i p = hasReference e scenario i p && highAbove (capOf e) (figureAt e scenario j i p)
 
 -- told as the report line, total lines counted too
-unfoldable pub lineTooLarge : Case → ℕ → ℕ → ℕ → List Condition
-lineTooLarge case j i p =
-    at 42 (j * linesPerReceptor case + i * pathwaysPerChemical + suc p) 0
-    (overCap Hazard case j i (pathwayAt p) || overCap Cancer case j i (pathwayAt p))
+unfoldable pub lineTooLarge : Scenario → ℕ → ℕ → ℕ → List Condition
+lineTooLarge scenario j i p =
+    at 42 (j * linesPerReceptor scenario + i * pathwaysPerChemical + suc p) 0
+    (overCap Hazard scenario j i (pathwayAt p) || overCap Cancer scenario j i (pathwayAt p))
     ∷ []
 
-unfoldable pub fastChemicals : Case → List Condition
-fastChemicals case = chained (tooFast case) (case .chemicals .count)
+unfoldable pub fastChemicals : Scenario → List Condition
+fastChemicals scenario = chained (tooFast scenario) (scenario .chemicals .count)
 
-unfoldable pub largeLines : Case → List Condition
-largeLines case = chained (λ j. chained (λ i. chained (lineTooLarge case j i) pathwaysPerChemical) (case .chemicals .count)) (case .receptors .count)
+unfoldable pub largeLines : Scenario → List Condition
+largeLines scenario = chained (λ j. chained (λ i. chained (lineTooLarge scenario j i) pathwaysPerChemical) (scenario .chemicals .count)) (scenario .receptors .count)

@@ -1,20 +1,30 @@
--- The values of a case's slots as pairs and as exact fractions.
+-- What a sheet is worked from: the values of a scenario's slots as pairs, and as exact fractions.
 use Prim.Native.Nat.{ℕ}
 use mathlib.Core.List.{map}
 use lib.IntN.{pos}
+use lib.ListN.{getD}
 use Rattle.pair.specs.declared.Pair.{Pair}
 use Rattle.pair.specs.Fraction.{Fraction}
 use Rattle.pair.specs.Calls.{Outcome, is, refused, entry, oneMinusEntry, zeroPair, onePair}
 use Rattle.pair.specs.Promises.{scaled}
-use Rattle.slots.specs.Slots.{Slot, placeOf}
+use Rattle.slots.specs.declared.Sort.the-variants.{Ordinary}
+use Rattle.slots.specs.Slots.{Slot, ownerOf, placeOf}
 use Rattle.equations.specs.declared.Values.{Values}
-use Rattle.equations.specs.Readings.{Inputs, inputs}
+use Rattle.equations.specs.Readings.{Inputs, byOwner, inputs}
 use Rattle.deck.specs.declared.Case.{Case}
 use Rattle.deck.specs.declared.Filled.{Filled}
 use Rattle.deck.specs.declared.Record.{Record}
 use Rattle.deck.specs.declared.Value.{Value}
 use Rattle.deck.specs.declared.Value.the-variants.{Absent, Printed}
-use Rattle.deck.specs.Cases.{valueAt, chemicalAt, receptorAt, printed}
+use Rattle.deck.specs.Kinds.{maxReceptors}
+use Rattle.deck.specs.Cases.{tabulate, noRecord, valueAt, chemicalAt, receptorAt}
+use Rattle.sheet.specs.declared.Receptor.{Receptor}
+use Rattle.sheet.specs.declared.Receptors.{Receptors}
+use Rattle.sheet.specs.declared.Scenario.{Scenario}
+
+-- how many receptors a sheet is worked for: an ordinary deck's
+abbrev pub mostWorked : ℕ
+mostWorked = maxReceptors Ordinary
 
 -- as a pair: the entry of what is printed, which an accepted deck always has (DemandTwo.antt of `report`); a missing reference value reads as 1
 unfoldable pub orOne : Outcome Pair → Pair
@@ -38,18 +48,55 @@ valuesOf r = record { list = map (λ (s : Filled). pairOf (s .value)) (r .slots)
 unfoldable pub particlesOf : Record → Pair
 particlesOf r = restOf (valueAt r (placeOf "Fv"))
 
--- every slot's, and 1 less it, for receptor j and chemical i, both counted from 0
-unfoldable pub pairsAt : Case → ℕ → ℕ → Inputs Pair
-pairsAt case j i =
+-- ---- a scenario: a site and chemicals as printed, and receptors made of pairs
+-- no receptor: every value reads as 1
+unfoldable pub noReceptor : Receptor
+noReceptor = record { id = 0; values = valuesOf noRecord }
+
+-- chemical i and receptor j, from 0
+unfoldable pub chemicalIn : Scenario → ℕ → Record
+chemicalIn scenario i = getD (scenario .chemicals .records) i noRecord
+
+unfoldable pub receptorIn : Scenario → ℕ → Receptor
+receptorIn scenario j = getD (scenario .receptors .list) j noReceptor
+
+-- what is printed in a slot of the site or of chemical i; nothing is printed of a receptor made of pairs
+unfoldable pub printedIn : Scenario → ℕ → Slot → Value
+printedIn scenario i s = byOwner (ownerOf s) (valueAt (scenario .site) (placeOf s)) (valueAt (chemicalIn scenario i) (placeOf s)) Absent
+
+-- every slot's value, and 1 less it, for receptor j and chemical i, both counted from 0
+unfoldable pub pairsAt : Scenario → ℕ → ℕ → Inputs Pair
+pairsAt scenario j i =
     record {
-      value = inputs (valuesOf (case .site)) (valuesOf (chemicalAt case i)) (valuesOf (receptorAt case j));
-      rest = λ s. restOf (printed case j i s);
+      value = inputs (valuesOf (scenario .site)) (valuesOf (chemicalIn scenario i)) (receptorIn scenario j .values);
+      rest = λ s. restOf (printedIn scenario i s);
     }
 
--- as an exact fraction
+-- the site and the chemicals of a case, with these receptors
+unfoldable pub scenarioWith : Case → Receptors → Scenario
+scenarioWith case receptors′ = record { site = case .site; chemicals = case .chemicals; receptors = receptors′ }
+
+-- the exact values: what is printed of the site and of chemical i, and these of receptor j
 unfoldable pub fractionOf : Value → Fraction
 fractionOf (Printed power digits) = scaled digits power
 fractionOf Absent = scaled 1 (pos 0)
 
+unfoldable pub exactWith : Case → (ℕ → Slot → Fraction) → ℕ → ℕ → Slot → Fraction
+exactWith case receptor j i s =
+    byOwner (ownerOf s) (fractionOf (valueAt (case .site) (placeOf s))) (fractionOf (valueAt (chemicalAt case i) (placeOf s))) (receptor j s)
+
+-- ---- an ordinary deck's receptors: each slot's pair is the entry of what is printed, its exact value what is printed
+unfoldable pub entered : Record → Receptor
+entered r = record { id = r .id; values = valuesOf r }
+
+unfoldable pub enteredFrom : Case → Receptors
+enteredFrom case = record { count = case .receptors .count; list = tabulate mostWorked (λ j. entered (receptorAt case j)) }
+
+unfoldable pub ordinaryOf : Case → Scenario
+ordinaryOf case = scenarioWith case (enteredFrom case)
+
+unfoldable pub exactFrom : Case → ℕ → Slot → Fraction
+exactFrom case j s = fractionOf (valueAt (receptorAt case j) (placeOf s))
+
 unfoldable pub exactAt : Case → ℕ → ℕ → Slot → Fraction
-exactAt case j i s = fractionOf (printed case j i s)
+exactAt case = exactWith case (exactFrom case)

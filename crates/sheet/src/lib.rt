@@ -1,18 +1,21 @@
-//! The sheet of a case (document 01, "Units and totals"): each line's quotient and risk counted in units, 41 and 42, and a receptor's totals.
+//! The sheet of a scenario (document 01, "Units and totals"): each line's quotient and risk counted in units, 41 and 42, and a receptor's totals.
 mod chemicals;
 mod counting;
+mod lines;
+mod ordinary;
 mod reading;
-mod receptors;
 mod values;
 
 use crate::chemicals::sources_of;
+use crate::lines::put_all;
+pub use crate::ordinary::ordinary_of;
 use crate::reading::columns_found;
 use crate::reading::total_found;
-use crate::receptors::put_all;
-use crate::values::values_of;
-use deck::Case;
+pub use crate::values::values_of;
+use deck::Chemicals;
 use deck::MAX_CHEMICALS;
 use deck::MAX_RECEPTORS;
+use deck::Record;
 use deck::Status;
 use equations::Effect;
 use equations::Values;
@@ -28,7 +31,27 @@ pub const PATHWAYS: usize = 6;
 // A receptor's lines but its total line, at most: 96.
 pub const MOST_LINES: usize = MAX_CHEMICALS * PATHWAYS;
 
-// The counts of a case's lines stand in cells. An effect has three columns of 96 cells: 1 for each line that has counts, the low and the
+// A receptor as the equations take it: its id, and the values of its slots as pairs. Whether they were printed or made of life stages,
+// nothing after this asks.
+pub struct Receptor {
+    pub id: u32,
+    pub values: Values,
+}
+
+// The first count receptors of the list, in deck order.
+pub struct Receptors {
+    pub count: usize,
+    pub list: [Receptor; MAX_RECEPTORS],
+}
+
+// What a sheet is worked from.
+pub struct Scenario {
+    pub site: Record,
+    pub chemicals: Chemicals,
+    pub receptors: Receptors,
+}
+
+// The counts of a scenario's lines stand in cells. An effect has three columns of 96 cells: 1 for each line that has counts, the low and the
 // high counts; all three are 0 where the line has -, and where there is none. A receptor has hazard's columns, then cancer's.
 pub const EFFECT_CELLS: usize = 3 * MOST_LINES;
 
@@ -71,24 +94,30 @@ fn stopped(status: Status) -> Counts
     Counts { status, cells }
 }
 
-// The counts of a case's lines, or where it stops: more records than a deck holds, a chemical whose x is above 64, a line above its cap.
-pub fn counts_of(case: Case) -> Counts
-    ensures { λ r. ⌜ r ≡ countsOf case ⌝ }
+// The counts of a scenario's lines, or where it stops: more records than a sheet has room for, a chemical whose x is above 64, a line above
+// its cap.
+pub fn counts_of(scenario: Scenario) -> Counts
+    ensures { λ r. ⌜ r ≡ countsOf scenario ⌝ }
 {
-    if MAX_CHEMICALS < case.chemicals.count {
+    if MAX_CHEMICALS < scenario.chemicals.count {
         return stopped(Status::Stopped(TOO_MANY, 0, 0));
     }
-    if MAX_RECEPTORS < case.receptors.count {
+    if MAX_RECEPTORS < scenario.receptors.count {
         return stopped(Status::Stopped(TOO_MANY, 0, 0));
     }
-    let site = values_of(case.site);
-    let prepared = sources_of(site, case.chemicals);
+    let site = values_of(scenario.site);
+    let prepared = sources_of(site, scenario.chemicals);
     let ready = prepared.status;
     let Status::Read = ready else {
         return stopped(ready);
     };
     let mut counts = stopped(Status::Read);
-    let status = put_all(&mut counts.cells, site, case.receptors, prepared.sources);
+    let status = put_all(
+        &mut counts.cells,
+        site,
+        scenario.receptors,
+        prepared.sources,
+    );
     let Status::Read = status else {
         return stopped(status);
     };

@@ -1,4 +1,4 @@
-// The values of a case's slots as pairs, for the equations.
+// The values of a record's slots as pairs, for the equations.
 use deck::Record;
 use deck::Value;
 use equations::Values;
@@ -61,7 +61,8 @@ pub(crate) fn particles_of(chemical: Record) -> Pair
     rest_of(v)
 }
 
-pub(crate) fn values_of(r: Record) -> Values
+// A record's values, place by place.
+pub fn values_of(r: Record) -> Values
     ensures { λ v. ⌜ v ≡ valuesOf r ⌝ }
 {
     let mut list = [Pair::ONE; SLOTS];

@@ -1,10 +1,11 @@
 -- Laws of the table of slots: past its end are later slots; a record's places are its lines' fields; a slot that is found lies in its record;
--- no rule allows more than 1E+9.
+-- no rule allows more than 1E+9; a sort of deck has a slot with its rule as written, or not at all.
 -- Assumes nothing.
 use Prim.Native.Nat.{ℕ, zero, suc, _+_, _*_, _/_, _%_, _≤_, _<_}
 use native.Mathlib.Nat.{le-refl, mod-lt, div-add-mod}
 use native.Mathlib.Omega.{arith}
 use mathlib.Core.Path.{_≡_, refl, ap, _∙_}
+use mathlib.Core.Logic.{_⊎_, inl, inr}
 use mathlib.Core.Bool.{Bool, true, false, cond, _&&_, false≢true}
 use mathlib.Core.List.{List, [], _∷_, map}
 use lib.Dec.{leb, lit≤, lit<}
@@ -13,51 +14,58 @@ use borrow.Author.Tests.{leb-true}
 use Rattle.slots.specs.declared.Owner.{Owner}
 use Rattle.slots.specs.declared.Owner.the-variants.{Site, Chemical, Receptor}
 use Rattle.slots.specs.declared.Rule.{Rule}
-use Rattle.slots.specs.Slots.{Entry, _is_, Slot, unused, table, same, isIn, placeIn, entryRule, ruleAt, lineRules, ownerOf, placeOf, ruleOf}
+use Rattle.slots.specs.declared.Sort.{Sort}
+use Rattle.slots.specs.declared.Sort.the-variants.{Ordinary, Composite}
+use Rattle.slots.specs.Slots.{Entry, _is_, _inComposite_, vacant, Slot, unused, table, same, isIn, placeIn, entryRule, ruleIn, ruleAt, lineRules, ownerOf, placeOf, ruleOf, ruleFor}
 
 -- past the table's end
-pub later-rule : (o : Owner) (k : ℕ) → length (map entryRule (table o)) ≤ k → ruleAt o k ≡ unused
+pub later-rule : (sort : Sort) (o : Owner) (k : ℕ) → length (map (ruleIn sort) (table o)) ≤ k → ruleAt sort o k ≡ unused
 unfolding ruleAt
-later-rule o k h = List·getD-eq-default (map entryRule (table o)) unused h
+later-rule sort o k h = List·getD-eq-default (map (ruleIn sort) (table o)) unused h
 
-pub later-line : (o : Owner) (n : ℕ) → length (map entryRule (table o)) ≤ 6 * n → lineRules o n ≡ unused ∷ unused ∷ unused ∷ unused ∷ unused ∷ unused ∷ []
+pub later-line : (sort : Sort) (o : Owner) (n : ℕ) → length (map (ruleIn sort) (table o)) ≤ 6 * n →
+    lineRules sort o n ≡ unused ∷ unused ∷ unused ∷ unused ∷ unused ∷ unused ∷ []
 unfolding lineRules
-later-line o n h =
-    rw (later-rule o (6 * n) h, later-rule o (6 * n + 1) (omega arith), later-rule o (6 * n + 2) (omega arith), later-rule o (6 * n + 3) (omega arith), later-rule o (6 * n + 4) (omega arith), later-rule o (6 * n + 5) (omega arith))
+later-line sort o n h =
+    rw (later-rule sort o (6 * n) h, later-rule sort o (6 * n + 1) (omega arith), later-rule sort o (6 * n + 2) (omega arith), later-rule sort o (6 * n + 3) (omega arith), later-rule sort o (6 * n + 4) (omega arith), later-rule sort o (6 * n + 5) (omega arith))
     refl
 
 -- field r of a line, from 0, is a place of the record; place k is a field of line k / 6
-line-rule : (o : Owner) (n r : ℕ) → r < 6 → getD (lineRules o n) r unused ≡ ruleAt o (6 * n + r)
+line-rule : (sort : Sort) (o : Owner) (n r : ℕ) → r < 6 → getD (lineRules sort o n) r unused ≡ ruleAt sort o (6 * n + r)
 unfolding lineRules
-line-rule o n zero h = ap (ruleAt o) (omega arith)
-line-rule o n (suc zero) h = refl
-line-rule o n (suc (suc zero)) h = refl
-line-rule o n (suc (suc (suc zero))) h = refl
-line-rule o n (suc (suc (suc (suc zero)))) h = refl
-line-rule o n (suc (suc (suc (suc (suc zero))))) h = refl
-line-rule o n (suc (suc (suc (suc (suc (suc r)))))) h = absurd (omega arith)
+line-rule sort o n zero h = ap (ruleAt sort o) (omega arith)
+line-rule sort o n (suc zero) h = refl
+line-rule sort o n (suc (suc zero)) h = refl
+line-rule sort o n (suc (suc (suc zero))) h = refl
+line-rule sort o n (suc (suc (suc (suc zero)))) h = refl
+line-rule sort o n (suc (suc (suc (suc (suc zero))))) h = refl
+line-rule sort o n (suc (suc (suc (suc (suc (suc r)))))) h = absurd (omega arith)
 
-pub place-rule : (o : Owner) (k : ℕ) → getD (lineRules o (k / 6)) (k % 6) unused ≡ ruleAt o k
-place-rule o k = line-rule o (k / 6) (k % 6) (mod-lt k (lit< tt)) ∙ ap (ruleAt o) (div-add-mod k 6)
+pub place-rule : (sort : Sort) (o : Owner) (k : ℕ) → getD (lineRules sort o (k / 6)) (k % 6) unused ≡ ruleAt sort o k
+place-rule sort o k = line-rule sort o (k / 6) (k % 6) (mod-lt k (lit< tt)) ∙ ap (ruleAt sort o) (div-add-mod k 6)
 
--- a place in a list
+-- a place in a list, of n more entries where the first is not meant
+most-of : (t : Bool) (p n : ℕ) → p ≤ n → cond t 0 (suc p) ≤ suc n
+most-of true p n l = omega arith
+most-of false p n l = omega arith
+
 place-most : (es : List Entry) (s : Slot) → placeIn es s ≤ length es
 unfolding placeIn
 place-most [] s = le-refl 0
-place-most ((name is rule) ∷ es) s = go (same name s) (place-most es s)
-  where
-    go : (t : Bool) → placeIn es s ≤ length es → cond t 0 (suc (placeIn es s)) ≤ suc (length es)
-    go true l = omega arith
-    go false l = omega arith
+place-most ((name is rule) ∷ es) s = most-of (same name s) (placeIn es s) (length es) (place-most es s)
+place-most ((name inComposite rule) ∷ es) s = most-of (same name s) (placeIn es s) (length es) (place-most es s)
+place-most (vacant ∷ es) s = omega (arith, place-most es s)
+
+below-of : (t u : Bool) (p n : ℕ) → (u ≡ true → p < n) → cond t true u ≡ true → cond t 0 (suc p) < suc n
+below-of true u p n l h = omega arith
+below-of false u p n l h = omega (arith, l h)
 
 place-below : (es : List Entry) (s : Slot) → isIn es s ≡ true → placeIn es s < length es
 unfolding placeIn isIn
 place-below [] s h = absurd (false≢true h)
-place-below ((name is rule) ∷ es) s h = go (same name s) (place-below es s) h
-  where
-    go : (t : Bool) → (isIn es s ≡ true → placeIn es s < length es) → cond t true (isIn es s) ≡ true → cond t 0 (suc (placeIn es s)) < suc (length es)
-    go true l h = omega arith
-    go false l h = omega (arith, l h)
+place-below ((name is rule) ∷ es) s h = below-of (same name s) (isIn es s) (placeIn es s) (length es) (place-below es s) h
+place-below ((name inComposite rule) ∷ es) s h = below-of (same name s) (isIn es s) (placeIn es s) (length es) (place-below es s) h
+place-below (vacant ∷ es) s h = omega (arith, place-below es s h)
 
 -- a site's slot lies in its two lines, any other in its four
 unfoldable pub places : Owner → ℕ
@@ -102,5 +110,23 @@ few-all Chemical = refl
 few-all Receptor = refl
 
 pub most-rule : (s : Slot) → ruleOf s .most ≤ 1000000000
-unfolding ruleOf ruleAt
+unfolding ruleOf
 most-rule s = few-each (map entryRule (table (ownerOf s))) (few-all (ownerOf s)) (placeOf s)
+
+-- in a deck of any sort a slot's rule is the one written, or the slot is a later one
+entry-cases : (sort : Sort) (e : Entry) → (ruleIn sort e ≡ entryRule e) ⊎ (ruleIn sort e ≡ unused)
+unfolding ruleIn entryRule
+entry-cases sort (name is rule) = inl refl
+entry-cases Ordinary (name inComposite rule) = inr refl
+entry-cases Composite (name inComposite rule) = inl refl
+entry-cases sort vacant = inl refl
+
+list-cases : (sort : Sort) (es : List Entry) (k : ℕ) →
+    (getD (map (ruleIn sort) es) k unused ≡ getD (map entryRule es) k unused) ⊎ (getD (map (ruleIn sort) es) k unused ≡ unused)
+list-cases sort [] k = inl refl
+list-cases sort (e ∷ es) zero = entry-cases sort e
+list-cases sort (e ∷ es) (suc k) = list-cases sort es k
+
+pub rule-cases : (sort : Sort) (s : Slot) → (ruleFor sort s ≡ ruleOf s) ⊎ (ruleFor sort s ≡ unused)
+unfolding ruleFor ruleAt ruleOf
+rule-cases sort s = list-cases sort (table (ownerOf s)) (placeOf s)

@@ -1,5 +1,5 @@
 -- The slots of each record, in deck order, by document 01's names, with their rules ("Deck"). This is the only table of them: whose record a
--- slot stands in, its place there, whether it may be 0 or above 1, and what it may hold are read off it by name.
+-- slot stands in, its place there, in which sort of deck, whether it may be 0 or above 1, and what it may hold are read off it by name.
 -- Assumes nothing.
 use Prim.Native.Nat.{ℕ, suc, _+_, _*_}
 use Prim.Native.Char.{code}
@@ -11,6 +11,8 @@ use lib.ListN.{getD}
 use Rattle.slots.specs.declared.Owner.{Owner}
 use Rattle.slots.specs.declared.Owner.the-variants.{Site, Chemical, Receptor}
 use Rattle.slots.specs.declared.Rule.{Rule}
+use Rattle.slots.specs.declared.Sort.{Sort}
+use Rattle.slots.specs.declared.Sort.the-variants.{Ordinary, Composite}
 
 -- A slot is named as in document 01.
 abbrev pub Slot : Type 0
@@ -44,9 +46,13 @@ slope = record { used = true; dash = true; zero = true; most = 1000000000 }
 abbrev pub unused : Rule
 unused = record { used = false; dash = false; zero = false; most = 0 }
 
+-- a slot of every deck; one of a composite's deck, in others a later slot; no slot yet
 infix 95 _is_
+infix 95 _inComposite_
 pub data Entry : Type 0 where
   _is_ : Slot → Rule → Entry
+  _inComposite_ : Slot → Rule → Entry
+  vacant : Entry
 
 -- the slots of a record, from its first; what follows them are later slots
 unfoldable pub table : Owner → List Entry
@@ -64,7 +70,7 @@ table Receptor =
     "BW" is positive ∷ "ED" is positive ∷ "ATc" is positive ∷ "IRinh" is ordinary ∷ "ETinh" is share ∷ "EFinh" is days
     ∷ "IRsoil" is ordinary ∷ "ETsoil" is share ∷ "EFs" is days ∷ "EFw" is days ∷ "SAb" is ordinary ∷ "SAFb" is ordinary
     ∷ "SAh" is ordinary ∷ "SAFh" is ordinary ∷ "ETderm" is share ∷ "IRag" is ordinary ∷ "Fag" is share ∷ "IRbg" is ordinary
-    ∷ "Fbg" is share ∷ "WP" is share ∷ "EFp" is days
+    ∷ "Fbg" is share ∷ "WP" is share ∷ "EFp" is days ∷ vacant ∷ "years" inComposite positive
     ∷ []
 
 -- two names are spelled alike
@@ -78,28 +84,41 @@ same (c ◂ s) (d ◂ t) = cond (eqb (code c) (code d)) (same s t) false
 unfoldable pub isIn : List Entry → Slot → Bool
 isIn [] s = false
 isIn ((name is rule) ∷ rest) s = cond (same name s) true (isIn rest s)
+isIn ((name inComposite rule) ∷ rest) s = cond (same name s) true (isIn rest s)
+isIn (vacant ∷ rest) s = isIn rest s
 
 unfoldable pub placeIn : List Entry → Slot → ℕ
 placeIn [] s = 0
 placeIn ((name is rule) ∷ rest) s = cond (same name s) 0 (suc (placeIn rest s))
+placeIn ((name inComposite rule) ∷ rest) s = cond (same name s) 0 (suc (placeIn rest s))
+placeIn (vacant ∷ rest) s = suc (placeIn rest s)
 
--- the rule of a record's place, from 0
+-- an entry's rule as written, and in a deck of this sort
 unfoldable pub entryRule : Entry → Rule
 entryRule (name is rule) = rule
+entryRule (name inComposite rule) = rule
+entryRule vacant = unused
 
-unfoldable pub ruleAt : Owner → ℕ → Rule
-ruleAt o k = getD (map entryRule (table o)) k unused
+unfoldable pub ruleIn : Sort → Entry → Rule
+ruleIn sort (name is rule) = rule
+ruleIn Ordinary (name inComposite rule) = unused
+ruleIn Composite (name inComposite rule) = rule
+ruleIn sort vacant = unused
+
+-- the rule of a record's place, from 0
+unfoldable pub ruleAt : Sort → Owner → ℕ → Rule
+ruleAt sort o k = getD (map (ruleIn sort) (table o)) k unused
 
 -- slots are filled line by line: the rules of the six fields of a record's line n, from 0
 abbrev pub fieldsPerLine : ℕ
 fieldsPerLine = 6
 
-unfoldable pub lineRules : Owner → ℕ → List Rule
-lineRules o n =
+unfoldable pub lineRules : Sort → Owner → ℕ → List Rule
+lineRules sort o n =
     let k : ℕ = fieldsPerLine * n in
-    ruleAt o k ∷ ruleAt o (k + 1) ∷ ruleAt o (k + 2) ∷ ruleAt o (k + 3) ∷ ruleAt o (k + 4) ∷ ruleAt o (k + 5) ∷ []
+    ruleAt sort o k ∷ ruleAt sort o (k + 1) ∷ ruleAt sort o (k + 2) ∷ ruleAt sort o (k + 3) ∷ ruleAt sort o (k + 4) ∷ ruleAt sort o (k + 5) ∷ []
 
--- whose slot it is, its place in the record, and its rule
+-- whose slot it is, its place in the record, and its rule as written
 unfoldable pub ownerOf : Slot → Owner
 ownerOf s = cond (isIn (table Site) s) Site (cond (isIn (table Chemical) s) Chemical Receptor)
 
@@ -107,7 +126,11 @@ unfoldable pub placeOf : Slot → ℕ
 placeOf s = placeIn (table (ownerOf s)) s
 
 unfoldable pub ruleOf : Slot → Rule
-ruleOf s = ruleAt (ownerOf s) (placeOf s)
+ruleOf s = getD (map entryRule (table (ownerOf s))) (placeOf s) unused
+
+-- its rule in a deck of this sort
+unfoldable pub ruleFor : Sort → Slot → Rule
+ruleFor sort s = ruleAt sort (ownerOf s) (placeOf s)
 
 -- Never 0
 unfoldable pub neverZero : Slot → Bool

@@ -3,6 +3,12 @@
 ghost use mathlib.Core.Path.{_≡_};
 ghost use Rattle.slots.specs.Slots.{lineRules};
 
+// The sort of a deck: an ordinary one, or a composite receptor's (document 02, P2).
+pub enum Sort {
+    Ordinary,
+    Composite,
+}
+
 // Whose record a slot stands in.
 pub enum Owner {
     Site,
@@ -135,6 +141,8 @@ pub const WP: usize = 19;
 
 pub const EF_P: usize = 20;
 
+pub const YEARS: usize = 22;
+
 const PLAIN: Rule = Rule {
     used: true,
     dash: false,
@@ -187,7 +195,7 @@ pub const UNUSED: Rule = Rule {
 
 // The rules of the six fields of a record's line, counted from 0.
 fn site_rules(line: usize) -> [Rule; FIELDS]
-    ensures { λ r. ⌜ r ≡ lineRules Owner.Site line ⌝ }
+    ensures { λ r. ⌜ ((sort : Sort) → r ≡ lineRules sort Owner.Site line) ⌝ }
 {
     match line {
         0 => [POSITIVE, POSITIVE, POSITIVE, POSITIVE, PLAIN, PLAIN],
@@ -197,7 +205,7 @@ fn site_rules(line: usize) -> [Rule; FIELDS]
 }
 
 fn chemical_rules(line: usize) -> [Rule; FIELDS]
-    ensures { λ r. ⌜ r ≡ lineRules Owner.Chemical line ⌝ }
+    ensures { λ r. ⌜ ((sort : Sort) → r ≡ lineRules sort Owner.Chemical line) ⌝ }
 {
     match line {
         0 => [PLAIN, SHARE, SHARE, SHARE, PLAIN, PLAIN],
@@ -208,25 +216,35 @@ fn chemical_rules(line: usize) -> [Rule; FIELDS]
     }
 }
 
-fn receptor_rules(line: usize) -> [Rule; FIELDS]
-    ensures { λ r. ⌜ r ≡ lineRules Owner.Receptor line ⌝ }
+// The only line whose rules differ with the sort.
+fn last_rules(sort: Sort) -> [Rule; FIELDS]
+    ensures { λ r. ⌜ r ≡ lineRules sort Owner.Receptor 3 ⌝ }
+{
+    match sort {
+        Sort::Ordinary => [SHARE, SHARE, DAYS, UNUSED, UNUSED, UNUSED],
+        Sort::Composite => [SHARE, SHARE, DAYS, UNUSED, POSITIVE, UNUSED],
+    }
+}
+
+fn receptor_rules(sort: Sort, line: usize) -> [Rule; FIELDS]
+    ensures { λ r. ⌜ r ≡ lineRules sort Owner.Receptor line ⌝ }
 {
     match line {
         0 => [POSITIVE, POSITIVE, POSITIVE, PLAIN, SHARE, DAYS],
         1 => [PLAIN, SHARE, DAYS, DAYS, PLAIN, PLAIN],
         2 => [PLAIN, PLAIN, SHARE, PLAIN, SHARE, PLAIN],
-        3 => [SHARE, SHARE, DAYS, UNUSED, UNUSED, UNUSED],
+        3 => last_rules(sort),
         _ => [UNUSED, UNUSED, UNUSED, UNUSED, UNUSED, UNUSED],
     }
 }
 
 // The rules of the six fields of a record's line, counted from 0; past the record's lines all are later slots.
-pub fn rules(owner: Owner, line: usize) -> [Rule; FIELDS]
-    ensures { λ r. ⌜ r ≡ lineRules owner line ⌝ }
+pub fn rules(sort: Sort, owner: Owner, line: usize) -> [Rule; FIELDS]
+    ensures { λ r. ⌜ r ≡ lineRules sort owner line ⌝ }
 {
     match owner {
         Owner::Site => site_rules(line),
         Owner::Chemical => chemical_rules(line),
-        Owner::Receptor => receptor_rules(line),
+        Owner::Receptor => receptor_rules(sort, line),
     }
 }

@@ -14,8 +14,8 @@ stopped-requires c κs = search needs
 
 returns : tie.Need-returns
 returns c =
-    with-told (now (c .before .before .before .before .args .deck)) _
-    (read-length (now (c .before .before .before .before .args .deck)) _ (c .before .before .bad-length .ensures) (c .before .if1 .taken) _ (c .stopped .ensures))
+    with-told (c .before .before .before .before .args .sort) (now (c .before .before .before .before .args .deck)) _
+    (read-length (c .before .before .before .before .args .sort) (now (c .before .before .before .before .args .deck)) _ (c .before .before .bad-length .ensures) (c .before .if1 .taken) _ (c .stopped .ensures))
 
 scan-lines-requires : tie.Need-scan-lines-requires
 scan-lines-requires c κs = search needs
@@ -31,16 +31,16 @@ stopped-requires-2 c κs = search needs
 
 returns-2 : tie.Need-returns-2
 returns-2 c =
-    with-told (now (c .before .before .before .before .before .before .before .args .deck)) _
-    (read-stopped (now (c .before .before .before .before .before .before .before .args .deck)) _ (c .before .before .before .before .before .bad-length .ensures) (c .before .before .before .before .if1 .left) _ (c .before .before .before .scan-lines .ensures .0) _ _ _ (c .before .enum-told2 .given .1) _ (c .stopped2 .ensures))
+    with-told (c .before .before .before .before .before .before .before .args .sort) (now (c .before .before .before .before .before .before .before .args .deck)) _
+    (read-stopped (c .before .before .before .before .before .before .before .args .sort) (now (c .before .before .before .before .before .before .before .args .deck)) _ (c .before .before .before .before .before .bad-length .ensures) (c .before .before .before .before .if1 .left) _ (c .before .before .before .scan-lines .ensures .0) _ _ _ (c .before .enum-told2 .given .1) _ (c .stopped2 .ensures))
 
 case-with-requires : tie.Need-case-with-requires
 case-with-requires c κs = search needs
 
 returns-3 : tie.Need-returns-3
 returns-3 c =
-    with-told (now (c .before .before .before .before .before .before .before .args .deck)) _
-    (read-case (now (c .before .before .before .before .before .before .before .args .deck)) _ (c .before .before .before .before .before .bad-length .ensures) (c .before .before .before .before .if1 .left) _ (c .before .before .before .scan-lines .ensures .0) (c .before .enum-told .given .1) _ _ (c .before .before .before .scan-lines .ensures .1 .0 (c .before .enum-told .given .1)) _ (c .case-with .ensures))
+    with-told (c .before .before .before .before .before .before .before .args .sort) (now (c .before .before .before .before .before .before .before .args .deck)) _
+    (read-case (c .before .before .before .before .before .before .before .args .sort) (now (c .before .before .before .before .before .before .before .args .deck)) _ (c .before .before .before .before .before .bad-length .ensures) (c .before .before .before .before .if1 .left) _ (c .before .before .before .scan-lines .ensures .0) (c .before .enum-told .given .1) _ _ (c .before .before .before .scan-lines .ensures .1 .0 (c .before .enum-told .given .1)) _ (c .case-with .ensures))
 
 pub read-spec : {M : Type 1} → statement M
 read-spec =

@@ -1,12 +1,13 @@
 -- `report::report` meets its contract. Assumes nothing.
-use mathlib.Core.Path.{ap}
+use mathlib.Core.Path.{ap, _∙_}
 use borrow.Author.Needs.{needs}
 use denote.Ref.{now}
 use Rattle.deck.specs.declared.Reading.{Reading}
 use Rattle.deck.specs.Cases.{readOf}
-use Rattle.sheet.specs.Sheet.{linesPerReceptor}
-use Rattle.report.specs.Report.{linesOfReport, lengthOf}
-use Rattle.report.proofs.CallLaws.{deck-stops, few, too-short, sheet-stops, written}
+use Rattle.sheet.specs.Values.{ordinaryOf}
+use Rattle.report.specs.Report.{ordinary}
+use Rattle.report.proofs.CallLaws.{deck-stops, deck-read, answers}
+use Rattle.report.proofs.DemandTwo.{ordinary-sounds}
 use Rattle.report.proofs.report.Statement.{statement}
 use Rattle.report.proofs.report.Tie as tie
 
@@ -23,56 +24,27 @@ tell-requires : tie.Need-tell-requires
 tell-requires c κs = search needs
 
 returns : tie.Need-returns
-unfolding readOf
+unfolding readOf ordinary
 returns c =
     let a = c .before .before .before .before .before .before .args in
-    deck-stops (now (a .deck)) (now (a .out)) _ _ _ _ _ (ap (λ (r : Reading). r .status) (c .before .before .before .read .ensures .0)) (c .before .enum-told2 .given .1) (c .tell .ensures)
+    deck-stops ordinary (now (a .deck)) (now (a .out)) _ _ _ _ _ (ap (λ (r : Reading). r .status) (c .before .before .before .read .ensures .0)) (c .before .enum-told2 .given .1) (c .tell .ensures)
 
-length-of-requires : tie.Need-length-of-requires
-length-of-requires c κs =
-    let a = c .before .before .before .before .before .args in
-    few (now (a .deck)) (now (a .out)) _ (c .before .before .read .ensures .0) (c .enum-told .given .1)
+ordinary-of-requires : tie.Need-ordinary-of-requires
+ordinary-of-requires c κs = search needs
 
-returns-2 : tie.Need-returns-2
-unfolding lengthOf linesOfReport linesPerReceptor
-returns-2 c =
-    let a = c .before .before .before .before .before .before .before .args in
-    too-short (now (a .deck)) (now (a .out)) _ (c .before .before .before .before .read .ensures .0) (c .before .before .enum-told .given .1) (rw (c .before .length-of .ensures) at (c .if1 .taken))
-
-counts-of-requires : tie.Need-counts-of-requires
-counts-of-requires c κs = search needs
-
-enum-told-3 : tie.Need-enum-told-3
-enum-told-3 c = search needs
-
-enum-told-4 : tie.Need-enum-told-4
-enum-told-4 c = search needs
-
-tell-requires-2 : tie.Need-tell-requires-2
-tell-requires-2 c κs = search needs
-
-returns-3 : tie.Need-returns-3
-unfolding lengthOf linesOfReport linesPerReceptor
-returns-3 c =
-    let a = c .before .before .before .before .before .before .before .before .before .before .before .args in
-    let room = rw (c .before .before .before .before .before .length-of .ensures) at (c .before .before .before .before .if1 .left) in
-    sheet-stops (now (a .deck)) (now (a .out)) _ (c .before .before .before .before .before .before .before .before .read .ensures .0) (c .before .before .before .before .before .before .enum-told .given .1) room _ (c .before .before .before .counts-of .ensures) _ _ _ _ (c .before .enum-told4 .given .1) (c .tell2 .ensures)
-
-write-rows-requires : tie.Need-write-rows-requires
-write-rows-requires c κs =
-    let a = c .before .before .before .before .before .before .before .before .before .before .before .before .before .before .args in
-    (few (now (a .deck)) (now (a .out)) _ (c .before .before .before .before .before .before .before .before .before .before .before .read .ensures .0) (c .before .before .before .before .before .before .before .before .before .enum-told .given .1), rw (c .before .before .before .before .before .before .before .before .length-of .ensures) at (c .before .before .before .before .before .before .before .if1 .left))
+write-report-requires : tie.Need-write-report-requires
+write-report-requires c κs = search needs
 
 same-length : tie.Need-same-length
 same-length c = search needs
 
-returns-4 : tie.Need-returns-4
-unfolding lengthOf linesOfReport linesPerReceptor
-returns-4 c =
-    let a = c .before .before .before .before .before .before .before .before .before .before .before .before .before .before .before .before .before .args in
-    let long = c .before .before .before .before .before .before .before .before .before .before .before .length-of .ensures in
-    let room = rw long at (c .before .before .before .before .before .before .before .before .before .before .if1 .left) in
-    written (now (a .deck)) (now (a .out)) _ (c .before .before .before .before .before .before .before .before .before .before .before .before .before .before .read .ensures .0) (c .before .before .before .before .before .before .before .before .before .before .before .before .enum-told .given .1) room _ (c .before .before .before .before .before .before .before .before .before .counts-of .ensures) (c .before .before .before .before .before .before .before .enum-told3 .given .1) _ _ long (c .before .before .write-rows .ensures)
+returns-2 : tie.Need-returns-2
+unfolding ordinary ordinaryOf
+returns-2 c =
+    let a = c .before .before .before .before .before .before .before .before .before .before .args in
+    let reading = c .before .before .before .before .before .before .before .read .ensures .0 in
+    let none = c .before .before .before .before .before .enum-told .given .1 in
+    answers ordinary (now (a .deck)) (now (a .out)) _ reading none (ordinary-sounds .sound (now (a .deck)) (deck-read ordinary (now (a .deck)) (now (a .out)) _ reading none)) _ (c .before .before .before .before .ordinary-of .ensures) _ _ (c .before .before .write-report .ensures .0) (c .before .before .write-report .ensures .1)
 
 pub report-spec : {M : Type 1} → statement M
 report-spec =
@@ -83,13 +55,7 @@ report-spec =
     enum-told-2
     tell-requires
     returns
-    length-of-requires
-    returns-2
-    counts-of-requires
-    enum-told-3
-    enum-told-4
-    tell-requires-2
-    returns-3
-    write-rows-requires
+    ordinary-of-requires
+    write-report-requires
     same-length
-    returns-4)
+    returns-2)

@@ -22,10 +22,10 @@ receptor-rules-requires : tie.Need-receptor-rules-requires
 receptor-rules-requires c κs = search needs
 
 returns : tie.Need-returns
-returns c = rw (c .before .enum-told .given .1) (c .site-rules .ensures)
+returns c = rw (c .before .enum-told .given .1) (c .site-rules .ensures (c .before .before .before .args .sort))
 
 returns-2 : tie.Need-returns-2
-returns-2 c = rw (c .before .enum-told2 .given .1) (c .chemical-rules .ensures)
+returns-2 c = rw (c .before .enum-told2 .given .1) (c .chemical-rules .ensures (c .before .before .before .args .sort))
 
 returns-3 : tie.Need-returns-3
 returns-3 c = rw (c .before .enum-told3 .given .1) (c .receptor-rules .ensures)

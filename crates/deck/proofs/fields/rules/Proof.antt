@@ -39,43 +39,43 @@ rules-requires-10 c κs = search needs
 
 returns : tie.Need-returns
 unfolding rulesOf rulesIn kinds
-returns c = c .rules .ensures ∙ ap rulesOf (sym (c .before .match .keys1))
+returns c = c .rules .ensures ∙ ap (rulesOf (c .before .before .args .sort)) (sym (c .before .match .keys1))
 
 returns-2 : tie.Need-returns-2
 unfolding rulesOf rulesIn kinds
-returns-2 c = c .rules2 .ensures ∙ ap rulesOf (sym (c .before .match .keys2))
+returns-2 c = c .rules2 .ensures ∙ ap (rulesOf (c .before .before .args .sort)) (sym (c .before .match .keys2))
 
 returns-3 : tie.Need-returns-3
 unfolding rulesOf rulesIn kinds
-returns-3 c = c .rules3 .ensures ∙ ap rulesOf (sym (c .before .match .keys3))
+returns-3 c = c .rules3 .ensures ∙ ap (rulesOf (c .before .before .args .sort)) (sym (c .before .match .keys3))
 
 returns-4 : tie.Need-returns-4
 unfolding rulesOf rulesIn kinds
-returns-4 c = c .rules4 .ensures ∙ ap rulesOf (sym (c .before .match .keys4))
+returns-4 c = c .rules4 .ensures ∙ ap (rulesOf (c .before .before .args .sort)) (sym (c .before .match .keys4))
 
 returns-5 : tie.Need-returns-5
 unfolding rulesOf rulesIn kinds
-returns-5 c = c .rules5 .ensures ∙ ap rulesOf (sym (c .before .match .keys5))
+returns-5 c = c .rules5 .ensures ∙ ap (rulesOf (c .before .before .args .sort)) (sym (c .before .match .keys5))
 
 returns-6 : tie.Need-returns-6
 unfolding rulesOf rulesIn kinds
-returns-6 c = c .rules6 .ensures ∙ ap rulesOf (sym (c .before .match .keys6))
+returns-6 c = c .rules6 .ensures ∙ ap (rulesOf (c .before .before .args .sort)) (sym (c .before .match .keys6))
 
 returns-7 : tie.Need-returns-7
 unfolding rulesOf rulesIn kinds
-returns-7 c = c .rules7 .ensures ∙ ap rulesOf (sym (c .before .match .keys7))
+returns-7 c = c .rules7 .ensures ∙ ap (rulesOf (c .before .before .args .sort)) (sym (c .before .match .keys7))
 
 returns-8 : tie.Need-returns-8
 unfolding rulesOf rulesIn kinds
-returns-8 c = c .rules8 .ensures ∙ ap rulesOf (sym (c .before .match .keys8))
+returns-8 c = c .rules8 .ensures ∙ ap (rulesOf (c .before .before .args .sort)) (sym (c .before .match .keys8))
 
 returns-9 : tie.Need-returns-9
 unfolding rulesOf rulesIn kinds
-returns-9 c = c .rules9 .ensures ∙ ap rulesOf (sym (c .before .match .keys9))
+returns-9 c = c .rules9 .ensures ∙ ap (rulesOf (c .before .before .args .sort)) (sym (c .before .match .keys9))
 
 returns-10 : tie.Need-returns-10
 unfolding rulesOf rulesIn kinds
-returns-10 c = c .rules10 .ensures ∙ ap rulesOf (sym (c .before .match .keys10))
+returns-10 c = c .rules10 .ensures ∙ ap (rulesOf (c .before .before .args .sort)) (sym (c .before .match .keys10))
 
 returns-11 : tie.Need-returns-11
 unfolding rulesOf rulesIn kinds

@@ -10,7 +10,7 @@ use borrow.Rule.Slice.PartMut.{mid-len, same-len-mid}
 use lib.ListN.{length, drop, length-map}
 use Rattle.text.specs.Text.{linesText}
 use Rattle.sheet.specs.Sheet.{chained}
-use Rattle.report.specs.Inner.{reportIn}
+use Rattle.report.specs.Scenario.{reportIn}
 use Rattle.report.proofs.Written.{within, receptor-more}
 use Rattle.report.proofs.rows.write_rows.Statement.{statement}
 use Rattle.report.proofs.rows.write_rows.Tie as tie
@@ -19,7 +19,7 @@ abbrev Inv-loop : tie.InvT-loop
 Inv-loop out₀ cells chemicals receptors count width j₀ out j =
     (j ≤ count)
     × (length out ≡ length out₀)
-    × (out ≡ linesText (reportIn cells chemicals (receptors .records) j) ++ drop (width * j) out₀)
+    × (out ≡ linesText (reportIn cells chemicals (receptors .list) j) ++ drop (width * j) out₀)
 
 abbrev μ-loop : tie.MeasureT-loop
 μ-loop out₀ cells chemicals receptors count width j₀ out j = count - j
@@ -94,12 +94,12 @@ loop-again c =
     let l = c .before .before .before .before .before .before .loop in
     let width = 95 * (s .args .chemicals .count * 6 + 1) in
     let past : width * l .j + width ≤ length (l .out) = omega (arith, l .inv .1, s .pre, within (s .args .t4 .count) (l .j) (s .args .chemicals .count) (c .before .before .before .before .before .loop-test .taken)) in
-    let long : length (s .args .t4 .records) ≡ 4 = sym (length-map (s .args .t4 .records) _) ∙ s .good .1 .1 .1 .0 .1 .1 .1 .0 .1 .0 .1 in
-    let here : l .j < length (s .args .t4 .records) = omega (arith, c .before .before .before .before .before .loop-test .taken, s .pre) in
+    let long : length (s .args .t4 .list) ≡ 4 = sym (length-map (s .args .t4 .list) _) ∙ s .good .1 .1 .1 .0 .1 .1 .1 .0 .1 .0 .1 in
+    let here : l .j < length (s .args .t4 .list) = omega (arith, c .before .before .before .before .before .loop-test .taken, s .pre) in
     let part = c .before .before .write-receptor in (
       omega (arith, c .before .before .before .before .before .loop-test .taken),
       same-len-mid (width * l .j) (width * l .j + width - width * l .j) (l .out) (part .last .0) (part .kept .0) ∙ l .inv .1,
-      receptor-more (s .args .cells .now) (s .args .chemicals) (s .args .t4 .records) _ (s .args .out .now) (l .out) (part .last .0) (l .j) here (part .ensures) (l .inv .2),
+      receptor-more (s .args .cells .now) (s .args .chemicals) (s .args .t4 .list) _ (s .args .out .now) (l .out) (part .last .0) (l .j) here (part .ensures) (l .inv .2),
     )
 
 same-length : tie.Need-same-length Inv-loop μ-loop
@@ -112,7 +112,7 @@ returns c =
     let all : l .j ≡ s .args .t4 .count = omega (arith, c .loop-test .left) in
     let end : 95 * (s .args .chemicals .count * 6 + 1) * s .args .t4 .count ≡ 95 * (s .args .t4 .count * (s .args .chemicals .count * 6 + 1)) = omega arith in
     (rw all at (l .inv .2))
-    ∙ ap (λ (k : ℕ). linesText (reportIn (s .args .cells .now) (s .args .chemicals) (s .args .t4 .records) (s .args .t4 .count)) ++ drop k (s .args .out .now)) end
+    ∙ ap (λ (k : ℕ). linesText (reportIn (s .args .cells .now) (s .args .chemicals) (s .args .t4 .list) (s .args .t4 .count)) ++ drop k (s .args .out .now)) end
 
 pub write-rows-spec : {M : Type 1} → statement M
 write-rows-spec =

@@ -3,8 +3,8 @@ use mathlib.Core.Path.{refl}
 use borrow.Author.Needs.{needs}
 use Rattle.pathway.specs.Lines.{figured}
 use Rattle.sheet.specs.Inner.{isLarge}
-use Rattle.sheet.proofs.receptors.is_large.Statement.{statement}
-use Rattle.sheet.proofs.receptors.is_large.Tie as tie
+use Rattle.sheet.proofs.lines.is_large.Statement.{statement}
+use Rattle.sheet.proofs.lines.is_large.Tie as tie
 
 above-cap-requires : tie.Need-above-cap-requires
 above-cap-requires c κs = search needs

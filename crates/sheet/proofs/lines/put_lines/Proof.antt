@@ -1,4 +1,4 @@
--- `sheet::receptors::put_lines` meets its contract. The invariant: the cells hold the lines so far, none above a cap, the cells below are
+-- `sheet::lines::put_lines` meets its contract. The invariant: the cells hold the lines so far, none above a cap, the cells below are
 -- as they were, and the others stay 0. Assumes nothing.
 use mathlib.Core.Path.{_≡_, refl, sym, ap, subst, _∙_}
 use mathlib.Core.List.{List}
@@ -16,8 +16,8 @@ use Rattle.sheet.specs.Sheet.{chained}
 use Rattle.sheet.specs.Inner.{figureFor, columnsWorked, largeLine, largeWorked, withCounts, CellsHold, CellsEmpty, SameBelow, ZeroFrom}
 use Rattle.sheet.proofs.ReceptorLaws.{large-is, columns-are, line-fits, line-stops}
 use Rattle.sheet.proofs.CellLaws.{line-length, line-below, line-held, line-empty, line-zero}
-use Rattle.sheet.proofs.receptors.put_lines.Statement.{statement}
-use Rattle.sheet.proofs.receptors.put_lines.Tie as tie
+use Rattle.sheet.proofs.lines.put_lines.Statement.{statement}
+use Rattle.sheet.proofs.lines.put_lines.Tie as tie
 
 abbrev Inv-loop : tie.InvT-loop
 Inv-loop cells₀ base site receptor before sources count q₀ cells q =

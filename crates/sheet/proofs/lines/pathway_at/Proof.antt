@@ -4,8 +4,8 @@ use Prim.Native.Nat.{ℕ, zero, suc, _<_}
 use native.Mathlib.Omega.{arith}
 use Rattle.equations.specs.declared.Pathway.the-variants.{BelowGround}
 use Rattle.sheet.specs.Sheet.{pathwayAt}
-use Rattle.sheet.proofs.receptors.pathway_at.Statement.{statement}
-use Rattle.sheet.proofs.receptors.pathway_at.Tie as tie
+use Rattle.sheet.proofs.lines.pathway_at.Statement.{statement}
+use Rattle.sheet.proofs.lines.pathway_at.Tie as tie
 
 last : (n : ℕ) → 4 < n → BelowGround ≡ pathwayAt n
 unfolding pathwayAt

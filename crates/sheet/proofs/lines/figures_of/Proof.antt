@@ -1,8 +1,8 @@
 -- The figures of the source on the pathway. Assumes nothing.
 use borrow.Author.Needs.{needs}
 use Rattle.sheet.specs.Inner.{figuresFrom}
-use Rattle.sheet.proofs.receptors.figures_of.Statement.{statement}
-use Rattle.sheet.proofs.receptors.figures_of.Tie as tie
+use Rattle.sheet.proofs.lines.figures_of.Statement.{statement}
+use Rattle.sheet.proofs.lines.figures_of.Tie as tie
 
 figures-requires : tie.Need-figures-requires
 figures-requires c κs = search needs

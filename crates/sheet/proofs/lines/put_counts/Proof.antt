@@ -1,12 +1,12 @@
--- `sheet::receptors::put_counts` meets its contract: three stores. Assumes nothing.
+-- `sheet::lines::put_counts` meets its contract: three stores. Assumes nothing.
 use mathlib.Core.Path.{refl}
 use native.Mathlib.Omega.{arith}
 use borrow.Author.Needs.{needs}
 use lib.ListN.{length-set}
 use Rattle.sheet.specs.Counts.{cellOf}
 use Rattle.sheet.specs.Inner.{withCounts}
-use Rattle.sheet.proofs.receptors.put_counts.Statement.{statement}
-use Rattle.sheet.proofs.receptors.put_counts.Tie as tie
+use Rattle.sheet.proofs.lines.put_counts.Statement.{statement}
+use Rattle.sheet.proofs.lines.put_counts.Tie as tie
 
 enum-told : tie.Need-enum-told
 enum-told c = search needs

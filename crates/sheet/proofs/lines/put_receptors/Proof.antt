@@ -1,4 +1,4 @@
--- `sheet::receptors::put_receptors` meets its contract. The invariant: no line so far is above a cap, and where all cells were 0, they hold
+-- `sheet::lines::put_receptors` meets its contract. The invariant: no line so far is above a cap, and where all cells were 0, they hold
 -- the lines of the receptors so far and 0 for the others. Assumes nothing.
 use mathlib.Core.Path.{_≡_, refl, sym, _∙_}
 use Prim.Native.Nat.{_+_, _*_, _-_, _≤_, _<_}
@@ -13,15 +13,15 @@ use Rattle.sheet.specs.Sheet.{chained}
 use Rattle.sheet.specs.Inner.{allLarge, CellsFilled, ZeroFrom}
 use Rattle.sheet.proofs.ReceptorLaws.{receptor-is, large-on, large-stops}
 use Rattle.sheet.proofs.CellLaws.{receptor-held}
-use Rattle.sheet.proofs.receptors.put_receptors.Statement.{statement}
-use Rattle.sheet.proofs.receptors.put_receptors.Tie as tie
+use Rattle.sheet.proofs.lines.put_receptors.Statement.{statement}
+use Rattle.sheet.proofs.lines.put_receptors.Tie as tie
 
 abbrev Inv-loop : tie.InvT-loop
 Inv-loop cells₀ site sources receptors count per j₀ cells j =
     (j ≤ count)
     × (length cells ≡ length cells₀)
-    × (first (allLarge site sources (receptors .records) j) ≡ Read)
-    × (ZeroFrom 0 cells₀ → CellsFilled site sources (receptors .records) j cells × ZeroFrom (576 * j) cells)
+    × (first (allLarge site sources (receptors .list) j) ≡ Read)
+    × (ZeroFrom 0 cells₀ → CellsFilled site sources (receptors .list) j cells × ZeroFrom (576 * j) cells)
 
 abbrev μ-loop : tie.MeasureT-loop
 μ-loop cells₀ site sources receptors count per j₀ cells j = count - j
@@ -48,37 +48,34 @@ element-copy-out-receptor c = search needs
 mul-put-lines : tie.Need-mul-put-lines Inv-loop μ-loop
 mul-put-lines c = search needs
 
-values-of-requires : tie.Need-values-of-requires Inv-loop μ-loop
-values-of-requires c κs = search needs
-
 mul-put-lines-2 : tie.Need-mul-put-lines-2 Inv-loop μ-loop
 mul-put-lines-2 c =
-    let s = c .before .before .before .before .before .before .before in
-    let most : c .before .before .before .before .loop .j ≤ 3 = omega (arith, c .before .before .before .loop-test .taken, s .pre) in
+    let s = c .before .before .before .before .before .before in
+    let most : c .before .before .before .loop .j ≤ 3 = omega (arith, c .before .before .loop-test .taken, s .pre) in
     record { fits = omega (arith, s .pre, mul-le-mul-right (s .args .sources .count * 6 + 1) most) }
 
 put-lines-requires : tie.Need-put-lines-requires Inv-loop μ-loop
 put-lines-requires c κs =
-    let s = c .before .before .before .before .before .before .before in
-    let l = c .before .before .before .before .loop in
-    let most : l .j ≤ 3 = omega (arith, c .before .before .before .loop-test .taken, s .pre) in
+    let s = c .before .before .before .before .before .before in
+    let l = c .before .before .before .loop in
+    let most : l .j ≤ 3 = omega (arith, c .before .before .loop-test .taken, s .pre) in
     (omega (arith, l .inv .1, s .pre .0), s .pre .2, omega (arith, s .pre, mul-le-mul-right (s .args .sources .count * 6 + 1) most))
 
 enum-told : tie.Need-enum-told Inv-loop μ-loop
 enum-told c = search needs
 
 same-length : tie.Need-same-length Inv-loop μ-loop
-same-length c = c .before .before .before .before .put-lines .kept .0 ∙ c .before .before .before .before .before .before .before .before .before .loop .inv .1
+same-length c = c .before .before .before .before .put-lines .kept .0 ∙ c .before .before .before .before .before .before .before .before .loop .inv .1
 
 returns : tie.Need-returns Inv-loop μ-loop
 returns c =
-    let s = c .before .before .before .before .before .before .before .before .before .before .before .before in
-    let l = c .before .before .before .before .before .before .before .before .before .loop in
-    let long : length (s .args .t3 .records) ≡ 4 = sym (length-map (s .args .t3 .records) _) ∙ s .good .1 .1 .0 .1 .1 .1 .0 .1 .0 .1 in
-    let test = c .before .before .before .before .before .before .before .before .loop-test .taken in
-    let here : l .j < length (s .args .t3 .records) = omega (arith, test, s .pre) in
+    let s = c .before .before .before .before .before .before .before .before .before .before .before in
+    let l = c .before .before .before .before .before .before .before .before .loop in
+    let long : length (s .args .t3 .list) ≡ 4 = sym (length-map (s .args .t3 .list) _) ∙ s .good .1 .1 .0 .1 .1 .1 .0 .1 .0 .1 in
+    let test = c .before .before .before .before .before .before .before .loop-test .taken in
+    let here : l .j < length (s .args .t3 .list) = omega (arith, test, s .pre) in
     let stop = c .enum-told .given .1 in (
-      large-stops (s .args .site) (s .args .sources) (s .args .t3 .records) _ (l .j) here _ (c .before .before .before .before .before .values-of .ensures) _ (c .before .before .before .before .put-lines .ensures .0) (l .inv .2) (s .args .t3 .count) test _ _ _ stop,
+      large-stops (s .args .site) (s .args .sources) (s .args .t3 .list) _ (l .j) here _ refl _ (c .before .before .before .before .put-lines .ensures .0) (l .inv .2) (s .args .t3 .count) test _ _ _ stop,
       λ e. absurd (never _ _ _ _ stop e),
     )
 
@@ -90,22 +87,21 @@ loop-less c = search needs
 
 loop-again : tie.Need-loop-again Inv-loop μ-loop
 loop-again c =
-    let s = c .before .before .before .before .before .before .before .before .before .before .before .before in
-    let l = c .before .before .before .before .before .before .before .before .before .loop in
-    let long : length (s .args .t3 .records) ≡ 4 = sym (length-map (s .args .t3 .records) _) ∙ s .good .1 .1 .0 .1 .1 .1 .0 .1 .0 .1 in
-    let test = c .before .before .before .before .before .before .before .before .loop-test .taken in
-    let here : l .j < length (s .args .t3 .records) = omega (arith, test, s .pre) in
+    let s = c .before .before .before .before .before .before .before .before .before .before .before in
+    let l = c .before .before .before .before .before .before .before .before .loop in
+    let long : length (s .args .t3 .list) ≡ 4 = sym (length-map (s .args .t3 .list) _) ∙ s .good .1 .1 .0 .1 .1 .1 .0 .1 .0 .1 in
+    let test = c .before .before .before .before .before .before .before .loop-test .taken in
+    let here : l .j < length (s .args .t3 .list) = omega (arith, test, s .pre) in
     let read = c .enum-told2 .given .1 in
-    let receptor = c .before .before .before .before .before .values-of .ensures in
     let lines = c .before .before .before .before .put-lines in (
       omega (arith, test),
       lines .kept .0 ∙ l .inv .1,
-      large-on (s .args .site) (s .args .sources) (s .args .t3 .records) _ (l .j) here _ receptor _ (lines .ensures .0) (l .inv .2) read,
+      large-on (s .args .site) (s .args .sources) (s .args .t3 .list) _ (l .j) here _ refl _ (lines .ensures .0) (l .inv .2) read,
       λ z.
           let kept = l .inv .3 z in
           let left = lines .ensures .1 .1 .1 (kept .1) in (
-            receptor-held (s .args .site) (s .args .sources) (s .args .t3 .records) (l .j) (l .cells) (lines .last .0) (s .pre .2) _
-                (receptor-is (s .args .site) (s .args .sources) (s .args .t3 .records) _ (l .j) here _ receptor) (kept .0) (lines .ensures .1 .1 .0) (lines .ensures .1 .0 read) (left .0),
+            receptor-held (s .args .site) (s .args .sources) (s .args .t3 .list) (l .j) (l .cells) (lines .last .0) (s .pre .2) _
+                (receptor-is (s .args .site) (s .args .sources) (s .args .t3 .list) _ (l .j) here _ refl) (kept .0) (lines .ensures .1 .1 .0) (lines .ensures .1 .0 read) (left .0),
             λ k h. left .1 k (omega arith),
           ),
     )
@@ -132,7 +128,6 @@ put-receptors-spec =
     mul-receptor
     element-copy-out-receptor
     mul-put-lines
-    values-of-requires
     mul-put-lines-2
     put-lines-requires
     enum-told

@@ -1,8 +1,8 @@
 -- The cells are as many as before. Assumes nothing.
 use borrow.Author.Needs.{needs}
 use mathlib.Core.Path.{_∙_}
-use Rattle.sheet.proofs.receptors.put_all.Statement.{statement}
-use Rattle.sheet.proofs.receptors.put_all.Tie as tie
+use Rattle.sheet.proofs.lines.put_all.Statement.{statement}
+use Rattle.sheet.proofs.lines.put_all.Tie as tie
 
 put-receptors-requires : tie.Need-put-receptors-requires
 put-receptors-requires c κs = search needs

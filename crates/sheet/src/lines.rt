@@ -1,5 +1,4 @@
 // The counts of a receptor's lines, into cells.
-use deck::Receptors;
 use deck::Status;
 use equations::Effect;
 use equations::Pathway;
@@ -21,11 +20,11 @@ use crate::EFFECT_CELLS;
 use crate::MOST_LINES;
 use crate::PATHWAYS;
 use crate::RECEPTOR_CELLS;
+use crate::Receptors;
 use crate::Source;
 use crate::Sources;
 use crate::counting::above_cap;
 use crate::counting::columns_of;
-use crate::values::values_of;
 
 const TOO_LARGE: u32 = 42;
 
@@ -125,20 +124,20 @@ fn put_lines(
 // Every receptor's counts, or the first line above a cap.
 fn put_receptors(cells: &mut [u64], site: Values, receptors: Receptors, sources: Sources) -> Status
     requires { ⌜ (length (now cells) ≡ allCells) × (receptors .count ≤ 4) × (sources .count ≤ 16) ⌝ }
-    ensures { λ s. ⌜ s ≡ first (allLarge site sources (receptors .records) (receptors .count)) ⌝ }
-    ensures { λ s. ⌜ (s ≡ Statuses.Read → ZeroFrom 0 (now (cells .entry)) → CellsFilled site sources (receptors .records) (receptors .count) (now (cells .exit)) × ZeroFrom (receptorCells * receptors .count) (now (cells .exit))) ⌝ }
+    ensures { λ s. ⌜ s ≡ first (allLarge site sources (receptors .list) (receptors .count)) ⌝ }
+    ensures { λ s. ⌜ (s ≡ Statuses.Read → ZeroFrom 0 (now (cells .entry)) → CellsFilled site sources (receptors .list) (receptors .count) (now (cells .exit)) × ZeroFrom (receptorCells * receptors .count) (now (cells .exit))) ⌝ }
 {
     let count = receptors.count;
     let per = sources.count * PATHWAYS + 1;
     let mut j: usize = 0;
     while j < count {
         let next = j + 1;
-        let receptor = receptors.records[j];
+        let receptor = receptors.list[j];
         let status = put_lines(
             cells,
             RECEPTOR_CELLS * j,
             site,
-            values_of(receptor),
+            receptor.values,
             sources,
             j * per,
         );
@@ -158,8 +157,8 @@ pub(crate) fn put_all(
     sources: Sources,
 ) -> Status
     requires { ⌜ (receptors .count ≤ 4) × (sources .count ≤ 16) ⌝ }
-    ensures { λ s. ⌜ s ≡ first (allLarge site sources (receptors .records) (receptors .count)) ⌝ }
-    ensures { λ s. ⌜ (s ≡ Statuses.Read → ZeroFrom 0 (now (cells .entry)) → CellsFilled site sources (receptors .records) (receptors .count) (now (cells .exit)) × ZeroFrom (receptorCells * receptors .count) (now (cells .exit))) ⌝ }
+    ensures { λ s. ⌜ s ≡ first (allLarge site sources (receptors .list) (receptors .count)) ⌝ }
+    ensures { λ s. ⌜ (s ≡ Statuses.Read → ZeroFrom 0 (now (cells .entry)) → CellsFilled site sources (receptors .list) (receptors .count) (now (cells .exit)) × ZeroFrom (receptorCells * receptors .count) (now (cells .exit))) ⌝ }
     ensures { λ _. ⌜ length (now (cells .exit)) ≡ allCells ⌝ }
 {
     put_receptors(cells, site, receptors, sources)

@@ -1,0 +1,76 @@
+-- An ordinary deck's receptors: their slots' pairs are the entries of what is printed, in range of it. Assumes nothing.
+use mathlib.Core.Path.{_≡_, refl, sym, ap, _∙_, subst}
+use mathlib.Core.List.{[], _∷_}
+use Prim.Native.Nat.{ℕ, _≤_, _<_}
+use native.Mathlib.Omega.{arith}
+use lib.Dec.{lit<}
+use lib.IntN.{ℤ}
+use lib.ListN.{length, getD}
+use Rattle.pair.specs.declared.Pair.{Pair}
+use Rattle.pair.specs.Calls.{is, entry}
+use Rattle.slots.specs.declared.Sort.the-variants.{Ordinary}
+use Rattle.slots.specs.Slots.{Slot, ruleFor, ownerOf, placeOf}
+use Rattle.slots.specs.declared.Owner.{Owner}
+use Rattle.slots.specs.declared.Owner.the-variants.{Site, Chemical, Receptor}
+use Rattle.equations.specs.Readings.{valueIn, byOwner, inputs}
+use Rattle.equations.proofs.Profile.{Good}
+use Rattle.equations.proofs.LineLaws.{ofSlot, printed-good}
+use Rattle.equations.proofs.ValueLaws.{read-any}
+use Rattle.deck.specs.declared.Case.{Case}
+use Rattle.deck.specs.declared.Record.{Record}
+use Rattle.deck.specs.declared.Value.the-variants.{Printed}
+use Rattle.deck.specs.Cases.{tabulate, noRecord, valueAt, receptorAt, ownersRecord, printed}
+use Rattle.deck.specs.Ranged.{Fits, Ranged}
+use Rattle.sheet.specs.declared.Receptor as receptors
+use Rattle.sheet.specs.declared.Scenario.{Scenario}
+use Rattle.sheet.specs.Values.{pairOf, noReceptor, receptorIn, pairsAt, entered, scenarioWith, enteredFrom, ordinaryOf, fractionOf, exactFrom, exactAt}
+use Rattle.sheet.proofs.Sound.{Sound}
+use Rattle.sheet.proofs.CellLaws.{tabulate-at}
+use Rattle.sheet.proofs.Inputs.{value-good, value-entered, value-at, made-sound}
+
+module _ (case : Case) (ranged : Ranged Ordinary case) where
+  pub entered-at : (j : ℕ) → j < case .receptors .count → getD (enteredFrom case .list) j noReceptor ≡ entered (receptorAt case j)
+  unfolding enteredFrom
+  entered-at j h = tabulate-at 4 (λ k. entered (receptorAt case k)) noReceptor j (omega (arith, ranged .few-receptors))
+
+  receptor-fits : (j : ℕ) → j < case .receptors .count → (s : Slot) → ownerOf s ≡ Receptor → Fits (ruleFor Ordinary s) (valueAt (receptorAt case j) (placeOf s))
+  unfolding printed ownersRecord
+  receptor-fits j h s e = subst (λ (o : Owner). Fits (ruleFor Ordinary s) (valueAt (ownersRecord o case j 0) (placeOf s))) e (ranged .fits j 0 h (ranged .some-chemicals) s)
+
+  entered-good : (j : ℕ) → j < case .receptors .count → (s : Slot) → ownerOf s ≡ Receptor
+      → Good (ofSlot s) (is (valueIn (getD (enteredFrom case .list) j noReceptor .values) (placeOf s))) (exactFrom case j s)
+  unfolding exactFrom entered
+  entered-good j h s e =
+      let at : valueIn (getD (enteredFrom case .list) j noReceptor .values) (placeOf s) ≡ pairOf (valueAt (receptorAt case j) (placeOf s)) =
+      ap (λ (r : receptors.Receptor). valueIn (r .values) (placeOf s)) (entered-at j h) ∙ value-at (receptorAt case j) (placeOf s)
+      in
+      subst (λ (p : Pair). Good (ofSlot s) (is p) (fractionOf (valueAt (receptorAt case j) (placeOf s)))) (sym at)
+      (printed-good s (value-good Ordinary s (valueAt (receptorAt case j) (placeOf s)) (receptor-fits j h s e)))
+
+  receptor-at : (j i : ℕ) → j < case .receptors .count → (s : Slot) → ownerOf s ≡ Receptor
+      → pairsAt (ordinaryOf case) j i .value s ≡ pairOf (valueAt (receptorAt case j) (placeOf s))
+  unfolding pairsAt inputs ordinaryOf scenarioWith receptorIn byOwner entered
+  receptor-at j i h s e =
+      rw e
+      (ap (λ (r : receptors.Receptor). valueIn (r .values) (placeOf s)) (entered-at j h) ∙ value-at (receptorAt case j) (placeOf s))
+
+  -- each slot's pair is the entry of what is printed there
+  pub receptor-entered : (j i : ℕ) → j < case .receptors .count → (s : Slot) (digits : ℕ) (power : ℤ) → ownerOf s ≡ Receptor
+      → valueAt (receptorAt case j) (placeOf s) ≡ Printed power digits → entry digits power ≡ is (pairsAt (ordinaryOf case) j i .value s)
+  receptor-entered j i h s digits power e there =
+      value-entered Ordinary s digits power (subst (Fits (ruleFor Ordinary s)) there (receptor-fits j h s e))
+      ∙ ap (λ (q : Pair). is q) (sym (receptor-at j i h s e ∙ ap pairOf there))
+
+  pub ordinary-sound : Sound (ordinaryOf case) (exactAt case)
+  unfolding ordinaryOf exactAt enteredFrom
+  ordinary-sound = made-sound Ordinary case ranged (enteredFrom case) (exactFrom case) (ranged .some-receptors) (ranged .few-receptors) entered-good
+
+-- the scenario as it is made: the first four records entered
+pub entered-all : (case : Case) (blank : Record) → 4 ≤ length (case .receptors .records) → (a b c d : receptors.Receptor)
+    → a ≡ entered (getD (case .receptors .records) 0 blank) → b ≡ entered (getD (case .receptors .records) 1 blank)
+    → c ≡ entered (getD (case .receptors .records) 2 blank) → d ≡ entered (getD (case .receptors .records) 3 blank)
+    → _≡_ {A = Scenario} (record { site = case .site; chemicals = case .chemicals; receptors = record { count = case .receptors .count; list = a ∷ b ∷ c ∷ d ∷ [] } }) (ordinaryOf case)
+unfolding ordinaryOf scenarioWith enteredFrom tabulate receptorAt
+entered-all case blank long a b c d p q r s =
+    let at : (k : ℕ) → k < 4 → getD (case .receptors .records) k blank ≡ getD (case .receptors .records) k noRecord = λ k h. read-any (case .receptors .records) k (omega arith) blank noRecord in
+    rw (p, q, r, s, at 0 (lit< tt), at 1 (lit< tt), at 2 (lit< tt), at 3 (lit< tt)) refl
