@@ -1,10 +1,12 @@
 #!/usr/bin/env python3
-"""Writes data/decks and stdout: the stored decks, each with the answer of an independent reading of documents 01 and 02.
+"""Writes data/decks, data/composites and stdout: the stored decks, each with the answer of an independent reading of documents 01
+and 02.
 
   python3 make_decks.py ORACLE
 
 ORACLE is the folder of that reading (its oracle.py and decks.py), written in Python from the documents alone; nothing of it is
-copied here. It gives number, line and field, or which records a deck has, with P1 landed: level 1. No answer comes from the crate
+copied here. It gives number, line and field, or which records a deck has, with P1 landed: level 1. P2 changes no ordinary deck's
+answer: each must have the same at level 2. A composite's deck has the composite call's, of level 2. No answer comes from the crate
 deck. The checksum needs digits and power as printed, which the oracle does not keep: they are taken from the fields' bytes here,
 and their value is held to the oracle's.
 
@@ -15,6 +17,13 @@ its answer. The others are made anew on each run, from document 01's example but
   later slots, and fields that spell no number, with that many digits
   a long field before and after a field that stops the deck
   whole decks by the oracle's own generator, half of them damaged
+  for P2: slots 22 to 24 filled, five receptors and more, a composite's decks, lengths above 6,723
+
+The decks of data/composites are made anew too, from document 01's example with one to eight stages:
+  each number of stages; years, and each slot of a stage, in range, above it, and 0
+  years, ED and ATc missing or misspelled; slots 22 and 24 filled
+  ids, lines and lengths that stop a deck; two conditions at once; ordinary decks
+  whole decks by the oracle's own generator, half of them damaged
 """
 import random
 import sys
@@ -22,6 +31,7 @@ from fractions import Fraction
 from pathlib import Path
 
 LEVEL = 1
+ORDINARY, COMPOSITE = (LEVEL, False), (2, True)
 OLD = 452
 MODULUS = 999983
 SEED = 20270101
@@ -68,24 +78,30 @@ def mixed_record(total, lines):
     return total
 
 
-def checksum(lines, chemicals, receptors):
-    """of the case: the site, 16 chemicals and 4 receptors, those that the deck lacks empty"""
+def checksum(lines, chemicals, receptors, most):
+    """of the case: the site, 16 chemicals and the most receptors, 4 or a composite's 8, those that the deck lacks empty"""
     total = mixed_record(0, lines[:2])
-    for first, count, room in ((2, chemicals, 16), (2 + 4 * chemicals, receptors, 4)):
+    for first, count, room in ((2, chemicals, 16), (2 + 4 * chemicals, receptors, most)):
         for i in range(room):
             total = mixed_record(total, lines[first + 4 * i:first + 4 * i + 4] if i < count else [])
     return total
 
 
-def answer(deck):
-    """the five numbers that are stored before a deck"""
+def told(deck, how):
+    """number, line and field, or 0, chemicals and receptors"""
     try:
-        _, chemicals, receptors = oracle.read_deck(deck, LEVEL)
+        _, chemicals, receptors = oracle.read_deck(deck, *how)
+        return 0, len(chemicals), len(receptors)
     except oracle.Refusal as refusal:
-        return (len(deck), *refusal.answer, checksum([], 0, 0))
-    lines = [deck[i:i + 81] for i in range(0, len(deck), 81)]
-    counts = len(chemicals), len(receptors)
-    return (len(deck), 0, *counts, checksum(lines, *counts))
+        return refusal.answer
+
+
+def answer(deck, how=ORDINARY):
+    """the five numbers that are stored before a deck"""
+    numbers = told(deck, how)
+    assert how == COMPOSITE or numbers == told(deck, (2, False)), "P2 changes an ordinary deck's answer"
+    lines = [deck[i:i + 81] for i in range(0, len(deck), 81)] if numbers[0] == 0 else []
+    return (len(deck), *numbers, checksum(lines, *(numbers[1:] if lines else (0, 0)), oracle.Rules(*how).receptors))
 
 
 # ---- the decks from before
@@ -193,33 +209,131 @@ def around_a_stop():
     yield with_fields(long, ("S", "Zs", "0000000000.0"))
 
 
-def generated(rng):
+def generated(rng, how=ORDINARY):
     for i in range(28):
-        deck = generator.deck(rng, LEVEL)
+        deck = generator.deck(rng, *how)
         while not many_digits(deck) or len(deck) > 2500:
-            deck = generator.deck(rng, LEVEL)
-        yield generator.damage(rng, deck, LEVEL) if i % 2 else deck
+            deck = generator.deck(rng, *how)
+        yield generator.damage(rng, deck, *how) if i % 2 else deck
+
+
+# ---- P2
+
+def with_id(deck, line, text):
+    return deck[:81 * line - 79] + text + deck[81 * line - 73:]
+
+
+def stages(count, **last):
+    """the fields that tell the stages of a composite apart; the last one's as given"""
+    each = [{"BW": f"{8 * i}.{i}", "ED": f"{i}.5", "EFs": f"{200 + i}", "years": f"{9 * i}.25"} for i in range(1, count + 1)]
+    each[-1].update(last)
+    return each
+
+
+def composite(count, chemicals=1, **last):
+    return oracle.example(*COMPOSITE, chems=[{}] * chemicals, recs=stages(count, **last))
+
+
+def no_composites():
+    """ordinary decks that a composite call would take otherwise, or that are near to such"""
+    example, two = oracle.example(LEVEL), oracle.example(LEVEL, recs=[{}, {}])
+    for field in (4, 5, 6):
+        for text in ("1", "0", "-", "1E5", "0.1234567891"):
+            yield put(example, 10, field, text)
+    yield put(two, 14, 5, "56")
+    for chemicals, receptors in ((1, 5), (12, 5), (1, 8), (1, 9)):
+        yield oracle.example(LEVEL, chems=[{}] * chemicals, recs=[{}] * receptors)
+    for count, chemicals in ((1, 1), (2, 2), (4, 16), (5, 1), (8, 1), (5, 16), (8, 16)):
+        yield composite(count, chemicals)
+    longest = oracle.example(LEVEL, chems=[{}] * 16, recs=[{}] * 4)
+    yield longest + longest[-81:]
+    yield longest[:-81] + longest[-405:]
+
+
+YEARS = (["1", "0.5", "75", "1E-20", "1E+09", "1.000000E-20", "1000000000.0", "0.0000000001", "000000000056", "12.345678901"],
+         ["", "-", "0", "1E-21", "1.1E+09", "1E5", "0.0000000000", "9.999999E-21", "1000000000.1", "56.", "-1", "1 2"])
+
+
+def some_years():
+    for i, text in enumerate(YEARS[0] + YEARS[1]):
+        yield composite(1, years=text)
+        yield put(composite(5), 10 + 4 * (i % 5), 5, text)
+
+
+def in_every_stage_slot(rng):
+    for i, name in enumerate(oracle.REC):
+        good, bad = TOPS[largest(name)]
+        yield composite(1 + i % 8, **{name: within(rng, largest(name), 10 + i % 3)})
+        yield composite(8 - i % 8, **{name: bad[i % len(bad)]})
+        if name in ("BW", "ED", "ATc"):
+            for text in ("", "-", "0", ZEROS[i], "1E-21", NO_NUMBERS[i]):
+                yield composite(2, **{name: text})
+
+
+def stopped_composites():
+    five, longest = composite(5), composite(8, 16)
+    for field in (4, 6):
+        for text in ("1", "0", "-", "x", "123456789012"):
+            yield put(five, 10 + 4 * (field % 5), field, text)
+    for deck in (b"", five[:-1], five + b" ", longest, longest + longest[-81:], longest[:-81], longest[:-1], longest + b"\n"):
+        yield deck
+    for count, chemicals in ((9, 1), (9, 15), (5, 17)):
+        yield composite(count, chemicals)
+    for line, text in ((7, b"     0"), (8, b"     9"), (11, b"     1"), (15, b"     2"), (15, b"999999"), (23, b"    05"),
+                       (26, b"      ")):
+        yield with_id(five, line, text)
+    lines = [five[i:i + 81] for i in range(0, len(five), 81)]
+    for order in (range(26), [*range(6), 26], [*range(10), *range(9, 27)], [*range(9), *range(10, 27)], [*range(27), 26],
+                  [*range(10), *range(2, 27)]):
+        yield b"".join(lines[i] for i in order)
+    # the years beside another field that stops the deck
+    for changes in (((10, 4, "1"), (10, 5, "0")), ((10, 5, "0"), (10, 6, "x")), ((10, 3, "367"), (10, 5, "")),
+                    ((10, 5, "x"), (11, 1, "0")), ((14, 5, ""), (7, 2, "-"))):
+        deck = five
+        for change in changes:
+            deck = put(deck, *change)
+        yield deck
+    yield put(five, 10, 5, "0")[:810] + b"R5" + five[812:]
+    yield put(five, 10, 5, "0")[:809] + b" " + five[810:]
+    for receptors in ([{}], stages(2), stages(4), stages(8)):
+        yield oracle.example(LEVEL, recs=receptors)
+
+
+def composites(rng):
+    for count in range(1, 9):
+        yield composite(count, 1 + count % 3)
+    for decks in (some_years(), in_every_stage_slot(rng), stopped_composites(), generated(rng, COMPOSITE)):
+        yield from decks
 
 
 def made():
     rng = random.Random(SEED)
-    for decks in (in_every_slot(rng), at_the_ends(), misplaced(), around_a_stop(), generated(rng)):
+    for decks in (in_every_slot(rng), at_the_ends(), misplaced(), around_a_stop(), generated(rng), no_composites()):
         yield from decks
 
 
+def write(name, decks, how):
+    """the file of these decks; gives what a trial of them prints"""
+    data, stopped = b"", 0
+    for deck in decks:
+        numbers = answer(deck, how)
+        stopped += numbers[1] != 0
+        data += "".join(f"{n:6}" for n in numbers).encode() + b"\n" + deck
+    (HERE / "data" / name).write_bytes(data)
+    print(f"{name}: {len(decks)} decks, {stopped} stopped, {len(data)} bytes")
+    return f"{len(decks)} decks, {stopped} of them stopped, 0 answered otherwise\n"
+
+
 def main():
-    changed, data, stopped, count = 0, b"", 0, 0
+    changed = 0
     old = list(stored())
     for head, deck in old:
         assert answer(deck) == head or many_digits(deck), "a deck of nine digits at most has another answer"
         changed += answer(deck) != head
-    for deck in [deck for _, deck in old] + list(made()):
-        numbers = answer(deck)
-        count, stopped = count + 1, stopped + (numbers[1] != 0)
-        data += "".join(f"{n:6}" for n in numbers).encode() + b"\n" + deck
-    (HERE / "data/decks").write_bytes(data)
-    (HERE / "stdout").write_text(f"{count} decks, {stopped} of them stopped, 0 answered otherwise\n")
-    print(f"{count} decks, {stopped} stopped, {len(data)} bytes; {changed} of the first {OLD} changed their answer")
+    print(f"{changed} of the first {OLD} changed their answer")
+    printed_lines = [write("decks", [deck for _, deck in old] + list(made()), ORDINARY),
+                     write("composites", list(composites(random.Random(SEED))), COMPOSITE)]
+    (HERE / "stdout").write_text("".join(printed_lines))
 
 
 main()

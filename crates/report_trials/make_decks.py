@@ -1,8 +1,12 @@
 #!/usr/bin/env python3
-"""make_decks.py ORACLE SEED FILE: stored decks with the answers of the independent reading in the folder ORACLE.
+"""make_decks.py ORACLE SEED FOLDER: stored decks with the answers of the independent reading in the folder ORACLE.
 
-The answers are those of level 1: document 01 with request P1. The decks of document 01 are still chosen by their answers at level 0, so they
-stay the ones they were; a deck whose numbers have at most nine digits must have the same answer at both levels, else the script stops.
+Writes FOLDER/decks, FOLDER/composites, and FOLDER/stdout, which is what a trial of the one and then of the other prints.
+
+The answers of FOLDER/decks are those of level 1: document 01 with request P1. The decks of document 01 are still chosen by their answers at
+level 0, so they stay the ones they were; a deck whose numbers have at most nine digits must have the same answer at both levels, else the script
+stops. Request P2 changes no ordinary deck's answer: each is held to the one at level 2 too. FOLDER/composites has the composite call's answers,
+of level 2.
 """
 import collections
 import random
@@ -16,17 +20,24 @@ SEED = int(sys.argv[2])
 rng = random.Random(SEED)
 LINE = 95
 LEVEL = 1
-chosen_at = 0           # the level whose answers choose the decks
-stored, kinds, have = [], collections.Counter(), set()
+ORDINARY, COMPOSITE = (2, False), (2, True)
+call = (0, False)       # the level and whether it is the composite call, whose answers choose the decks
 short_decks, long_decks, moved = collections.Counter(), collections.Counter(), collections.Counter()
-numbers = collections.Counter()
-by_kind = collections.defaultdict(collections.Counter)
 
 
-def answer(deck, room, level=None):
+class File:
+    """the decks of a file, and of each kind how many have which number"""
+    def __init__(self):
+        self.stored, self.have, self.by_kind = [], set(), collections.defaultdict(collections.Counter)
+
+
+files = {"decks": File(), "composites": File()}
+
+
+def answer(deck, room, how=None):
     """(number, line, field), report"""
     try:
-        r = report(deck, room, chosen_at if level is None else level)
+        r = report(deck, room, *(how or call))
         return (0, len(r), 0), r
     except Refusal as e:
         return e.answer, b""
@@ -35,10 +46,10 @@ def answer(deck, room, level=None):
 def need(deck):
     """bytes of its report, or None where the deck itself is refused"""
     try:
-        site, chems, recs = oracle.read_deck(deck, chosen_at)
+        site, chems, recs = oracle.read_deck(deck, *call)
     except Refusal:
         return None
-    return LINE * len(recs) * (6 * len(chems) + 1)
+    return LINE * (1 if call == COMPOSITE else len(recs)) * (6 * len(chems) + 1)
 
 
 def any_room(deck):
@@ -55,31 +66,31 @@ def most_digits(deck):
 
 
 def held(deck, room):
-    """the answer at level 1, which is the one at level 0 where no number has more than nine digits"""
-    before, now = answer(deck, room, 0), answer(deck, room, LEVEL)
+    """an ordinary deck's answer at level 1, which is the one at level 2, and at level 0 where no number has more than nine digits"""
+    before, now = answer(deck, room, (0, False)), answer(deck, room, (LEVEL, False))
+    assert now == answer(deck, room, ORDINARY)
     if most_digits(deck) <= 9:
         assert before == now
-        short_decks[chosen_at] += 1
+        short_decks[call] += 1
     else:
-        long_decks[chosen_at] += 1
-        moved[chosen_at, before[0][0], now[0][0]] += before != now
+        long_decks[call] += 1
+        moved[call, before[0][0], now[0][0]] += before != now
     return now
 
 
 def put(kind, deck, room=None, want=None):
     if room is None:
         room = any_room(deck)
-    if (deck, room) in have:
+    file = files["composites" if call == COMPOSITE else "decks"]
+    if (deck, room) in file.have:
         return False
     if want is not None and answer(deck, room)[0][0] not in want:
         return False
-    told, rep = held(deck, room)
+    told, rep = answer(deck, room) if call == COMPOSITE else held(deck, room)
     assert len(deck) <= 8192 and room <= 40000, (len(deck), room)
-    have.add((deck, room))
-    stored.append("".join(f"{x:>6}" for x in (len(deck), room) + told).encode() + b"\n" + deck + rep)
-    kinds[kind] += 1
-    numbers[told[0]] += 1
-    by_kind[kind][told[0]] += 1
+    file.have.add((deck, room))
+    file.stored.append("".join(f"{x:>6}" for x in (len(deck), room) + told).encode() + b"\n" + deck + rep)
+    file.by_kind[kind][told[0]] += 1
     return True
 
 
@@ -126,10 +137,10 @@ def top(name):
     return "1" if name in ATMOST1 else "366" if name in ATMOST366 else "1E+09"
 
 
-def realistic(nc, nr, how=decks.typical):
-    s = (rng.randint(1, 999999), decks.record(rng, SITE, how))
-    cs = [(i, decks.record(rng, CHEM, how)) for i in decks.ids(rng, nc)]
-    rs = [(i, decks.record(rng, REC, how)) for i in decks.ids(rng, nr)]
+def realistic(nc, nr, receptor=REC):
+    s = (rng.randint(1, 999999), decks.record(rng, SITE, decks.typical))
+    cs = [(i, decks.record(rng, CHEM, decks.typical)) for i in decks.ids(rng, nc)]
+    rs = [(i, decks.record(rng, receptor, decks.typical)) for i in decks.ids(rng, nr)]
     return s, cs, rs
 
 
@@ -437,7 +448,7 @@ fill(K, 8, lambda: decks.damage(rng, some_deck(), 0), {0})
 
 
 # ---- request P1: as many digits as twelve columns hold ----
-chosen_at = LEVEL
+call = (LEVEL, False)
 RECORD = {name: kind for kind, names in NAMES for name in names}
 PLAIN = {**dict(zip(SITE, S0)), **dict(zip(CHEM, C0)), **dict(zip(REC, R0)), "Q": "1000"}     # all nine figures are printed
 
@@ -570,11 +581,12 @@ OTHER_WAYS = (lambda A, one, f: (oracle.of(one - f, False),) * 2, lambda A, one,
               lambda A, one, f: oracle.one_minus(oracle.around(f)))
 
 
-def otherwise(deck, way):
-    """the report with 1 - Fv taken another way"""
-    kept, oracle.Pairs.less = oracle.Pairs.less, way
+def otherwise(deck, way, owner=oracle.Pairs, name="less"):
+    """the report with 1 - Fv, or what else is named, taken another way"""
+    kept = getattr(owner, name)
+    setattr(owner, name, way)
     told = answer(deck, None)[1]
-    oracle.Pairs.less = kept
+    setattr(owner, name, kept)
     return told
 
 
@@ -673,15 +685,401 @@ K = "P1: damaged decks"
 for number, count in ((0, 3), (31, 4), (32, 2), (33, 4), (22, 1), (21, 1)):
     fill(K, count, lambda: decks.damage(rng, long_deck(1, 1), LEVEL), {number})
 
-data = b"".join(stored)
-open(sys.argv[3], "wb").write(data)
-acc = numbers[0]
-print(len(stored), "decks", len(data), "bytes; accepted", acc, "refused", len(stored) - acc)
-print(sorted(numbers.items()))
-for k in by_kind:
-    print(f"{k:56} {kinds[k]:4}", dict(sorted(by_kind[k].items())))
-for level, whose in enumerate(("document 01's decks", "decks for P1")):
-    print(f"{whose}: at most nine digits {short_decks[level]}, all as at level 0; more digits {long_decks[level]}, of these changed:",
-          {f"{a} to {b}": n for (l, a, b), n in sorted(moved.items()) if l == level and n})
-with open(sys.argv[3] + ".out", "w") as f:
-    f.write(f"decks {len(stored)}\naccepted {acc}\nrefused {len(stored) - acc}\ndiffering 0\n")
+# ---- request P2: composite receptors, each made of one to eight stages ----
+STAGE = oracle.Rules(*COMPOSITE).slots["R"]
+PAIRS = oracle.Pairs()
+TABLE = {"BW": "8.2 16.5 32.9 59.7 70.7", "ED": "0.5 4.5 7 8 56", "IRinh": "2.1 9.3 14.5 15.8 15.8", "IRsoil": "30 200 50 50 50",
+         "SAb": "2110 3470 5700 8520 9660", "SAh": "320 430 590 800 890", "IRag": "0 0.0127 0.025333 0.019104 0.022624",
+         "IRbg": "0 0.0038 0.007567 0.008358 0.009898", "years": "0.5 4.5 7 8 56"}
+ALIKE = dict(ATc="27375", ETinh="1", EFinh="365", ETsoil="1", EFs="214", EFw="151", SAFb="0.01", SAFh="0.1", ETderm="1", Fag="0.233", Fbg="0.106",
+             WP="1", EFp="365")
+work = oracle.composite_person
+
+
+def stage(years="1", **c):
+    return with_(R0 + ["", years, ""], STAGE, **c)
+
+
+FIVE = [stage(**ALIKE, **{k: v.split()[i] for k, v in TABLE.items()}) for i in range(5)]    # document 002's: crates/tally_composite says which are ours
+
+
+def each(stages, **c):
+    """these fields in every stage"""
+    return [with_(f, STAGE, **c) for f in stages]
+
+
+def composite(stages, s=None, cs=None, first=1):
+    assert all(len(t) <= 12 for f in stages for t in f)
+    return deck_text((1, s or S0), list(enumerate(cs or [C(Q="1000")], 1)), list(enumerate(stages, first)))
+
+
+def real_composite(nc, nr):
+    return deck_text(*realistic(nc, nr, STAGE))
+
+
+def accepted(make):
+    while True:
+        deck = make()
+        if answer(deck, None)[0][0] == 0:
+            return deck
+
+
+def set_field(deck, line, field, text):
+    at = 81 * (line - 1) + 8 + 12 * (field - 1)
+    return deck[:at] + text.rjust(12).encode() + deck[at + 12:]
+
+
+def digits(v, count):
+    """v in so many digits, its whole ones at least"""
+    return f"{v:.{max(count - len(str(int(v))), 0)}f}"
+
+
+# one stage alone is the ordinary receptor with ED its years and ATc 365 times them, where nine figures hold each years × value
+def alone(figures):
+    """a composite's deck of one stage, years and values of so many figures, and that receptor's ordinary deck"""
+    while True:
+        some = {k: digits(min(max(lively(k), .001), 365), figures) for k in REC if k not in ("ED", "ATc")}
+        years = digits(rng.uniform(1, 76), figures)
+        fields = stage(years, ED="70", ATc="9", **{k: v for k, v in some.items() if value_of(v)})
+        plain = with_(fields[:len(REC)], REC, ED=years, ATc=decks.exactly(365 * value_of(years)))
+        pair = composite([fields], None, [C(Q="10")]), one(None, C(Q="10"), plain)
+        if answer(pair[0], None, COMPOSITE)[0][0] == 0:
+            return pair
+
+
+singles = {figures: [alone(figures) for _ in range(100)] for figures in (4, 5, 6, 7)}
+unlike = {figures: [(a, b) for a, b in pairs if answer(a, None, COMPOSITE) != answer(b, None, ORDINARY)] for figures, pairs in singles.items()}
+assert not unlike[4]
+print("one stage alone, of 100 with so many figures how many have not the ordinary report:", {k: len(v) for k, v in unlike.items()})
+
+# ordinary decks, whose slot 23 stays blank
+call = ORDINARY
+most = real_composite(16, 8)
+K = "P2: a slot past EFp filled"
+for field, t in ((4, "1"), (5, "1"), (5, "0"), (5, "1E-20"), (5, "1E+09"), (5, "1.1E+09"), (5, "-"), (5, "75.000000001"), (6, "1")):
+    assert put(K, set_field(EX, 10, field, t), None, {32})
+assert put(K, set_field(EX, 10, 5, "1E5"), None, {31})
+assert put(K, set_field(deck_text((1, S0), [(1, C0), (2, C0)], [(1, R0), (2, R0)]), 18, 5, "56"), None, {32})
+K = "P2: five receptors and more"
+for nc, nr in ((1, 5), (12, 5), (1, 8), (1, 9)):
+    assert put(K, deck_text((1, S0), [(i, C0) for i in range(1, nc + 1)], [(i, R0) for i in range(4, nr + 4)]), None, {21})
+K = "P2: a composite's deck"
+for nc, nr in ((1, 1), (2, 1), (1, 2), (3, 4), (16, 4), (1, 5), (1, 8)):
+    assert put(K, real_composite(nc, nr), None, {32})
+K = "P2: more than 6,723 bytes"
+for d in (big[1] + big[1][-81:], big[1][:-81] + big[1][-405:], real_composite(16, 5), most):
+    assert len(d) in (6804, 7047, 8019) and put(K, d, None, {11})
+K = "P2: the receptor that a composite of one stage equals"
+for _, deck in singles[4][:6]:
+    assert put(K, deck, None, {0})
+
+# composites
+call = COMPOSITE
+K = "document 01's example, 1 as its years"
+EX2 = oracle.example(*COMPOSITE)
+assert need(EX2) == n == 665
+for room in (0, 1, n - 95, n - 1, n, n + 1, n + 95, n + 700):
+    assert put(K, EX2, room)
+
+K = "document 002's five stages"
+for s, cs in ((None, None), (XS, [XC]), (None, [C(Q="1000"), with_(XC, CHEM, Q="10"), C(Fv="1")]),
+              (S(FRsnow="0.61"), [C(AForal="1", AFderm="0.03", RfDo="0.0003", CSFo="1.5")])):
+    assert put(K, composite(FIVE, s, cs), None, {0})
+assert put(K, composite(FIVE, first=999995), None, {0})
+assert put(K, composite(FIVE[:2]), None, {0})
+
+K = "realistic, one to eight stages"
+for nr in range(1, 9):
+    for nc in (1, 2, 3):
+        fill(K, 1, lambda: real_composite(nc, nr), {0})
+
+
+# each slot in turn: the stages differ in it alone, and the report tells its field from those that other ways give
+def weighed(ys, vs): return [PAIRS.mul(PAIRS.num(y), PAIRS.num(v)) for y, v in zip(ys, vs)]
+def added(pairs): return oracle.sums(PAIRS, pairs)
+def pairs_of(vs): return [PAIRS.num(v) for v in vs]
+def averaged(ys, vs): return PAIRS.div(added(weighed(ys, vs)), added(pairs_of(ys)))
+def shares(ys): return [PAIRS.div(y, added(pairs_of(ys))) for y in pairs_of(ys)]
+
+
+SLOT_WAYS = {
+    "the first stage's": lambda ys, vs: PAIRS.num(vs[0]),
+    "the last stage's": lambda ys, vs: PAIRS.num(vs[-1]),
+    "the largest": lambda ys, vs: PAIRS.num(max(vs)),
+    "the mean without years": lambda ys, vs: PAIRS.div(added(pairs_of(vs)), PAIRS.num(len(vs))),
+    "each stage's share of the years first": lambda ys, vs: added([PAIRS.mul(y, v) for y, v in zip(shares(ys), pairs_of(vs))]),
+    "added from the last stage": lambda ys, vs: PAIRS.div(added(weighed(ys, vs)[::-1]), added(pairs_of(ys))),
+    "rounded once": lambda ys, vs: oracle.around(sum(y * v for y, v in zip(ys, vs)) / sum(ys)),
+    "low by low": lambda ys, vs: tuple(map(oracle.divw, added(weighed(ys, vs)), added(pairs_of(ys)), (False, True))),
+}
+
+
+def worked_otherwise(deck, name, way):
+    """the report with one field of the composite got another way, from the years and the stages' values"""
+    field = lambda recs: way([r["years"] for r in recs], [r[name] for r in recs])
+    return otherwise(deck, lambda A, recs: dict(work(A, recs), **{name: field(recs)}), oracle, "composite_person")
+
+
+def some_value(name):
+    if name in ATMOST366:
+        return rng.uniform(100, 365)
+    return rng.uniform(.1, 1) if name in ATMOST1 else float(PLAIN[name]) * rng.uniform(.3, 3)
+
+
+def some_stages(count, *names):
+    """the plain receptor but for the years and these slots"""
+    return [stage(digits(rng.uniform(.5, 60), rng.randint(9, 11)), **{k: digits(some_value(k), rng.randint(6, 9)) for k in names}) for _ in range(count)]
+
+
+def slot_in_turn(name):
+    """a deck that tells this slot's field from as many other ways as can be, and the ways that it does not tell"""
+    kept = None, list(SLOT_WAYS)
+    for _ in range(200):
+        deck = composite(some_stages(rng.choice([3, 4, 5, 8]), name))
+        told, rep = answer(deck, None)
+        left = [w for w, way in SLOT_WAYS.items() if told[0] or rep == worked_otherwise(deck, name, way)]
+        if len(left) < len(kept[1]):
+            kept = deck, left
+        if not left:
+            break
+    return kept
+
+
+K = "each slot in turn, its values unlike"
+never_told = collections.Counter()
+for name in REC:
+    if name not in ("ED", "ATc"):
+        deck, left = slot_in_turn(name)
+        never_told.update(left)
+        assert put(K, deck, None, {0})
+print("other ways to work a slot's field that a deck does not tell:", dict(never_told))
+
+# ED and ATc of the stages are not used: pairs of decks that differ in them alone
+K = "ED and ATc unlike, the same report"
+TIMES = ["1E-20", "1E+09", "75", "0.5", "27375", "123.45678901", "000000000001", "1000000000.0", "9.99999E-20"]
+for stages in [FIVE] + [some_stages(k, "BW", "IRag") for k in (1, 2, 3, 5, 8)]:
+    first = second = composite(stages)
+    if_used = lambda deck: [worked_otherwise(deck, k, way) for k in ("ED", "ATc") for way in (SLOT_WAYS["the first stage's"], averaged)]
+    while first == second or answer(second, None)[1] in if_used(second):
+        second = composite([with_(f, STAGE, ED=rng.choice(TIMES), ATc=rng.choice(TIMES)) for f in stages])
+    assert answer(first, None) == answer(second, None)
+    assert put(K, first, None, {0}) and put(K, second, None, {0})
+
+# the years
+EIGHT = FIVE + each(FIVE[2:], BW="77.7")
+for K, lists in {
+    "years equal": (["1"] * 5, ["1"] * 8, ["0.1"] * 8, ["0.333333333"] * 3, ["1E-20"] * 8, ["1E+09"] * 2, ["1E+09"] * 8),
+    "years of 1E-20 beside 1E+9, and others far apart": (
+        ["1E-20", "1E+09"], ["1E+09", "1E-20"], ["1E-20", "1E+09", "1E-20"], ["1E-20", "1E+09"] * 4, ["1E+09"] + ["1E-20"] * 7, ["1E-20"] * 7 + ["1E+09"],
+        ["1E-20", "1"], ["1", "1E-20"], ["1E-09", "1", "1E-09"], ["1E-12", "1E+06", "56"], ["1E-20"], ["1E+09"]),
+    "years that add to more than 1E+9": (
+        ["1E+09", "1"], ["999999999"] * 2, ["999999999", "1", "1E-20"], ["1000000000.0", "0000000000.1"], ["999999999.5"] * 2,
+        ["123456789", "987654321"] * 4),
+    "years of ten to twelve digits": (
+        ["0.1234567891", "4.5678912345", "7.0000000001", "8.9999999999", "56.123456789"], ["12345678.901", "0.0000000001"],
+        ["000000000056", "0000000004.5"], ["9.9999999999", "99.999999999"], ["33.333333333"] * 3, ["0.9999999999", "0.0000000001"], ["0.3333333333"],
+        ["999999999.99"], ["0.0000000005"] * 8, ["76.000000000"]),
+}.items():
+    for years in lists:
+        assert put(K, composite([with_(f, STAGE, years=y) for f, y in zip(EIGHT, years)]), None, {0})
+
+K = "values and years of ten to twelve digits"
+long_record = lambda names: ["" if k is None else long(lively(k)) for k in names]
+for nr in (1, 2, 3, 4, 5, 6, 7, 8):
+    fill(K, 1, lambda: deck_text((1, long_record(SITE)), [(1, long_record(CHEM))], [(i, long_record(STAGE)) for i in range(1, nr + 1)]), {0})
+
+K = "fields at the ends of their ranges"
+ends_of_stage = {True: ["" if k is None else top(k) for k in STAGE], False: ["" if k is None else "1E-20" for k in STAGE]}
+for highs in ((False,), (True,), (False, True), (True, False), (False, True) * 4, (False,) * 8, (True,) * 8):
+    assert put(K, composite([ends_of_stage[h] for h in highs], None, [C(Q="1E-06")]), None, {0})
+
+# 0 in one stage, and in all
+for K, zeros in (("0 in a slot of one stage", 1), ("0 in a slot of all stages", 5)):
+    for name in REC:
+        if name not in NONZERO:
+            stages = each(FIVE, IRag="0.02", IRbg="0.01")
+            for i in rng.sample(range(5), zeros):
+                stages[i] = with_(stages[i], STAGE, **{name: rng.choice(NOUGHT + ["0.0000000000"])})
+            assert put(K, composite(stages), None, {0})
+
+# at most 1, and at most 366, is asked of each stage and not of the composite
+K = "shares of 1 and 366 days in all stages"
+FULL = {k: top(k) for k in REC if k in ATMOST1 | ATMOST366}
+for above, lists in {
+    True: (["0.123456789", "123.456789"], ["0.123456789", "1234.56789", "56.7891234"], ["0.3333333333"], ["999999999.5", "0.5"], ["1E+09", "1"], ["1E-20", "1"],
+           ["7.77777777", "88.8888888", "99999.9999", "0.11111111"], ["12.345678901"] * 8, ["1.0000000001"] * 5),
+    False: (["56"], ["0.5", "4.5", "7", "8", "56"], ["1E+09"] * 8),
+}.items():
+    for years in lists:
+        deck = composite(each(map(stage, years), **FULL))
+        person = work(PAIRS, oracle.read_deck(deck, *COMPOSITE)[2])
+        for k, t in FULL.items():
+            low, high = map(oracle.value, person[k])
+            assert low < int(t) < high if above else low == int(t) == high
+        assert put(K, deck, None, {0})
+
+K = "one stage alone, the ordinary report"
+for deck, _ in singles[4][:6]:
+    assert put(K, deck, None, {0})
+K = "one stage alone, not the ordinary report"
+for years in ("7.7777777", "1.2345678"):
+    plain = oracle.example(*ORDINARY, recs=[{"ED": years, "ATc": decks.exactly(365 * value_of(years))}])
+    assert put(K, oracle.example(*COMPOSITE, recs=[{"years": years}])) and files["composites"].stored[-1][-665:] != answer(plain, None, ORDINARY)[1]
+for deck, _ in unlike[5][:2] + unlike[7][:2]:
+    assert put(K, deck, None, {0})
+
+# sums are in deck order, and the id is the first one's
+K = "stages in another order"
+figures_of = lambda deck: [l[6:] for l in answer(deck, None)[1].splitlines()]
+for stages in [FIVE] + [some_stages(k, "BW", "IRinh", "IRsoil") for k in (2, 3, 5, 8)]:
+    base = composite(stages, first=11)
+    told = stages is not FIVE and len(stages) > 2       # where no sum is rounded, or there are two terms, the order is not seen
+    while True:
+        turned = composite(rng.sample(stages, len(stages)), first=7)
+        if turned[81 * 6 + 8:] != base[81 * 6 + 8:] and (figures_of(turned) != figures_of(base)) == told:
+            break
+    assert put(K, base, None, {0}) and put(K, turned, None, {0})
+
+K = "reference values missing"
+for mask in (1, 2, 4, 8, 3, 12, 15):
+    assert put(K, composite(FIVE, None, [C(**{k: "-" for i, k in enumerate(REFS) if mask >> i & 1}), C0][:1 + (mask < 4)]), None, {0})
+
+K = "16 chemicals and 8 stages"
+for rooms in ((9215, 9214), (9216,), (9215,), (9215 + 877, 9214)):
+    d = accepted(lambda: real_composite(16, 8))
+    for room in rooms:
+        assert len(d) == 8019 and put(K, d, room, {0 if room >= 9215 else 51})
+K = "buffers: a byte short, exact, longer"
+for nc, nr in ((1, 1), (1, 8), (2, 5), (5, 8), (16, 1)):
+    d, m = accepted(lambda: real_composite(nc, nr)), 95 * (6 * nc + 1)
+    for room in (m - 1, m, m + 1) if nr < 8 else (m - 1, m, m * nr - 1):
+        assert put(K, d, room, {0 if room >= m else 51})
+
+K = "x near 64"
+for tD, ksg, ksv in (("1", "64", "0"), ("1", "63.999999999", "0"), ("1", "64.000000001", "0"), ("1", "64", "1E-20"), ("30", "2.13333333", "0"),
+                     ("30", "2.13333334", "0")):
+    assert put(K, composite(FIVE, S(tD=tD, **ONLY), [C(ksg=ksg, ksv=ksv)]), None, {0, 41})
+for place, count in ((2, 3), (16, 16)):
+    cs = [C(ksg="65" if i >= place else "63", ksv="0") for i in range(1, count + 1)]
+    assert put(K, composite(FIVE, S(tD="1", **ONLY), cs), None, {41})
+
+# a quotient at 10,000 and a risk at 1, and neighbouring values on both sides of the cap
+NAMED = ("IRinh", "IRsoil", "IRsoil", "SAh", "IRag", "IRbg")
+for p in range(1, 7):
+    for field, unit in (("RfD", "1E-03"), ("CSF", "1")):
+        refs = {**{k: "-" for k in REFS}, "RCF": "1E+04"}
+        ref = field + ("i" if p == 1 else "o")
+        K = "figures near their caps, by a reference value"
+        make = lambda t: composite(each(FIVE, **ALONE[p]), None, [C(**{**refs, "Q": "1000", ref: t})])
+        for k, number in zip(adjacent(make, 0, 90_000_000 * 29), (42, 0) if field == "RfD" else (0, 42)):
+            assert put(K, make(nine(k)), None, {number})
+        if (p % 2 == 1) == (field == "RfD"):
+            K = "figures near their caps, by a field of one stage"
+            for q in [f"{m}E{e:+03d}" for e in range(-9, 9) for m in (1, 3)]:
+                make = lambda t: composite([with_(f, STAGE, **{**ALONE[p], "SAb": "0", NAMED[p - 1]: u}) for f, u in zip(FIVE, ("1", "1", t))],
+                                           None, [C(**{**refs, "Q": q, "Dydp": "1E+04", ref: unit})])
+                if len({answer(make(eleven(k)), None)[0][0] for k in (0, MOST)}) == 2:
+                    break
+            for k, number in zip(adjacent(make, 0, MOST, eleven), (0, 42)):
+                assert put(K, make(eleven(k)), None, {number})
+K = "figures at their caps"
+XR1, XR3 = (with_(XR + ["", y, ""], STAGE, ED="9", ATc="8") for y in ("1", "3"))
+for stages in ([XR1], [XR1, XR3, XR3]):
+    for q in ("20000", "20000.000001", "19999.999999"):
+        assert put(K, composite(stages, XS, [with_(XC, CHEM, Q=q, CSFo="-")]), None, {0, 42})
+    for csf in ("200", "200.00000001", "199.99999999"):
+        assert put(K, composite(stages, XS, [with_(XC, CHEM, Q="10", CSFo="-", CSFi=csf)]), None, {0, 42})
+K = "42 of the composite alone, or of a stage alone"
+apart = [with_(FIVE[3], STAGE, IRinh="1E+08", ETinh="0"), with_(FIVE[4], STAGE, IRinh="0", ETinh="1")]
+assert put(K, composite(apart), None, {42}) and all(answer(composite([f]), None)[0][0] == 0 for f in apart)
+for i in (0, 2, 4):
+    light = [with_(f, STAGE, BW="1E-12") if k == i else f for k, f in enumerate(FIVE)]
+    assert put(K, composite(light), None, {0}) and answer(composite([light[i]]), None)[0][0] == 42
+
+
+def later_cap():
+    """the first line above a cap is a later chemical's"""
+    while True:
+        s, cs, rs = realistic(rng.choice([2, 3, 16]), rng.randint(1, 8), STAGE)
+        rng.choice(cs)[1][rng.choice([20, 21])] = "1E+09"
+        deck = deck_text(s, cs, rs)
+        told = answer(deck, None)[0]
+        if told[0] == 42 and told[1] > 6:
+            return deck
+
+
+fill("42 of a later line", 5, later_cap)
+
+# order
+K = "two conditions at once"
+fast, hot = C(ksg="65", ksv="0"), C(CSFo="1E+09", Q="1E+09")
+for cs, room, number in (([hot], 664, 51), ([hot], 665, 42), ([fast], 664, 51), ([hot, fast], 1235, 41), ([hot, fast], 1234, 51), ([fast, hot], 0, 51)):
+    assert put(K, composite(FIVE, S(tD="1", **ONLY), cs), room, {number})
+whole = composite(FIVE)
+for room, number, *changes in ((0, 32, (10, 4, "1"), (10, 5, "0"), (10, 6, "x")), (0, 33, (10, 5, "0"), (10, 6, "x")), (0, 31, (10, 5, "x"), (14, 4, "1")),
+                               (664, 32, (14, 5, ""), (26, 5, "0")), (664, 33, (11, 2, "0"), (14, 5, "")), (0, 32, (7, 3, ""), (10, 5, "")),
+                               (665, 31, (10, 6, "x"), (11, 1, "0"))):
+    deck = whole
+    for change in changes:
+        deck = set_field(deck, *change)
+    assert put(K, deck, room, {number})
+d = [whole[i:i + 81] for i in range(0, len(whole), 81)]
+assert put(K, j(d[:9], d[9][:80], b" ", d[10:13], b"R5", d[13][2:], d[14:]), 0, {12})
+assert put(K, j(d[:22], b"R5     x", d[22][8:], d[23:]), 0, {21})
+assert put(K, most + b"\t" * 81, 0, {11})
+
+# refusals
+K = "lengths"
+for deck in (b"", whole[:-1], whole + b" ", whole[:80], most + most[-81:], most + b"\n", most[:-1], (EX2 * 10)[:8100]):
+    assert put(K, deck, None, {11})
+assert put(K, most[:-81], None, {21})
+K = "a ninth stage, a 17th chemical, lines that cannot come next"
+for nc, nr in ((1, 9), (15, 9), (17, 5)):
+    assert put(K, composite((FIVE + FIVE)[:nr], None, [C0] * nc), None, {21})
+for deck in (j(d[:26]), j(d[:6], d[26:]), j(d[:10], d[26], d[10:]), j(d, d[22:26]), j(d[:9], d[10:]), j(d[:10], d[2:6], d[10:])):
+    assert put(K, deck, None, {21})
+for name, texts in {
+    "years": (("", 32), ("-", 32), ("0", 33), ("1E-21", 33), ("1.1E+09", 33), ("1E5", 31), ("0.0000000000", 33), ("9.99999E-21", 33),
+              ("1000000000.1", 33), ("56.", 31)),
+    "ED": (("", 32), ("0", 33), ("-", 32), ("1E-21", 33), ("1000000001", 33), ("4,5", 31)),
+    "ATc": (("", 32), ("0", 33), ("-", 32), ("1.1E+09", 33), ("+1", 31)),
+}.items():
+    line, field = divmod(STAGE.index(name), 6)
+    for t, number in texts:
+        assert put(f"{name} missing, misspelled or out of range", set_field(whole, 7 + line + 4 * rng.randrange(5), field + 1, t), None, {number})
+for t, number in (("", 32), ("-", 32), ("0", 33), ("1E-21", 33), ("1.1E+09", 33), ("1E5", 31)):
+    assert put("years missing, misspelled or out of range", set_field(EX2, 10, 5, t), None, {number})
+K = "slots 22 and 24 not blank"
+for field in (4, 6):
+    for t, number in (("1", 32), ("0", 32), ("-", 32), ("1.1E+10", 32), ("x", 31)):
+        assert put(K, set_field(whole, 10 + 4 * rng.randrange(5), field, t), None, {number})
+K = "ids"
+for ids in ((1, 1), (2, 1), (1, 3, 2), (5, 6, 7, 8, 9, 10, 11, 11)):
+    assert put(K, deck_text((1, S0), [(1, C0)], list(zip(ids, EIGHT))), None, {22})
+for line in (8, 24):
+    assert put(K, j(d[:line - 1], d[line - 1][:2], b"     9", d[line - 1][8:], d[line:]), None, {22})
+assert put(K, whole[:-2] + b"0\n", None, {22})
+assert put(K, deck_text((7, S0), [(7, C0), (999999, C0)], list(zip((7, 8, 999999), FIVE))), None, {0})
+K = "an ordinary deck"
+for deck in (oracle.example(*ORDINARY, recs=[{}, {}]), one(), real_deck(2, 2), real_deck(16, 4), deck_text((1, S0), [(1, C0)], [(i, R0) for i in range(1, 9)])):
+    assert put(K, deck, None, {32})
+K = "by the reading's own generator"
+for number, count in ((0, 8), (41, 1), (42, 1)):
+    fill(K, count, lambda: decks.deck(rng, *COMPOSITE), {number})
+K = "damaged decks"
+for number, count in ((0, 3), (11, 1), (12, 3), (21, 3), (22, 3), (31, 3), (32, 4), (33, 4)):
+    fill(K, count, lambda: decks.damage(rng, real_composite(rng.choice([1, 1, 2]), rng.choice([1, 2, 3, 5])), *COMPOSITE), {number})
+
+for name, file in files.items():
+    data = b"".join(file.stored)
+    open(f"{sys.argv[3]}/{name}", "wb").write(data)
+    numbers = sum(file.by_kind.values(), collections.Counter())
+    accepted, refused = numbers[0], len(file.stored) - numbers[0]
+    print(f"{name}: {len(file.stored)} decks, {len(data)} bytes; accepted {accepted}, refused {refused}; {dict(sorted(numbers.items()))}")
+    for kind, told in file.by_kind.items():
+        print(f"{kind:56} {sum(told.values()):4}", dict(sorted(told.items())))
+    with open(f"{sys.argv[3]}/stdout", "a" if name == "composites" else "w") as f:
+        f.write(f"decks {len(file.stored)}\naccepted {accepted}\nrefused {refused}\ndiffering 0\n")
+for how, whose in (((0, False), "document 01's decks"), ((LEVEL, False), "decks for P1"), (ORDINARY, "ordinary decks for P2")):
+    print(f"{whose}: at most nine digits {short_decks[how]}, all as at level 0; more digits {long_decks[how]}, of these changed:",
+          {f"{a} to {b}": n for (h, a, b), n in sorted(moved.items()) if h == how and n})

@@ -5,7 +5,41 @@ use crate::Outcome;
 
 pub const LINE: usize = 81;
 pub const MOST_CHEMICALS: usize = 16;
+/// Receptors of an ordinary deck: as many as a report can have.
 pub const MOST_RECEPTORS: usize = 4;
+/// Receptors of a composite's deck.
+pub const MOST_STAGES: usize = 8;
+
+/// What a deck is read for.
+#[derive(Clone, Copy, PartialEq, Eq, Debug)]
+pub enum Sort {
+    /// Each receptor is reported.
+    Ordinary,
+    /// The receptors are life stages of the one that is reported, each with its years.
+    Composite,
+}
+
+impl Sort {
+    pub const fn most_receptors(self) -> usize {
+        match self {
+            Sort::Ordinary => MOST_RECEPTORS,
+            Sort::Composite => MOST_STAGES,
+        }
+    }
+
+    /// A site, 16 chemicals, all receptors and EN.
+    pub const fn longest_deck(self) -> usize {
+        LINE * (2 + 4 * MOST_CHEMICALS + 4 * self.most_receptors() + 1)
+    }
+
+    /// What a receptor's slot takes; `None` for one that stays blank.
+    pub fn receptor_slot(self, at: usize) -> Option<&'static Slot> {
+        match self {
+            Sort::Composite if at == YEARS_AT => Some(&YEARS),
+            _ => RECEPTOR.get(at),
+        }
+    }
+}
 
 /// What a slot takes besides a number from 1E-20 to `cap` or 0.
 #[derive(Clone, Copy, PartialEq, Eq, Debug)]
@@ -57,6 +91,10 @@ pub const RECEPTOR: [Slot; 21] = [
     ANY, ANY, SHARE, ANY, SHARE, ANY, //
     SHARE, SHARE, DAYS,
 ];
+/// The years of a life stage.
+pub const YEARS: Slot = POS;
+/// Their place: slot 22 before them stays blank.
+pub const YEARS_AT: usize = 22;
 
 /// A chemical's slots before its reference values.
 pub const CHEMICAL_VALUES: usize = 18;
@@ -80,6 +118,8 @@ pub struct Chemical {
 pub struct Receptor {
     pub id: u32,
     pub value: [Pair; 21],
+    /// Of a life stage; 0 in an ordinary deck.
+    pub years: Pair,
 }
 
 /// What an accepted deck says.
@@ -89,7 +129,7 @@ pub struct Case {
     pub chemicals: usize,
     pub receptors: usize,
     chemical: [Chemical; MOST_CHEMICALS],
-    receptor: [Receptor; MOST_RECEPTORS],
+    receptor: [Receptor; MOST_STAGES],
 }
 
 impl Chemical {
@@ -98,7 +138,7 @@ impl Chemical {
 }
 
 impl Receptor {
-    pub const EMPTY: Receptor = Receptor { id: 0, value: [Pair::ZERO; 21] };
+    pub const EMPTY: Receptor = Receptor { id: 0, value: [Pair::ZERO; 21], years: Pair::ZERO };
 }
 
 impl Case {
@@ -108,7 +148,7 @@ impl Case {
             chemicals: 0,
             receptors: 0,
             chemical: [Chemical::EMPTY; MOST_CHEMICALS],
-            receptor: [Receptor::EMPTY; MOST_RECEPTORS],
+            receptor: [Receptor::EMPTY; MOST_STAGES],
         }
     }
 
@@ -118,6 +158,12 @@ impl Case {
 
     pub fn receptors(&self) -> &[Receptor] {
         &self.receptor[..self.receptors]
+    }
+
+    /// One receptor in place of all.
+    pub fn set_only_receptor(&mut self, receptor: Receptor) {
+        self.receptor[0] = receptor;
+        self.receptors = 1;
     }
 
     pub fn report_lines(&self) -> usize {
@@ -130,19 +176,12 @@ impl Case {
 }
 
 /// Reading alone: 0, 0, 0 where no condition up to 33 holds. There is no report, so no length.
-pub fn read(deck: &[u8]) -> Outcome {
+pub fn read(sort: Sort, deck: &[u8]) -> Outcome {
     let mut case = Case::empty();
-    match read_case(deck, &mut case) {
+    match read_case(sort, deck, &mut case) {
         Ok(()) => (0, 0, 0),
         Err(stop) => stop,
     }
-}
-
-/// The length of the report that a deck would have, or where its reading stops.
-pub fn report_length(deck: &[u8]) -> Result<usize, Outcome> {
-    let mut case = Case::empty();
-    read_case(deck, &mut case)?;
-    Ok(case.report_length())
 }
 
 /// The lines of a record, and the line at either end.
@@ -155,9 +194,9 @@ enum Kind {
     End,
 }
 
-/// Reads into an empty case.
-pub fn read_case(deck: &[u8], case: &mut Case) -> Result<(), Outcome> {
-    if deck.is_empty() || deck.len() > crate::LONGEST_DECK || deck.len() % LINE != 0 {
+/// Reads into an empty case. A composite's holds its stages.
+pub fn read_case(sort: Sort, deck: &[u8], case: &mut Case) -> Result<(), Outcome> {
+    if deck.is_empty() || deck.len() > sort.longest_deck() || deck.len() % LINE != 0 {
         return Err((11, 0, 0));
     }
     let mut before = Kind::Start;
@@ -168,7 +207,7 @@ pub fn read_case(deck: &[u8], case: &mut Case) -> Result<(), Outcome> {
         if feed[0] != b'\n' || !text.iter().all(|b| (32..=126).contains(b)) {
             return Err(stop(12, 0));
         }
-        let kind = next(before, [text[0], text[1]], case).ok_or(stop(21, 0))?;
+        let kind = next(sort, before, [text[0], text[1]], case).ok_or(stop(21, 0))?;
         if kind == Kind::End {
             if !blank(&text[2..]) {
                 return Err(stop(22, 0));
@@ -202,20 +241,18 @@ pub fn read_case(deck: &[u8], case: &mut Case) -> Result<(), Outcome> {
             }
             _ => {}
         }
-        let (slots, first): (&[Slot], usize) = match kind {
-            Kind::Site(k) => (&SITE, 6 * k),
-            Kind::Chemical(k) => (&CHEMICAL, 6 * k),
-            Kind::Receptor(k) => (&RECEPTOR, 6 * k),
-            Kind::Start | Kind::End => (&[], 0),
-        };
         for f in 0..6 {
-            let slot = slots.get(first + f);
+            let (at, slot) = match kind {
+                Kind::Site(k) => (6 * k + f, SITE.get(6 * k + f)),
+                Kind::Chemical(k) => (6 * k + f, CHEMICAL.get(6 * k + f)),
+                Kind::Receptor(k) => (6 * k + f, sort.receptor_slot(6 * k + f)),
+                Kind::Start | Kind::End => (f, None),
+            };
             let mark = mark(field(text, f));
             let value = fill(slot, mark).map_err(|number| stop(number, f + 1))?;
             if slot.is_none() {
                 continue;
             }
-            let at = first + f;
             match kind {
                 Kind::Site(_) => case.site[at] = value.unwrap_or(Pair::ZERO),
                 Kind::Chemical(_) => {
@@ -229,7 +266,11 @@ pub fn read_case(deck: &[u8], case: &mut Case) -> Result<(), Outcome> {
                         c.fv = printed;
                     }
                 }
-                _ => case.receptor[case.receptors - 1].value[at] = value.unwrap_or(Pair::ZERO),
+                _ => {
+                    let r = &mut case.receptor[case.receptors - 1];
+                    let place = if at == YEARS_AT { &mut r.years } else { &mut r.value[at] };
+                    *place = value.unwrap_or(Pair::ZERO);
+                }
             }
         }
         before = kind;
@@ -242,7 +283,7 @@ pub fn read_case(deck: &[u8], case: &mut Case) -> Result<(), Outcome> {
 }
 
 /// The kind these two columns name, if it can come next.
-fn next(before: Kind, columns: [u8; 2], case: &Case) -> Option<Kind> {
+fn next(sort: Sort, before: Kind, columns: [u8; 2], case: &Case) -> Option<Kind> {
     let k = columns[1].wrapping_sub(b'1') as usize;
     let kind = match columns[0] {
         b'S' if k < 2 => Kind::Site(k),
@@ -258,7 +299,7 @@ fn next(before: Kind, columns: [u8; 2], case: &Case) -> Option<Kind> {
         (Kind::Chemical(3), Kind::Chemical(0)) => case.chemicals < MOST_CHEMICALS,
         (Kind::Chemical(3), Kind::Receptor(0)) => true,
         (Kind::Chemical(a), Kind::Chemical(b)) => b == a + 1,
-        (Kind::Receptor(3), Kind::Receptor(0)) => case.receptors < MOST_RECEPTORS,
+        (Kind::Receptor(3), Kind::Receptor(0)) => case.receptors < sort.most_receptors(),
         (Kind::Receptor(3), Kind::End) => true,
         (Kind::Receptor(a), Kind::Receptor(b)) => b == a + 1,
         _ => false,
@@ -414,6 +455,20 @@ mod tests {
             let digits = (rng.one_of(&[cap, other]) * ten).saturating_add_signed(rng.between(-3, 3));
             let value = Pair::entry(digits, -(decimals as i32));
             assert_eq!(slot.takes(value), digits <= cap * ten, "{digits} {decimals}");
+        }
+    }
+
+    #[test]
+    fn slots_of_a_receptor() {
+        assert_eq!((Sort::Ordinary.longest_deck(), Sort::Composite.longest_deck()), (6_723, 8_019));
+        for at in 0..24 {
+            let (ordinary, composite) = (Sort::Ordinary.receptor_slot(at), Sort::Composite.receptor_slot(at));
+            assert_eq!(ordinary.is_some(), at < 21);
+            if at == 22 {
+                assert_eq!(composite, Some(&POS));
+            } else {
+                assert_eq!(composite, ordinary);
+            }
         }
     }
 

@@ -1,7 +1,10 @@
 //! Trial decks from a seed: realistic, extreme and damaged, each with a report buffer of its own length and earlier content.
+//! Either call has its own.
 
-use crate::deck::{Chemical, Printed, Receptor, Slot, CHEMICAL, CHEMICAL_VALUES, FV, LINE, RECEPTOR, SITE};
-use crate::page::{pathways, Body, Figures, Media, Site};
+use crate::deck::{
+    Chemical, Printed, Receptor, Slot, Sort, CHEMICAL, CHEMICAL_VALUES, FV, LINE, RECEPTOR, SITE, YEARS, YEARS_AT,
+};
+use crate::page::{composite, pathways, Body, Figures, Media, Site};
 use crate::pairs::{Pair, Working};
 use crate::rng::Rng;
 use crate::LONGEST_REPORT;
@@ -13,55 +16,61 @@ pub struct Trial {
     pub before: u64,
 }
 
-/// Trial number `place` of a run; each can be made again by itself.
-pub fn trial(seed: u64, place: u64) -> Trial {
-    let mut rng = Rng::new(Rng::new(seed).word() ^ Rng::new(!place).word());
-    let rng = &mut rng;
-    let deck = match rng.below(100) {
-        0..=52 => sound(rng),
-        53..=95 => damaged(rng),
-        96..=97 => crowded(rng),
-        _ => noise(rng),
+/// Trial number `place` of a run, for the call of this sort; each can be made again by itself.
+pub fn trial(sort: Sort, seed: u64, place: u64) -> Trial {
+    let mixed = Rng::new(seed).word() ^ Rng::new(!place).word();
+    let rng = &mut Rng::new(match sort {
+        Sort::Ordinary => mixed,
+        Sort::Composite => !mixed,
+    });
+    let share = rng.below(100);
+    // The years of a few composites' decks were forgotten: an ordinary deck is left, if of too many receptors at times.
+    let made_as = if sort == Sort::Composite && (51..=52).contains(&share) { Sort::Ordinary } else { sort };
+    let deck = match share {
+        0..=52 => sound(rng, made_as, sort.most_receptors()),
+        53..=95 => damaged(rng, sort),
+        96..=97 => crowded(rng, sort),
+        _ => noise(rng, sort),
     };
-    let room = room(rng, &deck);
+    let room = room(rng, made_as, &deck);
     Trial { deck, room, before: rng.word() }
 }
 
 /// A sound deck of this many chemicals and receptors with everyday values, for timing.
-pub fn everyday(seed: u64, chemicals: usize, receptors: usize) -> Vec<u8> {
-    everyday_draft(&mut Rng::new(seed), chemicals, receptors).1
+pub fn everyday(sort: Sort, seed: u64, chemicals: usize, receptors: usize) -> Vec<u8> {
+    everyday_draft(&mut Rng::new(seed), sort, chemicals, receptors).1
 }
 
 /// The same deck with eleven digits and a point in every field that has a number, each moved by less than its last place.
-pub fn everyday_eleven(seed: u64, chemicals: usize, receptors: usize) -> Vec<u8> {
+pub fn everyday_eleven(sort: Sort, seed: u64, chemicals: usize, receptors: usize) -> Vec<u8> {
     let rng = &mut Rng::new(seed);
-    let (draft, _) = everyday_draft(rng, chemicals, receptors);
+    let (draft, _) = everyday_draft(rng, sort, chemicals, receptors);
     loop {
         let mut draft = draft.clone();
         draft.each(|slot, v| lengthened(rng, slot, v, 11));
         let deck = draft.written(plain);
-        if accepted(&deck) {
+        if accepted(sort, &deck) {
             return deck;
         }
     }
 }
 
-fn everyday_draft(rng: &mut Rng, chemicals: usize, receptors: usize) -> (Draft, Vec<u8>) {
+fn everyday_draft(rng: &mut Rng, sort: Sort, chemicals: usize, receptors: usize) -> (Draft, Vec<u8>) {
     loop {
-        let draft = Draft::new(rng, chemicals, receptors, 0);
+        let draft = Draft::new(rng, sort, chemicals, receptors, 0);
         let deck = draft.deck(rng);
-        if accepted(&deck) {
+        if accepted(sort, &deck) {
             return (draft, deck);
         }
     }
 }
 
-fn accepted(deck: &[u8]) -> bool {
-    crate::report(deck, &mut [0; LONGEST_REPORT]).0 == 0
+fn accepted(sort: Sort, deck: &[u8]) -> bool {
+    crate::report(sort, deck, &mut [0; LONGEST_REPORT]).0 == 0
 }
 
-fn room(rng: &mut Rng, deck: &[u8]) -> usize {
-    match crate::deck::report_length(deck) {
+fn room(rng: &mut Rng, sort: Sort, deck: &[u8]) -> usize {
+    match crate::report::report_length(sort, deck) {
         Ok(length) => match rng.below(100) {
             0..=54 => length,
             55..=59 => length + 1,
@@ -106,13 +115,19 @@ const CHEMICAL_USUAL: [Usual; 22] = [
     (0, 99, -3), (0, 999, -3), (0, 999, -1), (0, 100, -2), (0, 100, -2), (0, 100, -2),
     (1, 99, -3), (1, 99, -3), (1, 99, -2), (1, 99, -2),
 ];
+/// The years of a life stage last.
 #[rustfmt::skip]
-const RECEPTOR_USUAL: [Usual; 21] = [
+const RECEPTOR_USUAL: [Usual; 22] = [
     (8, 80, 0), (5, 75, 0), (25_000, 28_000, 0), (1, 25, 0), (0, 100, -2), (0, 366, 0),
     (10, 200, 0), (0, 100, -2), (0, 366, 0), (0, 366, 0), (100, 20_000, 0), (0, 99, -3),
     (100, 1_000, 0), (0, 99, -2), (0, 100, -2), (0, 500, -3), (0, 100, -2), (0, 500, -3),
-    (0, 100, -2), (0, 100, -2), (0, 366, 0),
+    (0, 100, -2), (0, 100, -2), (0, 366, 0), (2, 700, -1),
 ];
+
+/// The slots that a receptor of this sort fills, its years last; a draft has a value for each.
+fn receptor_slots(sort: Sort) -> impl Iterator<Item = &'static Slot> {
+    (0..=YEARS_AT).filter_map(move |at| sort.receptor_slot(at))
+}
 
 /// A value inside the slot's range, as it might stand in a real deck.
 fn usual(rng: &mut Rng, slot: &Slot, (low, high, power): Usual) -> Value {
@@ -194,6 +209,7 @@ fn far(rng: &mut Rng, slot: &Slot) -> Value {
 /// What a sound deck is to say.
 #[derive(Clone)]
 struct Draft {
+    sort: Sort,
     /// Digits of a number at most, zeros counted.
     most: usize,
     site_id: u32,
@@ -208,6 +224,8 @@ const FRSNOW: usize = 10;
 const KDS: usize = 10;
 const KSG: usize = 11;
 const RFDO: usize = 18;
+/// The years in a draft, which leaves out the blank slot before them.
+const DRAFT_YEARS: usize = RECEPTOR.len();
 
 fn ids(rng: &mut Rng, n: usize) -> Vec<u32> {
     let mut ids: Vec<u32> = match rng.below(4) {
@@ -228,12 +246,18 @@ fn ids(rng: &mut Rng, n: usize) -> Vec<u32> {
 
 impl Draft {
     /// Everyday values, `odd` in 100 of them far ones.
-    fn new(rng: &mut Rng, chemicals: usize, receptors: usize, odd: usize) -> Draft {
-        fn values(rng: &mut Rng, slots: &[Slot], usuals: &[Usual], odd: usize) -> Vec<Value> {
-            let each = slots.iter().zip(usuals);
+    fn new(rng: &mut Rng, sort: Sort, chemicals: usize, receptors: usize, odd: usize) -> Draft {
+        fn values(
+            rng: &mut Rng,
+            slots: impl IntoIterator<Item = &'static Slot>,
+            usuals: &[Usual],
+            odd: usize,
+        ) -> Vec<Value> {
+            let each = slots.into_iter().zip(usuals);
             each.map(|(slot, &u)| if rng.chance(odd) { far(rng, slot) } else { usual(rng, slot, u) }).collect()
         }
         Draft {
+            sort,
             most: 9,
             site_id: rng.between(1, 999_999) as u32,
             site: values(rng, &SITE, &SITE_USUAL, odd),
@@ -243,13 +267,13 @@ impl Draft {
                 .collect(),
             receptors: ids(rng, receptors)
                 .into_iter()
-                .map(|id| (id, values(rng, &RECEPTOR, &RECEPTOR_USUAL, odd)))
+                .map(|id| (id, values(rng, receptor_slots(sort), &RECEPTOR_USUAL, odd)))
                 .collect(),
         }
     }
 
     /// Document 01's deck with a few values changed: exact decimals, so that figures can meet a cap exactly.
-    fn round_figures(rng: &mut Rng, chemicals: usize, receptors: usize) -> Draft {
+    fn round_figures(rng: &mut Rng, sort: Sort, chemicals: usize, receptors: usize) -> Draft {
         #[rustfmt::skip]
         let site = [(10, 0), (2, 0), (30, 0), (2, -1), (0, 0), (0, 0), (0, 0), (0, 0), (0, 0), (1, -2), (5, -1)];
         #[rustfmt::skip]
@@ -260,9 +284,9 @@ impl Draft {
         #[rustfmt::skip]
         let receptor = [
             (20, 0), (5, 0), (27_375, 0), (10, 0), (1, 0), (365, 0), (80, 0), (1, 0), (73, 0), (146, 0), (1000, 0),
-            (2, -2), (400, 0), (1, -1), (1, 0), (1, -1), (5, -1), (2, -1), (5, -1), (1, 0), (365, 0),
+            (2, -2), (400, 0), (1, -1), (1, 0), (1, -1), (5, -1), (2, -1), (5, -1), (1, 0), (365, 0), (5, 0),
         ];
-        fn varied(rng: &mut Rng, values: &[Printed], slots: &[Slot]) -> Vec<Value> {
+        fn varied(rng: &mut Rng, values: &[Printed], slots: impl IntoIterator<Item = &'static Slot>) -> Vec<Value> {
             let each = values.iter().zip(slots);
             each.map(|(&(digits, power), slot)| {
                 let other = (digits, power - rng.one_of(&[1, 2, -1]));
@@ -271,22 +295,34 @@ impl Draft {
             .collect()
         }
         let mut draft = Draft {
+            sort,
             most: 9,
             site_id: 1,
             site: varied(rng, &site, &SITE),
             chemicals: ids(rng, chemicals).into_iter().map(|id| (id, varied(rng, &chemical, &CHEMICAL))).collect(),
-            receptors: ids(rng, receptors).into_iter().map(|id| (id, varied(rng, &receptor, &RECEPTOR))).collect(),
+            receptors: ids(rng, receptors)
+                .into_iter()
+                .map(|id| (id, varied(rng, &receptor, receptor_slots(sort))))
+                .collect(),
         };
         // 27375 has a factor 3, which no decimal divides by exactly.
         for (_, r) in &mut draft.receptors {
             r[2] = Some((rng.one_of(&[27_375, 36_500, 29_200, 36_500]), 0));
         }
+        // Stages alike but for their years: a composite's fields are theirs, exactly.
+        if sort == Sort::Composite && rng.chance(60) {
+            let like = draft.receptors[0].1.clone();
+            for (_, r) in &mut draft.receptors {
+                r.clone_from(&like);
+                r[DRAFT_YEARS] = Some((rng.between(1, 160) as u64, rng.one_of(&[0, -1])));
+            }
+        }
         draft
     }
 
     /// The same figure on all six pathways of every chemical, so that totals can come near 96 times a cap.
-    fn level(rng: &mut Rng, chemicals: usize, receptors: usize) -> Draft {
-        let mut d = Draft::round_figures(rng, chemicals, receptors);
+    fn level(rng: &mut Rng, sort: Sort, chemicals: usize, receptors: usize) -> Draft {
+        let mut d = Draft::round_figures(rng, sort, chemicals, receptors);
         d.site[9] = Some((1, 0));
         d.site[FRSNOW] = Some((1, 0));
         let soil = rng.between(1, 99_999) as u64;
@@ -320,12 +356,27 @@ impl Draft {
 
     /// Changes every number.
     fn each(&mut self, mut change: impl FnMut(&Slot, Printed) -> Printed) {
-        let mut record = |values: &mut [Value], slots: &[Slot]| {
+        let mut record = |values: &mut [Value], slots: &mut dyn Iterator<Item = &'static Slot>| {
             values.iter_mut().zip(slots).for_each(|(value, slot)| *value = value.map(|v| change(slot, v)));
         };
-        record(&mut self.site, &SITE);
-        self.chemicals.iter_mut().for_each(|(_, c)| record(c, &CHEMICAL));
-        self.receptors.iter_mut().for_each(|(_, r)| record(r, &RECEPTOR));
+        record(&mut self.site, &mut SITE.iter());
+        self.chemicals.iter_mut().for_each(|(_, c)| record(c, &mut CHEMICAL.iter()));
+        self.receptors.iter_mut().for_each(|(_, r)| record(r, &mut receptor_slots(self.sort)));
+    }
+
+    /// Years as no life has them: of any size in range, some next to others of which they are less than a last place, or
+    /// alike, or as in document 002.
+    fn odd_years(&mut self, rng: &mut Rng) {
+        let style = rng.below(5);
+        let alike = far(rng, &YEARS);
+        for (i, (_, r)) in self.receptors.iter_mut().enumerate() {
+            r[DRAFT_YEARS] = match style {
+                0 | 1 => far(rng, &YEARS),
+                2 => Some(rng.one_of(&[(1, -20), (1, 9), (99_999_999_999, -2), (1, -10), (1, 0), (3, 0)])),
+                3 => alike,
+                _ => Some([(5, -1), (45, -1), (7, 0), (8, 0), (56, 0)][i % 5]),
+            };
+        }
     }
 
     /// As many digits as twelve columns hold, `percent` in 100 numbers lengthened, and Fv often next to 1 or 0.
@@ -369,9 +420,20 @@ impl Draft {
 
     fn receptor(&self, i: usize) -> Receptor {
         let (id, values) = &self.receptors[i];
-        let mut r = Receptor { id: *id, ..Receptor::EMPTY };
+        let years = values.get(DRAFT_YEARS).map_or(Pair::ZERO, |&v| pair(v));
+        let mut r = Receptor { id: *id, years, ..Receptor::EMPTY };
         r.value.iter_mut().zip(values).for_each(|(p, &v)| *p = pair(v));
         r
+    }
+
+    /// The person that is reported: this receptor, or the composite of all.
+    fn person(&self, i: usize) -> Receptor {
+        match self.sort {
+            Sort::Ordinary => self.receptor(i),
+            Sort::Composite => {
+                composite(&(0..self.receptors.len()).map(|i| self.receptor(i)).collect::<Vec<Receptor>>())
+            }
+        }
     }
 
     /// The figures of one chemical and receptor, unless x is too high to work them.
@@ -379,7 +441,7 @@ impl Draft {
         let (site, chemical) = (self.site(), self.chemical(chemical));
         let x = site.x(&chemical);
         let low = x.high.at_most(crate::page::MOST_X);
-        low.then(|| pathways(&site, &chemical, &Media::new(&site, &chemical, x), &Body::new(&self.receptor(receptor))))
+        low.then(|| pathways(&site, &chemical, &Media::new(&site, &chemical, x), &Body::new(&self.person(receptor))))
     }
 
     /// Sets one chemical's decay so that its x comes to about 64.
@@ -458,11 +520,18 @@ impl Draft {
     fn written(&self, mut spell: impl FnMut(Printed) -> String) -> Vec<u8> {
         let mut deck = Vec::new();
         let mut record = |kind: u8, id: u32, values: &[Value]| {
-            for (k, six) in values.chunks(6).enumerate() {
+            let lines = values.len().div_ceil(6);
+            for k in 0..lines {
                 deck.extend([kind, b'1' + k as u8]);
                 deck.extend(format!("{id:>6}").bytes());
-                for f in 0..6 {
-                    let text = match six.get(f) {
+                for at in 6 * k..6 * k + 6 {
+                    // A draft leaves out the slot before the years.
+                    let value = match (kind, at) {
+                        (b'R', YEARS_AT) => values.get(DRAFT_YEARS),
+                        (b'R', DRAFT_YEARS) => None,
+                        _ => values.get(at),
+                    };
+                    let text = match value {
                         None => String::new(),
                         Some(None) => "-".to_string(),
                         Some(Some(v)) => spell(*v),
@@ -559,22 +628,26 @@ fn spelled(rng: &mut Rng, (mut digits, mut power): Printed, most: usize) -> Stri
     }
 }
 
-fn size(rng: &mut Rng) -> (usize, usize) {
+fn size(rng: &mut Rng, most_receptors: usize) -> (usize, usize) {
     let chemicals = rng.one_of(&[1, 1, 1, 1, 1, 2, 2, 2, 3, 3, 4, 5, 6, 8, 11, 16]);
-    (chemicals, rng.one_of(&[1, 1, 1, 2, 2, 3, 4]))
+    let receptors: &[usize] = match most_receptors {
+        crate::deck::MOST_RECEPTORS => &[1, 1, 1, 2, 2, 3, 4],
+        _ => &[1, 1, 2, 2, 3, 3, 4, 5, 5, 6, 7, 8, 8],
+    };
+    (chemicals, rng.one_of(receptors))
 }
 
-/// A sound deck; what it works out to may still be too high.
-fn sound(rng: &mut Rng) -> Vec<u8> {
-    let (chemicals, receptors) = size(rng);
+/// A sound deck of one to so many receptors; what it works out to may still be too high.
+fn sound(rng: &mut Rng, sort: Sort, most_receptors: usize) -> Vec<u8> {
+    let (chemicals, receptors) = size(rng, most_receptors);
     let long = rng.chance(50);
     let mut draft = match rng.below(100) {
-        0..=54 => Draft::new(rng, chemicals, receptors, 0),
-        55..=66 => Draft::new(rng, chemicals, receptors, 5),
-        67..=72 => Draft::new(rng, chemicals, receptors, 100),
-        73..=96 => Draft::round_figures(rng, chemicals, receptors),
+        0..=54 => Draft::new(rng, sort, chemicals, receptors, 0),
+        55..=66 => Draft::new(rng, sort, chemicals, receptors, 5),
+        67..=72 => Draft::new(rng, sort, chemicals, receptors, 100),
+        73..=96 => Draft::round_figures(rng, sort, chemicals, receptors),
         _ => {
-            let mut draft = Draft::level(rng, chemicals, receptors);
+            let mut draft = Draft::level(rng, sort, chemicals, receptors);
             for _ in 0..3 {
                 draft.bring_to_cap(rng, 0);
             }
@@ -584,6 +657,9 @@ fn sound(rng: &mut Rng) -> Vec<u8> {
             return draft.deck(rng);
         }
     };
+    if sort == Sort::Composite && rng.chance(25) {
+        draft.odd_years(rng);
+    }
     if long {
         let percent = rng.one_of(&[10, 50, 100]);
         draft.lengthen(rng, percent);
@@ -598,19 +674,24 @@ fn sound(rng: &mut Rng) -> Vec<u8> {
 }
 
 /// One chemical or receptor too many, the rest sound.
-fn crowded(rng: &mut Rng) -> Vec<u8> {
-    let (chemicals, receptors) =
-        if rng.chance(50) { (17, rng.between(1, 4) as usize) } else { (rng.between(1, 15) as usize, 5) };
-    Draft::new(rng, chemicals, receptors, 0).deck(rng)
+fn crowded(rng: &mut Rng, sort: Sort) -> Vec<u8> {
+    let most = sort.most_receptors();
+    let (chemicals, receptors) = if rng.chance(50) {
+        (17, rng.between(1, most as i64) as usize)
+    } else {
+        (rng.between(1, 15) as usize, most + 1)
+    };
+    Draft::new(rng, sort, chemicals, receptors, 0).deck(rng)
 }
 
 /// Bytes without a deck's form.
-fn noise(rng: &mut Rng) -> Vec<u8> {
+fn noise(rng: &mut Rng, sort: Sort) -> Vec<u8> {
+    let longest = sort.longest_deck();
     let n = match rng.below(5) {
         0 => 0,
-        1 => LINE * (1 + rng.below(83)),
-        2 => LINE * (84 + rng.below(20)),
-        _ => rng.below(7_000),
+        1 => LINE * (1 + rng.below(longest / LINE)),
+        2 => LINE * (longest / LINE + 1 + rng.below(20)),
+        _ => rng.below(longest + 277),
     };
     let mut deck: Vec<u8> = match rng.below(3) {
         0 => (0..n).map(|_| rng.byte()).collect(),
@@ -623,10 +704,10 @@ fn noise(rng: &mut Rng) -> Vec<u8> {
     deck
 }
 
-fn damaged(rng: &mut Rng) -> Vec<u8> {
-    let mut deck = sound(rng);
+fn damaged(rng: &mut Rng, sort: Sort) -> Vec<u8> {
+    let mut deck = sound(rng, sort, sort.most_receptors());
     for _ in 0..rng.one_of(&[1, 1, 1, 1, 2, 3]) {
-        damage(rng, &mut deck);
+        damage(rng, sort, &mut deck);
     }
     deck
 }
@@ -677,7 +758,15 @@ const SHARE_ENDS: &[&str] = &[
     "99999999E-08", "00000001E-20", "12345678E-20", "000000000001", "0.1000000001", "0.0999999999", "0.8999999999", "0.9000000001",
 ];
 
-fn damage(rng: &mut Rng, deck: &mut Vec<u8>) {
+/// For a stage's years: none, not above 0, beyond the range and at its ends, misspelled.
+#[rustfmt::skip]
+const BAD_YEARS: &[&str] = &[
+    "", "", "", "-", "-", "0", "0", "0.0", "0E+99", "0.0000000000", "000000000000", "1E-21", "9.999999E-21", "1E-20", "99999999E-28",
+    "1E+09", "1000000000.0", "1000000000.1", "1.000001E+09", "1E+10", "999999999999", "1E+99", "1E-99", "-1", "+1", ".5", "5.", "x",
+    "1E5", "4,5", "4.5.0", "-0", "0.0000000001", "12345678901",
+];
+
+fn damage(rng: &mut Rng, sort: Sort, deck: &mut Vec<u8>) {
     let n = deck.len() / LINE;
     // A heavier damage before may have left nothing to hurt.
     if n == 0 || deck.len() % LINE != 0 {
@@ -685,7 +774,11 @@ fn damage(rng: &mut Rng, deck: &mut Vec<u8>) {
     }
     let line = rng.below(n);
     let from = line * LINE;
-    match rng.below(31) {
+    let ways = match sort {
+        Sort::Ordinary => 31,
+        Sort::Composite => 34,
+    };
+    match rng.below(ways) {
         0 => {
             let at = rng.below(deck.len());
             deck[at] = rng.byte();
@@ -743,7 +836,7 @@ fn damage(rng: &mut Rng, deck: &mut Vec<u8>) {
         18 => place_field(deck, line, rng.below(6), "-"),
         19..=22 => place_field(deck, line, rng.below(6), rng.one_of(OUT_OF_RANGE)),
         23 | 24 => {
-            // A later slot: S2 6, C4 5 and 6, R4 4 to 6.
+            // A later slot: S2 6, C4 5 and 6, R4 4 to 6, of which 5 may be the years.
             let later: Vec<(usize, usize)> = (0..n)
                 .flat_map(|l| match &deck[l * LINE..l * LINE + 2] {
                     b"S2" => vec![(l, 5)],
@@ -772,7 +865,8 @@ fn damage(rng: &mut Rng, deck: &mut Vec<u8>) {
         }
         28 => {
             // Too long, and by one line if need be.
-            let lines = if rng.chance(50) { 84 } else { rng.between(82, 120) as usize };
+            let longest = sort.longest_deck() / LINE;
+            let lines = if rng.chance(50) { longest + 1 } else { longest - 1 + rng.below(39) };
             while deck.len() < lines * LINE {
                 deck.extend(END);
             }
@@ -784,12 +878,18 @@ fn damage(rng: &mut Rng, deck: &mut Vec<u8>) {
                 place_field(deck, rng.one_of(&first), FV, rng.one_of(SHARE_ENDS));
             }
         }
-        _ => {
+        30 => {
             // A field moved to the left within its columns.
             let f = rng.below(6);
             let at = from + 8 + 12 * f;
             let by = rng.below(4);
             deck[at..at + 12].rotate_left(by);
+        }
+        _ => {
+            let last: Vec<usize> = (0..n).filter(|l| deck[l * LINE..].starts_with(b"R4")).collect();
+            if !last.is_empty() {
+                place_field(deck, rng.one_of(&last), YEARS_AT % 6, rng.one_of(BAD_YEARS));
+            }
         }
     }
 }
@@ -801,25 +901,60 @@ mod tests {
     #[test]
     fn the_same_from_the_same_seed() {
         for place in 0..50 {
-            let (a, b) = (trial(3, place), trial(3, place));
-            assert_eq!((a.deck, a.room, a.before), (b.deck, b.room, b.before));
+            for sort in [Sort::Ordinary, Sort::Composite] {
+                let (a, b) = (trial(sort, 3, place), trial(sort, 3, place));
+                assert_eq!((a.deck, a.room, a.before), (b.deck, b.room, b.before));
+            }
         }
     }
 
     #[test]
     fn shares_of_outcomes() {
-        let mut count = [0; 54];
-        let decks = 4_000;
-        let mut out = vec![0; 2 * LONGEST_REPORT];
-        for place in 0..decks {
-            let t = trial(1, place);
-            count[crate::report(&t.deck, &mut out[..t.room]).0 as usize] += 1;
+        for sort in [Sort::Ordinary, Sort::Composite] {
+            let mut count = [0; 54];
+            let decks = 4_000;
+            let mut out = vec![0; 2 * LONGEST_REPORT];
+            for place in 0..decks {
+                let t = trial(sort, 1, place);
+                count[crate::report(sort, &t.deck, &mut out[..t.room]).0 as usize] += 1;
+            }
+            // 200 of 200,000 is 1 in 1,000.
+            for number in [11, 12, 21, 22, 31, 32, 33, 51, 41, 42] {
+                assert!(count[number] >= 4, "{sort:?}, {number}: {}", count[number]);
+            }
+            assert!(count[0] >= decks * 30 / 100 && count[0] <= decks * 60 / 100, "{sort:?}: {}", count[0]);
         }
-        // 200 of 200,000 is 1 in 1,000.
-        for number in [11, 12, 21, 22, 31, 32, 33, 51, 41, 42] {
-            assert!(count[number] >= 4, "{number}: {}", count[number]);
+    }
+
+    /// What a run of composites' decks holds: every number of stages, years at both ends of their range, refusals of the years
+    /// themselves, decks of the other sort.
+    #[test]
+    fn kinds_of_composite_decks() {
+        let (mut stages, mut years_refused) = ([0; 10], [0; 40]);
+        let (mut small, mut large, mut long, mut forgotten) = (0, 0, 0, 0);
+        for place in 0..4_000 {
+            let t = trial(Sort::Composite, 1, place);
+            let told = crate::read(Sort::Composite, &t.deck);
+            if told.0 > 22 && told.2 == YEARS_AT % 6 + 1 && t.deck[(told.1 - 1) * LINE..].starts_with(b"R4") {
+                years_refused[told.0 as usize] += 1;
+            }
+            forgotten += usize::from(crate::read(Sort::Ordinary, &t.deck).0 == 0);
+            if told.0 != 0 {
+                continue;
+            }
+            let text = String::from_utf8_lossy(&t.deck).into_owned();
+            let last: Vec<&str> = text.lines().filter(|l| l.starts_with("R4")).collect();
+            stages[last.len()] += 1;
+            for years in last.iter().map(|l| l[56..68].trim()) {
+                let real: f64 = years.parse().unwrap();
+                small += usize::from(real < 1e-15);
+                large += usize::from(real > 1e8);
+                long += usize::from(years.bytes().filter(u8::is_ascii_digit).count() > 9);
+            }
         }
-        assert!(count[0] >= decks * 30 / 100 && count[0] <= decks * 60 / 100, "{}", count[0]);
+        assert!(stages[1..=8].iter().all(|&n| n > 50), "{stages:?}");
+        assert!([31, 32, 33].iter().all(|&n| years_refused[n] > 10), "{years_refused:?}");
+        assert!(small > 50 && large > 50 && long > 500 && forgotten > 10, "{small} {large} {long} {forgotten}");
     }
 
     #[test]
@@ -843,7 +978,7 @@ mod tests {
     #[test]
     fn eleven_digits_in_every_field() {
         for seed in 0..4 {
-            let deck = String::from_utf8(everyday_eleven(seed, 4, 2)).unwrap();
+            let deck = String::from_utf8(everyday_eleven(Sort::Ordinary, seed, 4, 2)).unwrap();
             let mut longer_pairs = 0;
             for line in deck.lines().filter(|l| !l.starts_with("EN")) {
                 for f in 0..6 {

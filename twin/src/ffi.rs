@@ -1,7 +1,7 @@
 //! The library under trial, through its C interface; all that is known of it stands in this file.
 
 use crate::calls::Raw;
-use crate::Outcome;
+use crate::{Outcome, Sort};
 
 mod c {
     #[link(name = "zilmorga", kind = "static", modifiers = "-bundle")]
@@ -15,6 +15,15 @@ mod c {
             field: *mut usize,
         ) -> u32;
         pub fn zilmorga_read(deck: *const u8, n: usize, line: *mut usize, field: *mut usize) -> u32;
+        pub fn zilmorga_composite_report(
+            deck: *const u8,
+            n: usize,
+            report: *mut u8,
+            room: usize,
+            line: *mut usize,
+            field: *mut usize,
+        ) -> u32;
+        pub fn zilmorga_composite_read(deck: *const u8, n: usize, line: *mut usize, field: *mut usize) -> u32;
         pub fn zilmorga_total(list: *const u64, n: usize, sum: *mut u64) -> u32;
         // A pair is low significand, low exponent, high significand, high exponent.
         pub fn zilmorga_entry(digits: u64, power: i32, out: *mut i64) -> u32;
@@ -33,19 +42,26 @@ mod c {
 const UNSET: usize = usize::MAX;
 
 /// On success 0, the report's length and 0.
-pub fn report(deck: &[u8], out: &mut [u8]) -> Outcome {
+pub fn report(sort: Sort, deck: &[u8], out: &mut [u8]) -> Outcome {
     let (mut line, mut field) = (UNSET, UNSET);
+    let call = match sort {
+        Sort::Ordinary => c::zilmorga_report,
+        Sort::Composite => c::zilmorga_composite_report,
+    };
     // SAFETY: each pointer comes with the length of what it points to.
-    let number =
-        unsafe { c::zilmorga_report(deck.as_ptr(), deck.len(), out.as_mut_ptr(), out.len(), &mut line, &mut field) };
+    let number = unsafe { call(deck.as_ptr(), deck.len(), out.as_mut_ptr(), out.len(), &mut line, &mut field) };
     (number, line, field)
 }
 
 /// Reading alone. On success 0, 0, 0: there is no report, so no length.
-pub fn read(deck: &[u8]) -> Outcome {
+pub fn read(sort: Sort, deck: &[u8]) -> Outcome {
     let (mut line, mut field) = (UNSET, UNSET);
+    let call = match sort {
+        Sort::Ordinary => c::zilmorga_read,
+        Sort::Composite => c::zilmorga_composite_read,
+    };
     // SAFETY: as above.
-    let number = unsafe { c::zilmorga_read(deck.as_ptr(), deck.len(), &mut line, &mut field) };
+    let number = unsafe { call(deck.as_ptr(), deck.len(), &mut line, &mut field) };
     (number, line, field)
 }
 

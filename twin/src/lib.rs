@@ -1,6 +1,6 @@
-//! A second reading of document 01 (hazard and cancer sheets from a case deck) and of request P1 in document 02 (numbers of
-//! more than nine digits), in plain Rust, written from these documents alone and kept apart from the library, so that an
-//! agreement of the two says something about both.
+//! A second reading of document 01 (hazard and cancer sheets from a case deck) and of requests P1 (numbers of more than nine
+//! digits) and P2 (composite receptor) in document 02, in plain Rust, written from these documents alone and kept apart from
+//! the library, so that an agreement of the two says something about both.
 
 // A remainder stands beside its quotient throughout.
 #![allow(clippy::manual_is_multiple_of)]
@@ -16,14 +16,12 @@ pub mod report;
 pub mod rng;
 pub mod vectors;
 
-pub use deck::read;
+pub use deck::{read, Sort};
 pub use pairs::series;
 pub use report::{report, total};
 
 /// Number, line and field; on success 0, the report's length and 0.
 pub type Outcome = (u32, usize, usize);
 
-/// The longest deck: a site, 16 chemicals, 4 receptors and EN.
-pub const LONGEST_DECK: usize = 6_723;
 /// The longest report: 4 receptors of 16 × 6 lines and a total line.
 pub const LONGEST_REPORT: usize = 4 * (16 * 6 + 1) * 95;

@@ -1,8 +1,9 @@
 //! The page of equations, written as document 01 writes them: the operators of pairs keep its order of operations (brackets,
 //! then × and / from the left, then + from the left), one rounding each.
 //!
-//! Fields lie between 1E-20 and 1E+9 or are 0, so every exponent here stays within a few hundred, those of the series (x at
-//! most 64 or not used) within some tens of thousands; and no divisor is 0, since its factors are never 0.
+//! Fields lie between 1E-20 and 1E+9 or are 0, a composite's but for a rounding too and its years below 1E+10, so every
+//! exponent here stays within a few hundred, those of the series (x at most 64 or not used) within some tens of thousands;
+//! and no divisor is 0, since its factors are never 0.
 
 use crate::deck::{Chemical, Receptor};
 use crate::pairs::{self, Pair, Working};
@@ -90,6 +91,25 @@ pub fn averaging_time(ed: Pair) -> Pair {
     DAYS_A_YEAR * ed
 }
 
+// Places of the two fields that a composite does not take from its stages.
+const ED: usize = 1;
+const ATC: usize = 2;
+
+/// The person made of life stages, one at least: each field is its mean over the years, ED all of the years, ATc their days.
+pub fn composite(stages: &[Receptor]) -> Receptor {
+    // Sums in deck order; 0 + the first is the first, unrounded.
+    let years = stages.iter().fold(Pair::ZERO, |sum, stage| sum + stage.years);
+    let mut person = Receptor { years, ..stages[0] };
+    for (at, value) in person.value.iter_mut().enumerate() {
+        *value = match at {
+            ED => years,
+            ATC => DAYS_A_YEAR * years,
+            _ => stages.iter().fold(Pair::ZERO, |sum, stage| sum + stage.years * stage.value[at]) / years,
+        };
+    }
+    person
+}
+
 /// What the pathways take from a receptor alone.
 pub struct Body {
     value: [Pair; 21],
@@ -149,6 +169,46 @@ mod tests {
     #[test]
     fn averaging_time_is_not_rounded_to_days() {
         assert_eq!(averaging_time(Pair::entry(45, -1)), Pair::entry(16_425, -1));
+    }
+
+    fn stage(years: Pair, value: Pair) -> Receptor {
+        Receptor { id: 7, value: [value; 21], years }
+    }
+
+    /// Document 002's body weights and years; it divides by 75, though the years add to 76.
+    #[test]
+    fn five_stages_of_002() {
+        let e = Pair::entry;
+        let stages = [(5, 82), (45, 165), (70, 329), (80, 597), (560, 707)].map(|(y, bw)| stage(e(y, -1), e(bw, -1)));
+        let person = composite(&stages);
+        assert_eq!(person.id, 7);
+        // 4745.45 / 76 = 62.44013157..
+        let weight = Pair { low: Working { m: 624_401_315, e: -7 }, high: Working { m: 624_401_316, e: -7 } };
+        for (at, value) in person.value.into_iter().enumerate() {
+            let want = match at {
+                ED => e(76, 0),
+                ATC => e(27_740, 0),
+                _ => weight,
+            };
+            assert_eq!(value, want, "{at}");
+        }
+    }
+
+    #[test]
+    fn a_composite_rounds_in_deck_order() {
+        let e = Pair::entry;
+        let ends = |low: u32, high: u32| Pair { low: Working { m: low, e: -8 }, high: Working { m: high, e: -8 } };
+        // Two crumbs after 1 are rounded one by one; before it they are added first.
+        let crumb = stage(e(6, -9), Pair::ONE);
+        let year = stage(Pair::ONE, Pair::ONE);
+        let late = composite(&[year, crumb, crumb]).value;
+        assert_eq!(late[ED], ends(100_000_000, 100_000_002));
+        let early = composite(&[crumb, crumb, year]).value;
+        assert_eq!(early[ED], ends(100_000_001, 100_000_002));
+        // A share of 1 throughout may come to more than 1, and to less: no range holds it.
+        assert_eq!(late[0], Pair { low: Working { m: 999_999_980, e: -9 }, high: Working { m: 100_000_002, e: -8 } });
+        // The years times 0 are 0.
+        assert_eq!(composite(&[stage(e(1, -20), Pair::ZERO), stage(e(1, 9), Pair::ZERO)]).value[0], Pair::ZERO);
     }
 
     #[test]

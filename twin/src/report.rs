@@ -1,7 +1,7 @@
 //! The report of a deck, and totals.
 
-use crate::deck::{read_case, Case, MOST_CHEMICALS, MOST_RECEPTORS};
-use crate::page::{pathways, Body, Media, Site, MOST_QUOTIENT, MOST_RISK, MOST_X};
+use crate::deck::{read_case, Case, Sort, MOST_CHEMICALS, MOST_RECEPTORS};
+use crate::page::{composite, pathways, Body, Media, Site, MOST_QUOTIENT, MOST_RISK, MOST_X};
 use crate::pairs::Pair;
 use crate::Outcome;
 
@@ -20,10 +20,10 @@ type Line = [Units; 2];
 const MOST_LINES: usize = MOST_RECEPTORS * MOST_CHEMICALS * 6;
 
 /// The report into `out`, or where the deck stops and `out` as it was.
-pub fn report(deck: &[u8], out: &mut [u8]) -> Outcome {
+pub fn report(sort: Sort, deck: &[u8], out: &mut [u8]) -> Outcome {
     let mut case = Case::empty();
     let mut lines = [[None; 2]; MOST_LINES];
-    match work(deck, out.len(), &mut case, &mut lines) {
+    match work(sort, deck, out.len(), &mut case, &mut lines) {
         Ok(()) => {
             let length = case.report_length();
             write(&case, &lines, &mut out[..length]);
@@ -33,9 +33,25 @@ pub fn report(deck: &[u8], out: &mut [u8]) -> Outcome {
     }
 }
 
+/// The length of the report that a deck would have, or where its reading stops.
+pub fn report_length(sort: Sort, deck: &[u8]) -> Result<usize, Outcome> {
+    let mut case = Case::empty();
+    read_reported(sort, deck, &mut case)?;
+    Ok(case.report_length())
+}
+
+/// Reads into an empty case, its receptors those that are reported: from here on a composite is a receptor like any other.
+fn read_reported(sort: Sort, deck: &[u8], case: &mut Case) -> Result<(), Outcome> {
+    read_case(sort, deck, case)?;
+    if sort == Sort::Composite {
+        case.set_only_receptor(composite(case.receptors()));
+    }
+    Ok(())
+}
+
 /// Everything but writing, since a refusal leaves the buffer alone.
-fn work(deck: &[u8], room: usize, case: &mut Case, lines: &mut [Line; MOST_LINES]) -> Result<(), Outcome> {
-    read_case(deck, case)?;
+fn work(sort: Sort, deck: &[u8], room: usize, case: &mut Case, lines: &mut [Line; MOST_LINES]) -> Result<(), Outcome> {
+    read_reported(sort, deck, case)?;
     if room < case.report_length() {
         return Err((51, 0, 0));
     }
@@ -186,13 +202,31 @@ mod tests {
     const CHEMICAL: &str = "1 1 1 0 0 1 0 0 0.001 0 100 0 0 0.1 10 1 1 0.1 0.001 0.001 1 -";
     const RECEPTOR: &str = "20 5 27375 10 1 365 80 1 73 146 1000 0.02 400 0.1 1 0.1 0.5 0.2 0.5 1 365";
 
-    fn deck(chemicals: &[&str], receptors: usize) -> Vec<u8> {
+    /// Receptors from id 1 on.
+    fn deck_of(chemicals: &[&str], receptors: &[String]) -> Vec<u8> {
         let mut deck = Vec::new();
         record(&mut deck, 'S', 1, SITE);
         chemicals.iter().enumerate().for_each(|(i, c)| record(&mut deck, 'C', i + 1, c));
-        (1..=receptors).for_each(|r| record(&mut deck, 'R', r, RECEPTOR));
+        receptors.iter().enumerate().for_each(|(i, r)| record(&mut deck, 'R', i + 1, r));
         deck.extend(format!("EN{:78}\n", "").bytes());
         deck
+    }
+
+    fn deck(chemicals: &[&str], receptors: usize) -> Vec<u8> {
+        deck_of(chemicals, &vec![RECEPTOR.to_string(); receptors])
+    }
+
+    fn report(deck: &[u8], out: &mut [u8]) -> Outcome {
+        super::report(Sort::Ordinary, deck, out)
+    }
+
+    fn composite_report(deck: &[u8], out: &mut [u8]) -> Outcome {
+        super::report(Sort::Composite, deck, out)
+    }
+
+    /// A life stage: slot 22 blank, these years in slot 23.
+    fn stage(receptor: &str, years: &str) -> String {
+        format!("{receptor}  {years}")
     }
 
     #[test]
@@ -309,6 +343,144 @@ mod tests {
         let at = |rfdi: &str| deck(&[&CHEMICAL.replacen("0.001 0.001 1", &format!("0.001 {rfdi} 1"), 1)], 2);
         assert_eq!(report(&at("5E-08"), &mut out), (0, 14 * LINE, 0));
         assert_eq!(report(&at("4.999999E-08"), &mut out), (42, 1, 0));
+    }
+
+    #[test]
+    fn composite_lengths() {
+        let stages = |n| vec![stage(RECEPTOR, "7"); n];
+        let mut out = vec![b'#'; crate::LONGEST_REPORT];
+        let full = deck_of(&[CHEMICAL; 16], &stages(8));
+        assert_eq!(full.len(), 8_019);
+        assert_eq!(crate::read(Sort::Composite, &full), (0, 0, 0));
+        assert_eq!(crate::read(Sort::Ordinary, &full), (11, 0, 0));
+        // One receptor's report: 16 × 6 lines and a total line.
+        assert_eq!(composite_report(&full, &mut out[..9_214]), (51, 0, 0));
+        assert!(out.iter().all(|&b| b == b'#'));
+        assert_eq!(composite_report(&full, &mut out), (0, 9_215, 0));
+        assert!(out[9_215..].iter().all(|&b| b == b'#'));
+        let over = deck_of(&[CHEMICAL; 16], &stages(9));
+        for n in [0, 8_018, 8_020, 8_100, over.len()] {
+            assert_eq!(composite_report(&over[..n], &mut out), (11, 0, 0), "{n}");
+        }
+        // A ninth receptor, on line 2 + 4 + 32 + 1; a fifth in an ordinary deck.
+        assert_eq!(composite_report(&deck_of(&[CHEMICAL], &stages(9)), &mut out), (21, 39, 0));
+        assert_eq!(report(&deck(&[CHEMICAL], 5), &mut out), (21, 23, 0));
+        assert_eq!(composite_report(&deck_of(&[CHEMICAL; 17], &stages(1)), &mut out), (21, 67, 0));
+        assert_eq!(composite_report(&deck_of(&[CHEMICAL], &[]), &mut out), (21, 7, 0));
+    }
+
+    #[test]
+    fn years_are_needed_in_a_composites_deck_alone() {
+        let mut out = [b'#'; 7 * LINE];
+        // The second stage's; line 14 is its R4.
+        let mut refused = |years: &str, number: u32| {
+            let deck = deck_of(&[CHEMICAL], &[stage(RECEPTOR, "2"), stage(RECEPTOR, years)]);
+            assert_eq!(composite_report(&deck, &mut out), (number, 14, 5), "{years}");
+            assert_eq!(crate::read(Sort::Composite, &deck), (number, 14, 5), "{years}");
+            assert_eq!(out, [b'#'; 7 * LINE]);
+        };
+        for years in ["", "-"] {
+            refused(years, 32);
+        }
+        for years in ["0", "0.0", "0E+99", "000000000000", "9.999999E-21", "1E-21", "1000000000.1", "1E+10"] {
+            refused(years, 33);
+        }
+        for years in ["-1", "4,5", ".5", "--"] {
+            refused(years, 31);
+        }
+        for years in ["1E-20", "0.0000000001", "1E+09", "1000000000.0"] {
+            let deck = deck_of(&[CHEMICAL], &[stage(RECEPTOR, "2"), stage(RECEPTOR, years)]);
+            assert_eq!(composite_report(&deck, &mut out), (0, 7 * LINE, 0), "{years}");
+        }
+        // The slots around them stay blank; so do the years of an ordinary deck, whatever they say.
+        let (before, after) = (format!("{RECEPTOR} 1 2"), format!("{RECEPTOR}  2 1"));
+        assert_eq!(composite_report(&deck_of(&[CHEMICAL], &[before]), &mut out), (32, 10, 4));
+        assert_eq!(composite_report(&deck_of(&[CHEMICAL], &[after]), &mut out), (32, 10, 6));
+        for years in ["2", "0", "-", "1E+99"] {
+            let deck = deck_of(&[CHEMICAL], &[stage(RECEPTOR, years)]);
+            assert_eq!(report(&deck, &mut out), (32, 10, 5), "{years}");
+        }
+        assert_eq!(report(&deck_of(&[CHEMICAL], &[stage(RECEPTOR, "x")]), &mut out), (31, 10, 5));
+    }
+
+    #[test]
+    fn a_stages_own_ed_and_atc_are_needed_and_not_used() {
+        let with = |ed: &str, atc: &str| {
+            let odd = RECEPTOR.replacen("20 5 27375", &format!("20 {ed} {atc}"), 1);
+            deck_of(&[CHEMICAL], &[stage(RECEPTOR, "2.5"), stage(&odd, "2.5")])
+        };
+        let (mut out, mut other) = ([0; 7 * LINE], [0; 7 * LINE]);
+        assert_eq!(composite_report(&with("5", "27375"), &mut out), (0, 7 * LINE, 0));
+        assert_eq!(composite_report(&with("1E-20", "1E+09"), &mut other), (0, 7 * LINE, 0));
+        assert_eq!(out, other);
+        assert_eq!(composite_report(&with("", "27375"), &mut out), (32, 11, 2));
+        assert_eq!(composite_report(&with("5", "-"), &mut out), (32, 11, 3));
+        assert_eq!(composite_report(&with("0", "27375"), &mut out), (33, 11, 2));
+        assert_eq!(composite_report(&with("5", "1E+10"), &mut out), (33, 11, 3));
+    }
+
+    #[test]
+    fn a_composite_of_one_stage() {
+        // Short numbers: years × value is a working number, and so is what it leaves when divided again.
+        for (years, days) in
+            [("5", "1825"), ("0.5", "182.5"), ("75", "27375"), ("4.5", "1642.5"), ("1E+09", "3.65E+11")]
+        {
+            let composite = deck_of(&[CHEMICAL, CHEMICAL], &[stage(RECEPTOR, years)]);
+            let mut out = [b'#'; 13 * LINE + 3];
+            assert_eq!(composite_report(&composite, &mut out), (0, 13 * LINE, 0));
+            assert_eq!(out[13 * LINE..], *b"###");
+            let plain = RECEPTOR.replacen("20 5 27375", &format!("20 {years} {days}"), 1);
+            let mut other = [b'#'; 13 * LINE + 3];
+            let told = report(&deck_of(&[CHEMICAL, CHEMICAL], &[plain]), &mut other);
+            if years == "1E+09" {
+                // A composite's own ATc may be out of a field's range.
+                assert_eq!(told, (33, 11, 3));
+            } else {
+                assert_eq!(told, (0, 13 * LINE, 0));
+                assert_eq!(out, other, "{years}");
+            }
+        }
+        // Risk is worked with the years' own days: 20 × 1825 instead of 20 × 27375.
+        let mut out = [0; 7 * LINE];
+        assert_eq!(composite_report(&deck_of(&[CHEMICAL], &[stage(RECEPTOR, "5")]), &mut out), (0, 7 * LINE, 0));
+        assert_eq!(out[LINE + 54..LINE + 94], *b"           120000000           120000000");
+    }
+
+    #[test]
+    fn a_composite_is_reported_under_the_first_id() {
+        let other = RECEPTOR.replacen("20 5", "60 5", 1);
+        let mut deck = deck_of(&[CHEMICAL], &[stage(RECEPTOR, "1"), stage(&other, "3")]);
+        // Ids 41 and 999999; the deck's ids are of one figure.
+        for line in deck.chunks_exact_mut(crate::deck::LINE).filter(|l| l[0] == b'R') {
+            let id: &[u8; 6] = if line[7] == b'1' { b"    41" } else { b"999999" };
+            line[2..8].copy_from_slice(id);
+        }
+        let mut out = [0; 7 * LINE];
+        assert_eq!(composite_report(&deck, &mut out), (0, 7 * LINE, 0));
+        assert!(out.chunks(LINE).all(|line| line.starts_with(b"    41")));
+        // BW (20 + 180) / 4 = 50, so 0.2 where the example's 20 kg gives 0.5.
+        assert_eq!(out[14..54], *b"        200000000000        200000000000");
+    }
+
+    #[test]
+    fn a_composites_own_refusals_are_told_of_its_one_receptor() {
+        let stages = |first: &str| vec![stage(first, "1"), stage(RECEPTOR, "1"), stage(RECEPTOR, "2")];
+        let mut out = [0; 13 * LINE];
+        // The first quotient is 5E-4 / RfDi, in the second chemical at the cap and above.
+        let at = |rfdi: &str| {
+            let second = CHEMICAL.replacen("0.001 0.001 1", &format!("0.001 {rfdi} 1"), 1);
+            deck_of(&[CHEMICAL, &second], &stages(RECEPTOR))
+        };
+        assert_eq!(composite_report(&at("5E-08"), &mut out), (0, 13 * LINE, 0));
+        assert_eq!(composite_report(&at("4.999999E-08"), &mut out), (42, 7, 0));
+        assert_eq!(composite_report(&at("4.999999E-08"), &mut out[..13 * LINE - 1]), (51, 0, 0));
+        // No stage's own figures are judged: the first alone would stop with 42, the mean does not.
+        let light = RECEPTOR.replacen("20 5", "0.0004 5", 1);
+        let alone = deck_of(&[CHEMICAL], std::slice::from_ref(&light));
+        assert_eq!(report(&alone, &mut out), (42, 1, 0));
+        assert_eq!(composite_report(&deck_of(&[CHEMICAL], &stages(&light)), &mut out), (0, 7 * LINE, 0));
+        let decaying = deck_of(&[CHEMICAL, &decaying("3")], &stages(RECEPTOR));
+        assert_eq!(composite_report(&decaying, &mut out), (41, 2, 0));
     }
 
     #[test]

@@ -12,7 +12,7 @@ use records::no_case;
 use scanning::bad_length;
 use scanning::scan_lines;
 use slots::SLOTS;
-pub use slots::Sort;
+use slots::Sort;
 pub use spelling::lowered;
 pub use spelling::raised;
 use spelling::word;

@@ -1,13 +1,17 @@
-// Reads the stored decks of the file `decks` and compares each answer with the one stored beside it.
+// Reads the stored decks of the file `decks` as ordinary ones, then those of `composites` as composites', and compares each answer with the one
+// stored beside it.
 //
 // A stored deck is a line of five numbers in 6 columns each, then its bytes: its length; the number, line and field of the
 // refusal, or 0 and how many chemicals and receptors there are; and a checksum of the case.
 use deck::Case;
+use deck::MAX_RECEPTORS;
+use deck::MAX_STAGES;
 use deck::Reading;
 use deck::Record;
 use deck::Value;
 use deck::Word;
 use libc::STDOUT_FILENO;
+use slots::Sort;
 ghost use Prim.Native.Nat.{_+_, _<_, _≤_};
 
 const COLUMNS: usize = 6;
@@ -102,23 +106,33 @@ fn mixed_record(sum: u64, record: Record) -> u64
     all
 }
 
-// Every record of the case, used or not.
-fn mixed_case(case: Case) -> u64 {
+// How many receptors a deck of this sort may have.
+fn room(sort: Sort) -> usize
+    ensures { λ r. ⌜ r ≤ 8 ⌝ }
+{
+    match sort {
+        Sort::Ordinary => MAX_RECEPTORS,
+        Sort::Composite => MAX_STAGES,
+    }
+}
+
+// Every record that a deck of this sort may have, used or not.
+fn mixed_case(case: Case, sort: Sort) -> u64 {
     let mut all = mixed_record(0, case.site);
     let chemicals = case.chemicals;
     for i in 0..16 {
         let record = chemicals.records[i];
         all = mixed_record(all, record);
     }
-    mixed_receptors(all, case)
+    mixed_receptors(all, case, room(sort))
 }
 
-fn mixed_receptors(sum: u64, case: Case) -> u64
-    requires { ⌜ sum < 999983 ⌝ }
+fn mixed_receptors(sum: u64, case: Case, room: usize) -> u64
+    requires { ⌜ (sum < 999983) × (room ≤ 8) ⌝ }
 {
     let receptors = case.receptors;
     let mut all = sum;
-    for i in 0..4 {
+    for i in 0..room {
         let record = receptors.records[i];
         all = mixed_record(all, record);
     }
@@ -126,14 +140,14 @@ fn mixed_receptors(sum: u64, case: Case) -> u64
 }
 
 // The line and the field of a refusal, or how many chemicals and receptors the case has.
-fn agrees(expected: Stored, reading: Reading) -> bool {
+fn agrees(expected: Stored, reading: Reading, sort: Sort) -> bool {
     let status = reading.status;
     let told = deck::tell(status);
     if told.number as u64 != expected.number {
         return false;
     }
     let case = reading.case;
-    if mixed_case(case) != expected.checksum {
+    if mixed_case(case, sort) != expected.checksum {
         return false;
     }
     if told.number == 0 {
@@ -166,13 +180,13 @@ fn one_more(n: u64) -> u64 {
     std::num::wrapping_add_u64(n, 1)
 }
 
-fn counted(totals: Totals, expected: Stored, deck: &[u8]) -> Totals {
+fn counted(totals: Totals, expected: Stored, deck: &[u8], sort: Sort) -> Totals {
     let mut next = totals;
     next.decks = one_more(totals.decks);
     if expected.number != 0 {
         next.stopped = one_more(totals.stopped);
     }
-    if !agrees(expected, deck::read(deck)) {
+    if !agrees(expected, deck::read(deck, sort), sort) {
         next.failed = one_more(totals.failed);
         failure(next.decks, expected);
     }
@@ -189,7 +203,7 @@ fn report(totals: Totals) {
 }
 
 // The deck whose bytes come next, as many as there is room for.
-fn answered(fd: i32, bytes: &mut [u8], expected: Stored, totals: Totals) -> Step {
+fn answered(fd: i32, bytes: &mut [u8], expected: Stored, totals: Totals, sort: Sort) -> Step {
     let got = io::read_full(fd, bytes);
     if got < bytes.len() {
         return Step {
@@ -197,14 +211,14 @@ fn answered(fd: i32, bytes: &mut [u8], expected: Stored, totals: Totals) -> Step
             totals,
         };
     }
-    let next = counted(totals, expected, bytes);
+    let next = counted(totals, expected, bytes, sort);
     Step {
         ended: false,
         totals: next,
     }
 }
 
-fn next_step(fd: i32, totals: Totals) -> Step {
+fn next_step(fd: i32, totals: Totals, sort: Sort) -> Step {
     let mut head = [0u8; HEAD];
     let got = io::read_full(fd, &mut head);
     let expected = stored_in(&head);
@@ -222,11 +236,11 @@ fn next_step(fd: i32, totals: Totals) -> Step {
         };
     }
     let mut bytes = [0u8; ROOM];
-    answered(fd, &mut bytes[..length], expected, totals)
+    answered(fd, &mut bytes[..length], expected, totals, sort)
 }
 
 // Each deck in turn, up to the file's end.
-fn trial(fd: i32) -> Totals {
+fn trial(fd: i32, sort: Sort) -> Totals {
     let mut totals = Totals {
         decks: 0,
         stopped: 0,
@@ -234,7 +248,7 @@ fn trial(fd: i32) -> Totals {
     };
     let mut i: usize = 0;
     while i < MOST {
-        let next = next_step(fd, totals);
+        let next = next_step(fd, totals, sort);
         totals = next.totals;
         if next.ended {
             return totals;
@@ -244,13 +258,18 @@ fn trial(fd: i32) -> Totals {
     totals
 }
 
-fn main() {
-    let path = b"decks";
+// The file's decks, each read as one of this sort.
+fn run(path: &[u8], sort: Sort) {
     let fd = os::open_read(path);
     if fd < 0 {
         os::fail(path);
         return;
     }
-    report(trial(fd));
+    report(trial(fd, sort));
     libc::close(fd);
+}
+
+fn main() {
+    run(b"decks", Sort::Ordinary);
+    run(b"composites", Sort::Composite);
 }

@@ -12,7 +12,7 @@ use twin::calls::{self, Answer, Raw};
 use twin::deck::Printed;
 use twin::decks::{everyday, everyday_eleven};
 use twin::rng::Rng;
-use twin::{ffi, LONGEST_REPORT};
+use twin::{ffi, Sort, LONGEST_REPORT};
 
 /// The twin's calls in the shape of the library's, not inlined, as the library's cannot be.
 mod own {
@@ -261,26 +261,26 @@ fn counts<'a>(inputs: &'a [Raw], unit: i32) -> Item<'a> {
     Item { name: "in units".to_string(), calls: inputs.len(), library, twin }
 }
 
-/// Reading alone and the whole report of some decks of one size.
-fn deck_items<'a>(size: &str, decks: &'a [Vec<u8>]) -> [Item<'a>; 2] {
+/// Reading alone and the whole report of some decks of one sort and size.
+fn deck_items<'a>(size: &str, sort: Sort, decks: &'a [Vec<u8>]) -> [Item<'a>; 2] {
     for deck in decks {
         let (mut l, mut t) = (vec![0; LONGEST_REPORT], vec![0; LONGEST_REPORT]);
-        alike(size, ffi::read(deck), twin::read(deck));
-        alike(size, ffi::report(deck, &mut l), twin::report(deck, &mut t));
+        alike(size, ffi::read(sort, deck), twin::read(sort, deck));
+        alike(size, ffi::report(sort, deck, &mut l), twin::report(sort, deck, &mut t));
         alike(size, l, t);
     }
-    let read = |call: fn(&[u8]) -> twin::Outcome| {
+    let read = |call: fn(Sort, &[u8]) -> twin::Outcome| {
         move || {
             for deck in decks {
-                black_box(call(black_box(deck)));
+                black_box(call(black_box(sort), black_box(deck)));
             }
         }
     };
-    let report = |call: fn(&[u8], &mut [u8]) -> twin::Outcome| {
+    let report = |call: fn(Sort, &[u8], &mut [u8]) -> twin::Outcome| {
         let mut out = vec![0; LONGEST_REPORT];
         move || {
             for deck in decks {
-                black_box(call(black_box(deck), &mut out));
+                black_box(call(black_box(sort), black_box(deck), &mut out));
                 black_box(&out);
             }
         }
@@ -303,6 +303,10 @@ fn deck_items<'a>(size: &str, decks: &'a [Vec<u8>]) -> [Item<'a>; 2] {
 
 /// Chemicals and receptors of the decks.
 const SIZES: [(usize, usize); 3] = [(1, 1), (4, 2), (16, 4)];
+/// Chemicals and stages of a composite's.
+const COMPOSITE_SIZES: [(usize, usize); 2] = [(1, 8), (16, 8)];
+
+type Make = fn(Sort, u64, usize, usize) -> Vec<u8>;
 
 fn main() {
     let args: Vec<String> = std::env::args().skip(1).collect();
@@ -332,10 +336,16 @@ fn main() {
             (rng.between(0, 10i64.pow(decimals as u32) - 1) as u64, -decimals as i32)
         })
         .collect();
-    let four = |make: fn(u64, usize, usize) -> Vec<u8>, (c, r)| (0..4).map(|seed| make(seed, c, r)).collect();
-    let mut decks: Vec<(String, Vec<Vec<u8>>)> = Vec::new();
-    decks.extend(SIZES.map(|(c, r)| (format!("{c} × {r}"), four(everyday, (c, r)))));
-    decks.extend(SIZES.map(|(c, r)| (format!("{c} × {r} (11 digits)"), four(everyday_eleven, (c, r)))));
+    let four = |make: Make, sort, (c, r)| (0..4).map(|seed| make(sort, seed, c, r)).collect();
+    let (ordinary, composite) = (Sort::Ordinary, Sort::Composite);
+    let mut decks: Vec<(String, Sort, Vec<Vec<u8>>)> = Vec::new();
+    decks.extend(SIZES.map(|(c, r)| (format!("{c} × {r}"), ordinary, four(everyday, ordinary, (c, r)))));
+    decks.extend(
+        SIZES.map(|(c, r)| (format!("{c} × {r} (11 digits)"), ordinary, four(everyday_eleven, ordinary, (c, r)))),
+    );
+    decks.extend(
+        COMPOSITE_SIZES.map(|(c, r)| (format!("{c} × {r} stages"), composite, four(everyday, composite, (c, r)))),
+    );
 
     let mut items = vec![
         on_printed("entry", &printed, ffi::entry, own::entry),
@@ -349,11 +359,11 @@ fn main() {
         counts(&quotients, -12),
         on_one("series, 256 terms", &xs, ffi::series, own::series),
     ];
-    for (size, decks) in &decks {
-        items.extend(deck_items(size, decks));
+    for (size, sort, decks) in &decks {
+        items.extend(deck_items(size, *sort, decks));
     }
     let timed = run(items, rounds);
-    let sizes: Vec<&str> = decks.iter().map(|(size, _)| size.as_str()).collect();
+    let sizes: Vec<&str> = decks.iter().map(|(size, ..)| size.as_str()).collect();
     let text = markdown(&timed, &sizes, rounds);
     print!("{text}");
     let page = std::fs::read_to_string(page_path).unwrap_or_default();
@@ -396,8 +406,9 @@ fn markdown(timed: &[Timed], sizes: &[&str], rounds: usize) -> String {
     );
     let _ = writeln!(
         text,
-        "decks are chemicals × receptors, those of 11 digits the same with each number moved by less than its last place."
+        "decks are chemicals × receptors, those of 11 digits the same with each number moved by less than its last place;"
     );
+    let _ = writeln!(text, "decks of stages go to the composite call, which reports one receptor.");
     let _ = writeln!(text, "Ratio: library by twin, median of the rounds' own ratios.\n");
     let _ = writeln!(text, "| Call | Library, ns | Twin, ns | Library / twin |\n|---|---:|---:|---:|");
     for t in timed {
@@ -441,7 +452,7 @@ fn svg(timed: &[Timed], rounds: usize) -> String {
 </style>
 <rect class="back" width="940" height="{height:.0}"/>
 <text class="text" x="20" y="28" font-size="17" font-weight="600">Library and twin: nanoseconds of one call</text>
-<text class="soft" x="20" y="48">Medians of {rounds} rounds in turn on the same inputs; decks are chemicals × receptors. Shorter is faster.</text>
+<text class="soft" x="20" y="48">Medians of {rounds} rounds in turn on the same inputs; decks are chemicals × receptors or stages. Shorter is faster.</text>
 <rect class="library" x="20" y="60" width="12" height="12"/><text class="text" x="38" y="71">library</text>
 <rect class="twin" x="100" y="60" width="12" height="12"/><text class="text" x="118" y="71">twin</text>
 <text class="soft" x="920" y="{:.0}" text-anchor="end">library / twin</text>"##,

@@ -1,19 +1,24 @@
 //! Library and twin side by side on the same decks, lists and pairs.
 //!
-//!     compare [SEED [DECKS [VECTORS]]]      1, 200,000 and 1,000,000 if left out
-//!     compare deck FILE ROOM BEFORE         one deck again: buffer length, seed of the buffer's earlier content
-//!     compare vector SEED PLACE             one call again
+//!     compare [SEED [DECKS [VECTORS]]]              1, 200,000 and 1,000,000 if left out
+//!     compare deck FILE ROOM BEFORE [composite]     one deck again: buffer length, seed of the buffer's earlier content
+//!     compare vector SEED PLACE                     one call again
 //!
-//! Status 1 if anything differs or, in a run of at least 200,000 decks, if an outcome came up too seldom.
+//! DECKS are ordinary ones; a third as many decks of composites come on top. One in eight of either is also handed to the
+//! other's call. Status 1 if anything differs or, in a run of at least 200,000 decks, if an outcome came up too seldom.
 
 use std::process::ExitCode;
 use twin::calls::{self, Answer, Raw};
 use twin::decks::{trial, Trial};
 use twin::rng::Rng;
 use twin::vectors::{self, Call, NAMES};
-use twin::{ffi, Outcome, LONGEST_REPORT};
+use twin::{ffi, Outcome, Sort, LONGEST_REPORT};
 
 const FULL: u64 = 200_000;
+/// Ordinary decks to each one of a composite.
+const ORDINARY: u64 = 3;
+/// Decks to each one that is also handed to the other call.
+const CROSSED: u64 = 8;
 const NUMBERS: [u32; 11] = [0, 11, 12, 21, 22, 31, 32, 33, 51, 41, 42];
 
 /// Bytes on either side of a lent buffer that no call may touch.
@@ -33,7 +38,7 @@ impl Bench {
     }
 
     /// The twin's outcome, and what differs.
-    fn deck(&mut self, t: &Trial) -> (Outcome, Option<String>) {
+    fn deck(&mut self, sort: Sort, t: &Trial) -> (Outcome, Option<String>) {
         let all = t.room + 2 * GUARD;
         let rng = &mut Rng::new(t.before);
         self.before[..all].chunks_mut(8).for_each(|c| c.copy_from_slice(&rng.word().to_le_bytes()[..c.len()]));
@@ -42,10 +47,10 @@ impl Bench {
         let lent = GUARD..GUARD + t.room;
 
         let deck = t.deck.clone();
-        let library = ffi::report(&deck, &mut self.library[lent.clone()]);
-        let library_read = ffi::read(&deck);
-        let twin = twin::report(&t.deck, &mut self.twin[lent]);
-        let twin_read = twin::read(&t.deck);
+        let library = ffi::report(sort, &deck, &mut self.library[lent.clone()]);
+        let library_read = ffi::read(sort, &deck);
+        let twin = twin::report(sort, &t.deck, &mut self.twin[lent]);
+        let twin_read = twin::read(sort, &t.deck);
 
         // The bytes a report covers; none after a refusal.
         let length = if twin.0 == 0 { twin.1 } else { 0 };
@@ -148,42 +153,67 @@ fn twin_left(call: &Call) -> Left {
 /// Differences shown in full; the rest are only counted.
 const SHOWN: u64 = 10;
 
-fn decks(seed: u64, count: u64) -> bool {
+/// How often each outcome came up.
+type Outcomes = [u64; 64];
+
+/// The decks of one sort; `full` if each outcome has to come up often enough.
+fn decks(sort: Sort, seed: u64, count: u64, full: bool) -> bool {
+    let (what_deck, file_name, other) = match sort {
+        Sort::Ordinary => ("deck", "difference", Sort::Composite),
+        Sort::Composite => ("composite deck", "difference-composite", Sort::Ordinary),
+    };
+    let name = |call: Sort| match call {
+        Sort::Ordinary => "ordinary",
+        Sort::Composite => "composite",
+    };
     let mut bench = Bench::new();
-    let mut outcomes = [0u64; 64];
+    // By this sort's own call, and by the other.
+    let (mut own, mut crossed): (Outcomes, Outcomes) = ([0; 64], [0; 64]);
     let mut different = 0;
     for place in 0..count {
-        let t = trial(seed, place);
-        let (outcome, differs) = bench.deck(&t);
-        outcomes[outcome.0 as usize] += 1;
-        if let Some(what) = differs {
+        let t = trial(sort, seed, place);
+        let mut hand = |call: Sort, outcomes: &mut Outcomes| {
+            let (outcome, differs) = bench.deck(call, &t);
+            outcomes[outcome.0 as usize] += 1;
+            let Some(what) = differs else { return };
             different += 1;
-            if different <= SHOWN {
-                let file = format!("difference-{seed}-{place}.deck");
-                println!("deck {place} differs: {what}");
-                match std::fs::write(&file, &t.deck) {
-                    Ok(()) => println!("  again: compare deck {file} {} {}", t.room, t.before),
-                    Err(e) => println!("  {file} could not be written: {e}"),
-                }
+            if different > SHOWN {
+                return;
             }
+            let file = format!("{file_name}-{seed}-{place}.deck");
+            println!("{what_deck} {place} differs, {} call: {what}", name(call));
+            let composite = if call == Sort::Composite { " composite" } else { "" };
+            match std::fs::write(&file, &t.deck) {
+                Ok(()) => println!("  again: compare deck {file} {} {}{composite}", t.room, t.before),
+                Err(e) => println!("  {file} could not be written: {e}"),
+            }
+        };
+        hand(sort, &mut own);
+        if place % CROSSED == 0 {
+            hand(other, &mut crossed);
         }
     }
-    println!("decks, seed {seed}: {count}");
+    println!("{what_deck}s, seed {seed}: {count}");
+    let shown = |number: u32| if number == 0 { "accepted".to_string() } else { number.to_string() };
     for number in NUMBERS {
-        println!(
-            "  {:>8}  {}",
-            outcomes[number as usize],
-            if number == 0 { "accepted".to_string() } else { number.to_string() }
-        );
+        println!("  {:>8}  {}", own[number as usize], shown(number));
     }
+    let all_crossed = crossed.iter().sum::<u64>();
+    println!("  {all_crossed:>8}  of these also to the {} call:", name(other));
+    let counts: Vec<String> = NUMBERS.map(|n| format!("{} {}", crossed[n as usize], shown(n))).into();
+    println!("            {}", counts.join(", "));
     println!("  {different:>8}  different");
     let mut right = different == 0;
-    if count >= FULL {
-        let seldom: Vec<u32> =
-            NUMBERS.into_iter().filter(|&n| n != 0 && outcomes[n as usize] < 200 * count / FULL).collect();
-        let accepted = outcomes[0];
+    if full {
+        let seldom: Vec<u32> = NUMBERS.into_iter().filter(|&n| n != 0 && 1000 * own[n as usize] < count).collect();
+        let accepted = own[0];
         if !seldom.is_empty() || accepted * 100 < 30 * count || (count - accepted) * 100 < 40 * count {
             println!("  too seldom: {seldom:?}, or the accepted not within 30 and 60 in 100");
+            right = false;
+        }
+        // Slot 23 has to stop most of these; but composites' decks whose years were forgotten are ordinary ones.
+        if 2 * crossed[32] < all_crossed || (sort == Sort::Composite && 1000 * crossed[0] < all_crossed) {
+            println!("  the {} call refused too few with 32, or accepted too few", name(other));
             right = false;
         }
     }
@@ -231,13 +261,14 @@ fn main() -> ExitCode {
     let args: Vec<String> = std::env::args().skip(1).collect();
     let args: Vec<&str> = args.iter().map(String::as_str).collect();
     let right = match args[..] {
-        ["deck", file, room, before] => {
+        ["deck", file, room, before] | ["deck", file, room, before, "composite"] => {
+            let sort = if args.len() == 5 { Sort::Composite } else { Sort::Ordinary };
             let deck = std::fs::read(file).unwrap_or_else(|e| {
                 eprintln!("{file}: {e}");
                 std::process::exit(2)
             });
             let room = (whole(room) as usize).min(2 * LONGEST_REPORT);
-            let (outcome, differs) = Bench::new().deck(&Trial { deck, room, before: whole(before) });
+            let (outcome, differs) = Bench::new().deck(sort, &Trial { deck, room, before: whole(before) });
             println!("twin {outcome:?}; {}", differs.as_deref().unwrap_or("the same"));
             differs.is_none()
         }
@@ -250,12 +281,14 @@ fn main() -> ExitCode {
         _ if args.len() <= 3 => {
             let or = |i: usize, usual: u64| args.get(i).map_or(usual, |a| whole(a));
             let seed = or(0, 1);
-            let decks = decks(seed, or(1, FULL));
+            let count = or(1, FULL);
+            let ordinary = decks(Sort::Ordinary, seed, count, count >= FULL);
+            let composite = decks(Sort::Composite, seed, count / ORDINARY, count >= FULL);
             let calls = pair_calls(seed, or(2, 1_000_000));
-            decks && calls
+            ordinary && composite && calls
         }
         _ => {
-            eprintln!("compare [SEED [DECKS [VECTORS]]] | deck FILE ROOM BEFORE | vector SEED PLACE");
+            eprintln!("compare [SEED [DECKS [VECTORS]]] | deck FILE ROOM BEFORE [composite] | vector SEED PLACE");
             return ExitCode::from(2);
         }
     };

@@ -6,10 +6,10 @@ use Rattle.deck_trials.proofs.mixed_case.Statement.{statement}
 use Rattle.deck_trials.proofs.mixed_case.Tie as tie
 
 abbrev Inv-loop : tie.InvT-loop
-Inv-loop case all₀ chemicals i₀ all i = (i ≤ 16) × (all < 999983)
+Inv-loop case sort all₀ chemicals i₀ all i = (i ≤ 16) × (all < 999983)
 
 abbrev μ-loop : tie.MeasureT-loop
-μ-loop case all₀ chemicals i₀ all i = 16 - i
+μ-loop case sort all₀ chemicals i₀ all i = 16 - i
 
 mixed-record-requires : tie.Need-mixed-record-requires Inv-loop μ-loop
 mixed-record-requires c κs = search needs
@@ -35,6 +35,9 @@ loop-less c = search needs
 loop-again : tie.Need-loop-again Inv-loop μ-loop
 loop-again c = search needs
 
+room-requires : tie.Need-room-requires Inv-loop μ-loop
+room-requires c κs = search needs
+
 mixed-receptors-requires : tie.Need-mixed-receptors-requires Inv-loop μ-loop
 mixed-receptors-requires c κs = search needs
 
@@ -55,5 +58,6 @@ mixed-case-spec =
     add-i
     loop-less
     loop-again
+    room-requires
     mixed-receptors-requires
     returns)

@@ -6,10 +6,10 @@ use Rattle.deck_trials.proofs.mixed_receptors.Statement.{statement}
 use Rattle.deck_trials.proofs.mixed_receptors.Tie as tie
 
 abbrev Inv-loop : tie.InvT-loop
-Inv-loop sum receptors all₀ i₀ all i = (i ≤ 4) × (all < 999983)
+Inv-loop sum room receptors all₀ i₀ all i = (i ≤ room) × (all < 999983)
 
 abbrev μ-loop : tie.MeasureT-loop
-μ-loop sum receptors all₀ i₀ all i = 4 - i
+μ-loop sum room receptors all₀ i₀ all i = room - i
 
 loop-holds : tie.Need-loop-holds Inv-loop μ-loop
 loop-holds c = search needs
