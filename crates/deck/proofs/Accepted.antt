@@ -147,7 +147,7 @@ field-fits rule (Number digits power) n f s e =
 field-fits rule Other n f s e = absurd (true≢false (three rule Other n f e .0))
 
 -- ---- what stands in an array that a loop filled
-tabulated : {A : Type 0} (f : ℕ → A) (d : A) (n k : ℕ) → k < n → getD (tabulate n f) k d ≡ f k
+pub tabulated : {A : Type 0} (f : ℕ → A) (d : A) (n k : ℕ) → k < n → getD (tabulate n f) k d ≡ f k
 unfolding tabulate
 tabulated f d zero k h = absurd (not-suc-le-zero h)
 tabulated f d (suc n) k h =

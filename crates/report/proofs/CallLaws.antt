@@ -146,7 +146,7 @@ module _ (call : Call) (deck buffer : List ℕ) where
     unfolding readOf
     deck-read = sym (ap (λ (r : Reading). r .status) of-deck) ∙ status-read
 
-    case-is : reading .case ≡ caseOf deck
+    pub case-is : reading .case ≡ caseOf deck
     unfolding readOf caseFor
     case-is = ap (λ (r : Reading). r .case) of-deck ∙ ap (λ (s : Status). caseFor s deck) deck-read
 

@@ -1,7 +1,7 @@
 -- Cells: what a store of a line's counts changes, and what the cells hold after the lines of a receptor, and of every receptor, are stored.
 -- Assumes nothing.
 use mathlib.Core.Path.{_≡_, refl, sym, ap, _∙_}
-use mathlib.Core.List.{List, [], append-nil}
+use mathlib.Core.List.{List}
 use mathlib.Core.Logic.{⊎-elim, _≢_}
 use Prim.Native.Nat.{ℕ, zero, suc, _+_, _*_, _≤_, _<_}
 use native.Mathlib.Nat.{eq-or-lt-of-le}
@@ -12,8 +12,6 @@ use lib.Seq.{getD-set-same, getD-set-other}
 use Rattle.equations.specs.declared.Effect.{Effect}
 use Rattle.equations.specs.declared.Effect.the-variants.{Hazard, Cancer}
 use Rattle.equations.specs.declared.Values.{Values}
-use Rattle.deck.specs.Cases.{tabulate}
-use Rattle.deck.proofs.Accepted.{filled-at}
 use Rattle.totals.specs.declared.Columns.{Columns}
 use Rattle.sheet.specs.declared.Receptor.{Receptor}
 use Rattle.sheet.specs.declared.Sources.{Sources}
@@ -36,9 +34,6 @@ pub zeros : (n : ℕ) → ZeroFrom 0 (replicate n 0)
 zeros zero k h = refl
 zeros (suc n) zero h = refl
 zeros (suc n) (suc k) h = zeros n k (omega arith)
-
-pub tabulate-at : {A : Type 0} (n : ℕ) (f : ℕ → A) (d : A) (k : ℕ) → k < n → getD (tabulate n f) k d ≡ f k
-tabulate-at {A} n f d k h = ap (λ (l : List A). getD l k d) (sym (append-nil (tabulate n f))) ∙ filled-at f d n [] k h
 
 -- ---- the counts of a line stored
 module _ (cells : List ℕ) (at : ℕ) (columns : Columns) where

@@ -18,6 +18,7 @@ use Rattle.deck.specs.declared.Status.the-variants.{Read, Stopped}
 use Rattle.deck.specs.Conditions.{at, first}
 use Rattle.deck.proofs.First.{orElse, first-append}
 use Rattle.deck.proofs.Scan.{first-read}
+use Rattle.deck.proofs.Accepted.{tabulated}
 use Rattle.deck.proofs.CaseLaws.{length-tabulate}
 use Rattle.totals.specs.declared.Columns.the-variants as Cols
 use Rattle.sheet.specs.declared.Scenario.{Scenario}
@@ -30,7 +31,6 @@ use Rattle.sheet.specs.Counts.{tooMany, isRefused, mediaFor, noMediaAt, 
 use Rattle.sheet.specs.Inner.{columnsOf, aboveCap, mediaWith, sourceOf, sourcesOf, sourceAt, refusedSource, figuresFrom, figureFor, figuresWorked, columnsWorked, isLarge, largeLine, largeWorked, perReceptor, allLarge, partOf, CellsFilled, ZeroFrom}
 use Rattle.sheet.proofs.Chains.{chained-same, flat, chained-each}
 use Rattle.sheet.proofs.ChemicalLaws.{source-at}
-use Rattle.sheet.proofs.CellLaws.{tabulate-at}
 use Rattle.sheet.proofs.SourceLaws.{line-figures}
 
 -- ---- the cells
@@ -71,7 +71,7 @@ module _ (scenario : Scenario) (site′ : Values) (sources : Sources) (cells : L
   unfolding cellsOf
   filled-cells long =
       ext-getD 0 cells (cellsOf scenario) (long ∙ sym (length-tabulate (cellAt scenario) 0 0 2304))
-      (λ k h. filled-at-place k (omega arith) ∙ sym (tabulate-at 2304 (cellAt scenario) 0 k (omega arith)))
+      (λ k h. filled-at-place k (omega arith) ∙ sym (tabulated (cellAt scenario) 0 2304 k (omega arith)))
 
 -- ---- the lines of a scenario of which no chemical stops
 module _ (scenario : Scenario) (site′ : Values) (sources : Sources) (at-site : site′ ≡ valuesOf (scenario .site)) (sources-are : sources ≡ sourcesOf site′ (scenario .chemicals))

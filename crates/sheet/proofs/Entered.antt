@@ -10,8 +10,7 @@ use Rattle.pair.specs.declared.Pair.{Pair}
 use Rattle.pair.specs.Calls.{is, entry}
 use Rattle.slots.specs.declared.Sort.the-variants.{Ordinary}
 use Rattle.slots.specs.Slots.{Slot, ruleFor, ownerOf, placeOf}
-use Rattle.slots.specs.declared.Owner.{Owner}
-use Rattle.slots.specs.declared.Owner.the-variants.{Site, Chemical, Receptor}
+use Rattle.slots.specs.declared.Owner.the-variants.{Receptor}
 use Rattle.equations.specs.Readings.{valueIn, byOwner, inputs}
 use Rattle.equations.proofs.Profile.{Good}
 use Rattle.equations.proofs.LineLaws.{ofSlot, printed-good}
@@ -19,23 +18,19 @@ use Rattle.equations.proofs.ValueLaws.{read-any}
 use Rattle.deck.specs.declared.Case.{Case}
 use Rattle.deck.specs.declared.Record.{Record}
 use Rattle.deck.specs.declared.Value.the-variants.{Printed}
-use Rattle.deck.specs.Cases.{tabulate, noRecord, valueAt, receptorAt, ownersRecord, printed}
+use Rattle.deck.specs.Cases.{tabulate, noRecord, valueAt, receptorAt}
 use Rattle.deck.specs.Ranged.{Fits, Ranged}
 use Rattle.sheet.specs.declared.Receptor as receptors
 use Rattle.sheet.specs.declared.Scenario.{Scenario}
 use Rattle.sheet.specs.Values.{pairOf, noReceptor, receptorIn, pairsAt, entered, scenarioWith, enteredFrom, ordinaryOf, fractionOf, exactFrom, exactAt}
 use Rattle.sheet.proofs.Sound.{Sound}
-use Rattle.sheet.proofs.CellLaws.{tabulate-at}
-use Rattle.sheet.proofs.Inputs.{value-good, value-entered, value-at, made-sound}
+use Rattle.deck.proofs.Accepted.{tabulated}
+use Rattle.sheet.proofs.Inputs.{value-good, value-entered, value-at, receptor-fits, made-sound}
 
 module _ (case : Case) (ranged : Ranged Ordinary case) where
   pub entered-at : (j : ℕ) → j < case .receptors .count → getD (enteredFrom case .list) j noReceptor ≡ entered (receptorAt case j)
   unfolding enteredFrom
-  entered-at j h = tabulate-at 4 (λ k. entered (receptorAt case k)) noReceptor j (omega (arith, ranged .few-receptors))
-
-  receptor-fits : (j : ℕ) → j < case .receptors .count → (s : Slot) → ownerOf s ≡ Receptor → Fits (ruleFor Ordinary s) (valueAt (receptorAt case j) (placeOf s))
-  unfolding printed ownersRecord
-  receptor-fits j h s e = subst (λ (o : Owner). Fits (ruleFor Ordinary s) (valueAt (ownersRecord o case j 0) (placeOf s))) e (ranged .fits j 0 h (ranged .some-chemicals) s)
+  entered-at j h = tabulated (λ k. entered (receptorAt case k)) noReceptor 4 j (omega (arith, ranged .few-receptors))
 
   entered-good : (j : ℕ) → j < case .receptors .count → (s : Slot) → ownerOf s ≡ Receptor
       → Good (ofSlot s) (is (valueIn (getD (enteredFrom case .list) j noReceptor .values) (placeOf s))) (exactFrom case j s)
@@ -45,7 +40,7 @@ module _ (case : Case) (ranged : Ranged Ordinary case) where
       ap (λ (r : receptors.Receptor). valueIn (r .values) (placeOf s)) (entered-at j h) ∙ value-at (receptorAt case j) (placeOf s)
       in
       subst (λ (p : Pair). Good (ofSlot s) (is p) (fractionOf (valueAt (receptorAt case j) (placeOf s)))) (sym at)
-      (printed-good s (value-good Ordinary s (valueAt (receptorAt case j) (placeOf s)) (receptor-fits j h s e)))
+      (printed-good s (value-good Ordinary s (valueAt (receptorAt case j) (placeOf s)) (receptor-fits Ordinary case ranged j h s e)))
 
   receptor-at : (j i : ℕ) → j < case .receptors .count → (s : Slot) → ownerOf s ≡ Receptor
       → pairsAt (ordinaryOf case) j i .value s ≡ pairOf (valueAt (receptorAt case j) (placeOf s))
@@ -58,7 +53,7 @@ module _ (case : Case) (ranged : Ranged Ordinary case) where
   pub receptor-entered : (j i : ℕ) → j < case .receptors .count → (s : Slot) (digits : ℕ) (power : ℤ) → ownerOf s ≡ Receptor
       → valueAt (receptorAt case j) (placeOf s) ≡ Printed power digits → entry digits power ≡ is (pairsAt (ordinaryOf case) j i .value s)
   receptor-entered j i h s digits power e there =
-      value-entered Ordinary s digits power (subst (Fits (ruleFor Ordinary s)) there (receptor-fits j h s e))
+      value-entered Ordinary s digits power (subst (Fits (ruleFor Ordinary s)) there (receptor-fits Ordinary case ranged j h s e))
       ∙ ap (λ (q : Pair). is q) (sym (receptor-at j i h s e ∙ ap pairOf there))
 
   pub ordinary-sound : Sound (ordinaryOf case) (exactAt case)

@@ -14,6 +14,7 @@ use Rattle.pair.specs.Calls.{is}
 use Rattle.equations.specs.declared.Effect.{Effect}
 use Rattle.equations.specs.declared.Effect.the-variants.{Hazard, Cancer}
 use Rattle.deck.proofs.Digits.{both}
+use Rattle.deck.proofs.Accepted.{tabulated}
 use Rattle.deck.proofs.CaseLaws.{length-tabulate}
 use Rattle.totals.specs.declared.Columns.{Columns}
 use Rattle.totals.specs.declared.Columns.the-variants as Cols
@@ -23,7 +24,7 @@ use Rattle.sheet.specs.Sheet.{chained, pathwayAt, columnsAt, addedOver, 
 use Rattle.sheet.specs.Counts.{Part, Mark, Low, High, cellOf, effectAt, partAt, lineColumns, cellAt, cellsOf, columnsFrom, sideOf, isHeld, columnsFound, columnsIn, totalledFrom, totalFound, totalIn}
 use Rattle.sheet.specs.Inner.{partOf, CellsHold}
 use Rattle.sheet.proofs.Chains.{chained-length, flat}
-use Rattle.sheet.proofs.CellLaws.{side-small, part-small, tabulate-at}
+use Rattle.sheet.proofs.CellLaws.{side-small, part-small}
 
 -- ---- columns added up
 added-absent : (u : Columns) → u added Cols.Absent ≡ u
@@ -164,7 +165,7 @@ module _ (scenario : Scenario) (few-chemicals : scenario .chemicals .count ≤ 1
       let a : k / 576 ≡ j = omega arith in
       let b : k % 96 ≡ q = omega arith in
       let c : k % 576 / 96 ≡ 3 * sideOf e + partOf w = omega arith in
-      tabulate-at 2304 (cellAt scenario) 0 k (omega arith)
+      tabulated (cellAt scenario) 0 2304 k (omega arith)
       ∙ rw (a, b, c, column-at e w .0, column-at e w .1, lt-ltb j (scenario .receptors .count) here, lt-ltb q (scenario .chemicals .count * 6) h) refl
 
   cells-long : length (cellsOf scenario) ≡ 2304

@@ -35,7 +35,7 @@ use Rattle.deck.specs.declared.Value.the-variants.{Absent, Printed}
 use Rattle.deck.specs.declared.Filled.{Filled}
 use Rattle.deck.specs.declared.Record.{Record}
 use Rattle.deck.specs.Ranges.{above, below, inRange}
-use Rattle.deck.specs.Cases.{noSlot, valueAt, chemicalAt, ownersRecord, printed}
+use Rattle.deck.specs.Cases.{noSlot, valueAt, chemicalAt, receptorAt, ownersRecord, printed}
 use Rattle.deck.specs.Ranged.{Spelled, Fits, Ranged}
 use Rattle.deck.proofs.Accepted.{range-positive, range-bounds}
 use Rattle.sheet.specs.declared.Receptors.{Receptors}
@@ -207,6 +207,12 @@ source-pair Receptor t a b c k = absurd t
 pub pair-printed : (scenario : Scenario) (j i : ℕ) (s : Slot) → OfSource (ownerOf s) → pairsAt scenario j i .value s ≡ pairOf (printedIn scenario i s)
 unfolding pairsAt inputs printedIn
 pair-printed scenario j i s t = source-pair (ownerOf s) t (scenario .site) (chemicalIn scenario i) (receptorIn scenario j .values) (placeOf s)
+
+-- a receptor's slot is as its rule asks
+pub receptor-fits : (sort : Sort) (case : Case) → Ranged sort case → (j : ℕ) → j < case .receptors .count → (s : Slot) → ownerOf s ≡ Receptor
+    → Fits (ruleFor sort s) (valueAt (receptorAt case j) (placeOf s))
+unfolding printed ownersRecord
+receptor-fits sort case ranged j h s e = subst (λ (o : Owner). Fits (ruleFor sort s) (valueAt (ownersRecord o case j 0) (placeOf s))) e (ranged .fits j 0 h (ranged .some-chemicals) s)
 
 -- ---- a scenario of a case in range, with receptors whose slots' pairs are in range of these values
 module _ (sort : Sort) (case : Case) (ranged : Ranged sort case) where

@@ -11,6 +11,8 @@ use crate::lines::put_all;
 pub use crate::ordinary::ordinary_of;
 use crate::reading::columns_found;
 use crate::reading::total_found;
+pub use crate::values::or_one;
+pub use crate::values::pair_of;
 pub use crate::values::values_of;
 use deck::Chemicals;
 use deck::MAX_CHEMICALS;

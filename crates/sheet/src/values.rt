@@ -23,7 +23,7 @@ ghost use Rattle.sheet.specs.Values.{orOne, pairOf, restOf, valuesOf, pa
 ghost use Rattle.sheet.specs.Inner.{rfdOf, csfOf, referencesOf};
 
 // What a call answered; 1 where it refused, which no value in its range meets.
-fn or_one(a: Answer) -> Pair
+pub fn or_one(a: Answer) -> Pair
     ensures { λ r. ⌜ r ≡ orOne (answer a) ⌝ }
 {
     let Answer::Is(p) = a else {
@@ -33,7 +33,7 @@ fn or_one(a: Answer) -> Pair
 }
 
 // A printed value as a pair; a missing reference value reads as 1.
-fn pair_of(v: Value) -> Pair
+pub fn pair_of(v: Value) -> Pair
     ensures { λ r. ⌜ r ≡ pairOf v ⌝ }
 {
     let Value::Printed { digits, power } = v else {

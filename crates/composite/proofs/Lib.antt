@@ -1,0 +1,5 @@
+-- The crate's laws: the composite as it is worked is the one that is defined, its values are in range of the exact composite's, and so its
+-- report has demands 1 to 3 (`Demands`). Assumes nothing.
+mod StageLaws
+mod Weighing
+pub mod Demands

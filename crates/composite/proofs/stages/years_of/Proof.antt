@@ -1,0 +1,72 @@
+-- `composite::stages::years_of` meets its contract. Assumes nothing.
+use mathlib.Core.Path.{_≡_, sym, ap, _∙_}
+use mathlib.Core.List.{_++_, append-nil}
+use Prim.Native.Nat.{_-_, _≤_, _<_}
+use native.Mathlib.Omega.{arith}
+use borrow.Author.Needs.{needs}
+use lib.ListN.{replicate}
+use Rattle.pair.specs.Number.{one}
+use Rattle.pair.specs.Calls.{onePair}
+use Rattle.slots.specs.Slots.{table, same, isIn, placeIn, ownerOf, placeOf}
+use Rattle.deck.specs.Cases.{tabulate}
+use Rattle.deck.proofs.CaseLaws.{filled-start, filled-more}
+use Rattle.composite.specs.Inner.{pairIn, yearsIn}
+use Rattle.composite.proofs.stages.years_of.Statement.{statement}
+use Rattle.composite.proofs.stages.years_of.Tie as tie
+
+abbrev Inv-loop : tie.InvT-loop
+Inv-loop stages list₀ j₀ list j = (j ≤ 8) × (list ≡ tabulate j (λ i. pairIn (stages .records) i (placeOf "years")) ++ replicate (8 - j) onePair)
+
+abbrev μ-loop : tie.MeasureT-loop
+μ-loop stages list₀ j₀ list j = 8 - j
+
+loop-holds : tie.Need-loop-holds Inv-loop μ-loop
+unfolding onePair one
+loop-holds c = (omega arith, filled-start (λ i. pairIn (c .args .stages .records) i (placeOf "years")) onePair 8)
+
+value-at-requires : tie.Need-value-at-requires Inv-loop μ-loop
+value-at-requires c κs = search needs
+
+mul-list : tie.Need-mul-list Inv-loop μ-loop
+mul-list c = search needs
+
+array-set-from-list : tie.Need-array-set-from-list Inv-loop μ-loop
+array-set-from-list c = search needs
+
+add-j : tie.Need-add-j Inv-loop μ-loop
+add-j c = search needs
+
+loop-less : tie.Need-loop-less Inv-loop μ-loop
+loop-less c = search needs
+
+loop-again : tie.Need-loop-again Inv-loop μ-loop
+unfolding placeOf ownerOf placeIn isIn same table
+loop-again c =
+    let s = c .before .before .before in
+    let l = c .before .before .loop in (
+      omega (arith, c .before .loop-test .taken),
+      filled-more (λ i. pairIn (s .args .stages .records) i (placeOf "years")) onePair 8 (l .j) (omega (arith, c .before .loop-test .taken)) (l .list) (l .inv .1) (c .value-at .result) (c .value-at .ensures),
+    )
+
+returns : tie.Need-returns Inv-loop μ-loop
+unfolding yearsIn
+returns c =
+    let s = c .before .before in
+    let l = c .before .loop in
+    let all : l .j ≡ 8 = omega (arith, c .loop-test .left) in
+    (rw all at (l .inv .1)) ∙ append-nil (tabulate 8 (λ i. pairIn (s .args .stages .records) i (placeOf "years")))
+
+pub years-of-spec : {M : Type 1} → statement M
+years-of-spec =
+    tie.close
+    (tie.spec
+    Inv-loop
+    μ-loop
+    loop-holds
+    value-at-requires
+    mul-list
+    array-set-from-list
+    add-j
+    loop-less
+    loop-again
+    returns)

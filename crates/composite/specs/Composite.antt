@@ -1,0 +1,79 @@
+-- The composite receptor (document 02, P2): one person made of life stages, which a composite's deck has as receptors, each with its years.
+-- The weighting is written once and read twice: on pairs by the working rule, and on exact fractions. From there on the composite is a
+-- receptor like any other: its report is that of Report.antt of `report`, and so are its demands.
+use mathlib.Core.Path.{_≡_}
+use mathlib.Core.Bool.{cond}
+use mathlib.Core.List.{List, [], _∷_}
+use Prim.Native.Nat.{ℕ, zero, suc, _-_, _<_}
+use lib.Dec.{eqb}
+use lib.IntN.{ℤ, pos}
+use Rattle.pair.specs.declared.Pair.{Pair}
+use Rattle.pair.specs.Fraction.{Fraction}
+use Rattle.pair.specs.Calls.{Outcome, is, entry}
+use Rattle.slots.specs.declared.Owner.the-variants as owners
+use Rattle.slots.specs.declared.Sort.the-variants.{Composite}
+use Rattle.slots.specs.Slots.{Slot, ownerOf, placeOf}
+use Rattle.equations.specs.Formula.{Algebra, pairs, fractions}
+use Rattle.deck.specs.declared.Case.{Case}
+use Rattle.deck.specs.declared.Value.the-variants as Values
+use Rattle.deck.specs.Cases.{slotsPerRecord, tabulate, valueAt, receptorAt}
+use Rattle.sheet.specs.declared.Receptor.{Receptor}
+use Rattle.sheet.specs.declared.Receptors.{Receptors}
+use Rattle.sheet.specs.Values.{orOne, pairOf, noReceptor, fractionOf, pairsAt, scenarioWith}
+use Rattle.report.specs.Report.{Call}
+
+-- ---- the weighting, of stages 0 to last; stage j has its slots' values by their places
+-- f 0 + f 1 + .. + f n, in deck order
+unfoldable pub summed : {A : Type 0} → Algebra A → (ℕ → A) → ℕ → A
+summed alg f zero = f 0
+summed alg f (suc n) = alg .plus (summed alg f n) (f (suc n))
+
+unfoldable pub sumOfYears : {A : Type 0} → Algebra A → (ℕ → ℕ → A) → ℕ → A
+sumOfYears alg stage last = summed alg (λ j. stage j (placeOf "years")) last
+
+-- the sum of years × value, divided by the sum of the years
+unfoldable pub mean : {A : Type 0} → Algebra A → (ℕ → ℕ → A) → ℕ → ℕ → A
+mean alg stage last k = alg .over (summed alg (λ j. alg .times (stage j (placeOf "years")) (stage j k)) last) (sumOfYears alg stage last)
+
+-- every field but ED, which is the sum of the years, and ATc, which is 365 × that sum
+unfoldable pub composed : {A : Type 0} → Algebra A → (ℕ → ℕ → A) → ℕ → ℕ → A
+composed alg stage last k =
+    cond (eqb k (placeOf "ED")) (sumOfYears alg stage last)
+    (cond (eqb k (placeOf "ATc")) (alg .times (alg .number 365 (pos 0)) (sumOfYears alg stage last))
+    (mean alg stage last k))
+
+-- ---- a case's stages, as pairs and exactly
+unfoldable pub pairStage : Case → ℕ → ℕ → Outcome Pair
+pairStage case j k = is (pairOf (valueAt (receptorAt case j) k))
+
+unfoldable pub exactStage : Case → ℕ → ℕ → Fraction
+exactStage case j k = fractionOf (valueAt (receptorAt case j) k)
+
+unfoldable pub lastStage : Case → ℕ
+lastStage case = case .receptors .count - 1
+
+-- ---- the composite, under the first one's id
+unfoldable pub compositeReceptor : Case → Receptor
+compositeReceptor case =
+    record {
+      id = receptorAt case 0 .id;
+      values = record { list = tabulate slotsPerRecord (λ k. orOne (composed pairs (pairStage case) (lastStage case) k)) };
+    }
+
+-- a single receptor
+unfoldable pub compositeFrom : Case → Receptors
+compositeFrom case = record { count = 1; list = compositeReceptor case ∷ noReceptor ∷ noReceptor ∷ noReceptor ∷ [] }
+
+unfoldable pub exactComposite : Case → ℕ → Slot → Fraction
+exactComposite case j s = composed fractions (exactStage case) (lastStage case) (placeOf s)
+
+-- the composite call
+unfoldable pub composite : Call
+composite = record { sort = Composite; receptors = compositeFrom; exact = exactComposite }
+
+-- What demand 2 says of its receptor: each slot's pair is the working rule's answer to the weighting, from the entries of what is printed.
+pub record Composed (case : Case) : Type 0 where
+  pub entered : (j : ℕ) → j < case .receptors .count → (s : Slot) (digits : ℕ) (power : ℤ) → ownerOf s ≡ owners.Receptor
+      → valueAt (receptorAt case j) (placeOf s) ≡ Values.Printed power digits → entry digits power ≡ pairStage case j (placeOf s)
+  pub rule : (i : ℕ) (s : Slot) → ownerOf s ≡ owners.Receptor
+      → composed pairs (pairStage case) (lastStage case) (placeOf s) ≡ is (pairsAt (scenarioWith case (compositeFrom case)) 0 i .value s)

@@ -1,0 +1,27 @@
+-- For the contracts of this crate's inner functions only: the stages as they stand in the records of a case.
+use mathlib.Core.List.{List}
+use Prim.Native.Nat.{ℕ}
+use lib.ListN.{getD}
+use Rattle.pair.specs.declared.Pair.{Pair}
+use Rattle.pair.specs.Calls.{Outcome, is}
+use Rattle.slots.specs.Slots.{placeOf}
+use Rattle.equations.specs.Formula.{pairs}
+use Rattle.deck.specs.declared.Record.{Record}
+use Rattle.deck.specs.Kinds.{mostReceptors}
+use Rattle.deck.specs.Cases.{slotsPerRecord, tabulate, noRecord, valueAt}
+use Rattle.sheet.specs.Values.{orOne, pairOf}
+use Rattle.composite.specs.Composite.{composed}
+
+-- the pair at place k of record j
+unfoldable pub pairIn : List Record → ℕ → ℕ → Pair
+pairIn records j k = pairOf (valueAt (getD records j noRecord) k)
+
+unfoldable pub stageIn : List Record → ℕ → ℕ → Outcome Pair
+stageIn records j k = is (pairIn records j k)
+
+unfoldable pub yearsIn : List Record → List Pair
+yearsIn records = tabulate mostReceptors (λ j. pairIn records j (placeOf "years"))
+
+-- the composite's values, place by place
+unfoldable pub composedIn : List Record → ℕ → List Pair
+composedIn records last = tabulate slotsPerRecord (λ k. orOne (composed pairs (stageIn records) last k))

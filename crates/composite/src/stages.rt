@@ -1,0 +1,170 @@
+// One receptor made of life stages.
+use deck::Case;
+use deck::MAX_STAGES;
+use deck::Receptors;
+use deck::Record;
+use equations::Values;
+use pair::Answer;
+use pair::Pair;
+use sheet::Receptor;
+use sheet::Scenario;
+use slots::ATC;
+use slots::ED;
+use slots::SLOTS;
+use slots::YEARS;
+ghost use mathlib.Core.Path.{_≡_};
+ghost use Prim.Native.Nat.{_<_, _≤_};
+ghost use Rattle.pair.specs.Calls.{answer, after, product};
+ghost use Rattle.equations.specs.Formula.{pairs};
+ghost use Rattle.slots.specs.Slots.{placeOf};
+ghost use Rattle.deck.specs.Cases.{valueAt};
+ghost use Rattle.sheet.specs.Values.{pairOf, noReceptor, scenarioWith};
+ghost use Rattle.composite.specs.Composite.{summed, sumOfYears, composed, compositeFrom};
+ghost use Rattle.composite.specs.Inner.{pairIn, stageIn, yearsIn, composedIn};
+
+// The years of each stage, entered once.
+struct Years {
+    list: [Pair; MAX_STAGES],
+}
+
+// A stage's value at place k, and that of stage j.
+fn value_in(stage: Record, k: usize) -> Pair
+    requires { ⌜ k < 24 ⌝ }
+    ensures { λ r. ⌜ r ≡ pairOf (valueAt stage k) ⌝ }
+{
+    let slot = stage.slots[k];
+    let v = slot.value;
+    sheet::pair_of(v)
+}
+
+fn value_at(stages: Receptors, j: usize, k: usize) -> Pair
+    requires { ⌜ (j < 8) × (k < 24) ⌝ }
+    ensures { λ r. ⌜ r ≡ pairIn (stages .records) j k ⌝ }
+{
+    let stage = stages.records[j];
+    value_in(stage, k)
+}
+
+fn years_of(stages: Receptors) -> Years
+    ensures { λ r. ⌜ r .list ≡ yearsIn (stages .records) ⌝ }
+{
+    let mut list = [Pair::ONE; MAX_STAGES];
+    let mut j: usize = 0;
+    while j < MAX_STAGES {
+        list[j] = value_at(stages, j, YEARS);
+        j += 1;
+    }
+    Years { list }
+}
+
+fn year_at(stages: Receptors, years: Years, j: usize) -> Answer
+    requires { ⌜ (j < 8) × (years .list ≡ yearsIn (stages .records)) ⌝ }
+    ensures { λ r. ⌜ answer r ≡ stageIn (stages .records) j (placeOf "years") ⌝ }
+{
+    let p = years.list[j];
+    p.answer()
+}
+
+// The sum of the years of stages 0 to last, in deck order.
+fn sum_of_years(stages: Receptors, years: Years, last: usize) -> Answer
+    requires { ⌜ (last < 8) × (years .list ≡ yearsIn (stages .records)) ⌝ }
+    ensures { λ r. ⌜ answer r ≡ sumOfYears pairs (stageIn (stages .records)) last ⌝ }
+{
+    let mut sum = year_at(stages, years, 0);
+    let mut j: usize = 0;
+    while j < last {
+        let next = j + 1;
+        sum = sum.plus(year_at(stages, years, next));
+        j = next;
+    }
+    sum
+}
+
+// years × value of stage j at place k.
+fn weighted(stages: Receptors, years: Years, j: usize, k: usize) -> Answer
+    requires { ⌜ (j < 8) × (k < 24) × (years .list ≡ yearsIn (stages .records)) ⌝ }
+    ensures { λ r. ⌜ answer r ≡ after product (stageIn (stages .records) j (placeOf "years")) (stageIn (stages .records) j k) ⌝ }
+{
+    let value = value_at(stages, j, k);
+    year_at(stages, years, j).times(value.answer())
+}
+
+// The sum of these, of stages 0 to last.
+fn weighted_sum(stages: Receptors, years: Years, last: usize, k: usize) -> Answer
+    requires { ⌜ (last < 8) × (k < 24) × (years .list ≡ yearsIn (stages .records)) ⌝ }
+    ensures { λ r. ⌜ answer r ≡ summed pairs (λ j. after product (stageIn (stages .records) j (placeOf "years")) (stageIn (stages .records) j k)) last ⌝ }
+{
+    let mut sum = weighted(stages, years, 0, k);
+    let mut j: usize = 0;
+    while j < last {
+        let next = j + 1;
+        sum = sum.plus(weighted(stages, years, next, k));
+        j = next;
+    }
+    sum
+}
+
+// The composite's value at place k.
+fn composed_at(stages: Receptors, years: Years, total: Answer, last: usize, k: usize) -> Answer
+    requires { ⌜ (last < 8) × (k < 24) × (years .list ≡ yearsIn (stages .records)) ⌝ }
+    requires { ⌜ answer total ≡ sumOfYears pairs (stageIn (stages .records)) last ⌝ }
+    ensures { λ r. ⌜ answer r ≡ composed pairs (stageIn (stages .records)) last k ⌝ }
+{
+    match k {
+        ED => total,
+        ATC => Pair::entry(365, 0).times(total),
+        _ => weighted_sum(stages, years, last, k).over(total),
+    }
+}
+
+fn composed_values(stages: Receptors, last: usize) -> Values
+    requires { ⌜ last < 8 ⌝ }
+    ensures { λ r. ⌜ r .list ≡ composedIn (stages .records) last ⌝ }
+{
+    let years = years_of(stages);
+    let total = sum_of_years(stages, years, last);
+    let mut list = [Pair::ONE; SLOTS];
+    let mut k: usize = 0;
+    while k < SLOTS {
+        list[k] = sheet::or_one(composed_at(stages, years, total, last, k));
+        k += 1;
+    }
+    Values { list }
+}
+
+fn no_receptor() -> Receptor
+    ensures { λ r. ⌜ r ≡ noReceptor ⌝ }
+{
+    let list = [Pair::ONE; SLOTS];
+    Receptor {
+        id: 0,
+        values: Values { list },
+    }
+}
+
+// The scenario of a composite's case: a single receptor, made of all of the deck's, under the first one's id.
+pub(crate) fn composite_of(case: Case) -> Scenario
+    requires { ⌜ (1 ≤ case .receptors .count) × (case .receptors .count ≤ 8) ⌝ }
+    ensures { λ r. ⌜ r ≡ scenarioWith case (compositeFrom case) ⌝ }
+{
+    let stages = case.receptors;
+    let first = stages.records[0];
+    let values = composed_values(stages, stages.count - 1);
+    let none = no_receptor();
+    let list = [
+        Receptor {
+            id: first.id,
+            values,
+        },
+        none,
+        none,
+        none,
+    ];
+    let site = case.site;
+    let chemicals = case.chemicals;
+    Scenario {
+        site,
+        chemicals,
+        receptors: sheet::Receptors { count: 1, list },
+    }
+}
