@@ -9,7 +9,7 @@ use Rattle.pair.specs.Calls as calls
 use Rattle.pair.specs.Calls.{Outcome, is, mapped, provided, after, afterOne, zeroPair, onePair, entry, sum, product, quotient, oneMinusEntry, compared, inUnits}
 use Rattle.pair.specs.Figures.{_⊗_, _⊘_, whole, bothEnds, figures}
 use Rattle.pair.proofs.Figures.{figures-hold}
-use Rattle.slots.specs.Slots.{table, same, isIn, placeIn, entryRule, ruleAt, lineRules, ownerOf, placeOf}
+use Rattle.slots.specs.Slots.{table, same, isIn, placeIn, ruleIn, ruleAt, lineRules, ownerOf, placeOf}
 use Rattle.equations.specs.declared.Pathway.the-variants.{SoilWinter}
 use Rattle.equations.specs.declared.Effect.the-variants.{Hazard, Cancer}
 use Rattle.equations.specs.declared.Values.{Values}
@@ -29,12 +29,12 @@ use Rattle.deck.specs.Numbers.{digitsValue, idSpelled, idIn, signSpelled, expon
 use Rattle.deck.specs.Kinds.{kindOf, kindOrder, befores, among, kinds, rulesIn, rulesOf}
 use Rattle.deck.specs.Ranges.{above, below, valueAtMost, valueAtLeast, inRange}
 use Rattle.deck.specs.Conditions.{first, upTo, misspelled, misplaced, outOfRange, fieldConditions, fieldAt, badBytes, badKind, begins, idOf, sameLetter, wrongId, badId, lineConditionsAfter, countOf, lineConditions, badLength, noEnd, conditions}
-use Rattle.deck.specs.Cases.{tabulate, valueOf, slotSpelled, recordOf, recordsOf, caseWith, caseOf, valueAt, chemicalAt, receptorAt, ownersRecord, printed}
+use Rattle.deck.specs.Cases.{tabulate, valueOf, slotSpelled, recordOf, recordsOf, caseWith, caseOf, valueAt, chemicalAt, receptorAt}
 use Rattle.totals.specs.Totals.{_added_}
 use Rattle.text.specs.Text.{digits, decimal, justified, number, columnsText, rowText, linesText}
-use Rattle.sheet.specs.Values.{orOne, pairOf, restOf, valuesOf, pairsAt}
+use Rattle.sheet.specs.Values.{orOne, pairOf, restOf, valuesOf, chemicalIn, receptorIn, printedIn, pairsAt, scenarioWith, entered, enteredFrom}
 use Rattle.sheet.specs.Sheet.{pathwayAt, isPrinted, hasReference, figureAt, unitOf, capOf, counted, countedIn, columnsAt, addedOver, totalAt, chained, linesPerReceptor, isAbove, highAbove, exponentAt, tooFast, overCap, lineTooLarge, fastChemicals, largeLines}
-use Rattle.report.specs.Report.{rowAt, totalRow, rowsAt, rowsOf, linesOfReport, reportConditions, allConditions, statusOf, lengthOf, outcomeFor, outcomeOf}
+use Rattle.report.specs.Report.{rowAt, totalRow, rowsAt, rowsOf, linesOfReport, ordinary, scenarioOf, reportConditions, allConditions, statusOf, lengthOf, outcomeFor, outcomeOf}
 use Rattle.figures.specs.Figures.{bytes, lines, deckLines, deck, printedLines, printedText, row, rows, Winter, cases, CheckedFigures}
 
 -- x = 0
@@ -55,25 +55,25 @@ winter site chemical receptor w =
     (rw (w .IRsoil, w .AForal, w .FRsnow, w .ETsoil, w .EFw, w .ED, w .BW, w .ATc) (figures-hold .1 .1 .1 .0))
 
 -- the deck: its report's lines, their text, and that none of the conditions holds
-lines-are : rowsOf (caseOf deck) ≡ rows
-unfolding bytes lines deckLines deck within leading linesOf lineOf fieldIn fieldOf digitsValue idSpelled idIn signSpelled exponentSpelled powerOf digitsRead endedOf pointedOf spelledOf loneDash wordOf kindOf idOf countOf tabulate valueOf slotSpelled recordOf recordsOf caseWith caseOf table same isIn placeIn ownerOf placeOf valueAt chemicalAt receptorAt ownersRecord printed orOne pairOf restOf valuesOf valueIn byOwner inputs pairsAt asAnswers nineFigures inReach zeroExponent isZero isNumber zero one lesser rise unitsAt lower atMost isPair extra divided excessFrom excess carried rounded sumEnd productEnd quotientEnd restEnd provided calls.ends after afterOne zeroPair onePair entry sum product quotient oneMinusEntry pairs read letters plain worked terms fromZero pairSeries u kse ksr ksl k x g A D C aboveGround belowGround AT B exposure factor byMedium medium intakeBy intake byRoute referenceSlot reference figureBy line pathwayAt isPrinted hasReference figureAt chained unitsEnd inUnits unitOf counted countedIn columnsAt _added_ addedOver totalAt rowAt totalRow rowsAt rowsOf row rows
+lines-are : rowsOf (scenarioOf ordinary deck) ≡ rows
+unfolding bytes lines deckLines deck within leading linesOf lineOf fieldIn fieldOf digitsValue idSpelled idIn signSpelled exponentSpelled powerOf digitsRead endedOf pointedOf spelledOf loneDash wordOf kindOf idOf countOf tabulate valueOf slotSpelled recordOf recordsOf caseWith caseOf table same isIn placeIn ownerOf placeOf valueAt chemicalAt receptorAt orOne pairOf restOf valuesOf chemicalIn receptorIn printedIn scenarioWith entered enteredFrom ordinary scenarioOf valueIn byOwner inputs pairsAt asAnswers nineFigures inReach zeroExponent isZero isNumber zero one lesser rise unitsAt lower atMost isPair extra divided excessFrom excess carried rounded sumEnd productEnd quotientEnd restEnd provided calls.ends after afterOne zeroPair onePair entry sum product quotient oneMinusEntry pairs read letters plain worked terms fromZero pairSeries u kse ksr ksl k x g A D C aboveGround belowGround AT B exposure factor byMedium medium intakeBy intake byRoute referenceSlot reference figureBy line pathwayAt isPrinted hasReference figureAt chained unitsEnd inUnits unitOf counted countedIn columnsAt _added_ addedOver totalAt rowAt totalRow rowsAt rowsOf row rows
 lines-are = refl
 
 text-is : linesText rows ≡ printedText
 unfolding bytes lines printedLines printedText row rows linesText rowText columnsText number justified decimal digits
 text-is = refl
 
-read-whole : first (allConditions deck 665) ≡ Read
-unfolding bytes lines deckLines deck within leading linesOf lineOf fieldIn fieldOf digitsValue idSpelled idIn signSpelled exponentSpelled powerOf digitsRead endedOf pointedOf spelledOf loneDash wordOf kindOf idOf countOf tabulate valueOf slotSpelled recordOf recordsOf caseWith caseOf table same isIn placeIn ownerOf placeOf valueAt chemicalAt receptorAt ownersRecord printed orOne pairOf restOf valuesOf valueIn byOwner inputs pairsAt asAnswers nineFigures inReach zeroExponent isZero isNumber zero one lesser rise unitsAt lower atMost isPair extra divided excessFrom excess carried rounded sumEnd productEnd quotientEnd restEnd provided calls.ends after afterOne zeroPair onePair entry sum product quotient oneMinusEntry pairs read letters plain worked terms fromZero pairSeries u kse ksr ksl k x g A D C aboveGround belowGround AT B exposure factor byMedium medium intakeBy intake byRoute referenceSlot reference figureBy line pathwayAt isPrinted hasReference figureAt chained kindOrder befores among kinds rulesIn rulesOf entryRule ruleAt lineRules above below valueAtMost valueAtLeast inRange first upTo misspelled misplaced outOfRange fieldConditions fieldAt badBytes badKind begins sameLetter wrongId badId lineConditionsAfter lineConditions badLength noEnd conditions compared sixtyFour capOf linesPerReceptor linesOfReport isAbove highAbove exponentAt tooFast overCap lineTooLarge fastChemicals largeLines reportConditions allConditions lengthOf
+read-whole : first (allConditions ordinary deck 665) ≡ Read
+unfolding bytes lines deckLines deck within leading linesOf lineOf fieldIn fieldOf digitsValue idSpelled idIn signSpelled exponentSpelled powerOf digitsRead endedOf pointedOf spelledOf loneDash wordOf kindOf idOf countOf tabulate valueOf slotSpelled recordOf recordsOf caseWith caseOf table same isIn placeIn ownerOf placeOf valueAt chemicalAt receptorAt orOne pairOf restOf valuesOf chemicalIn receptorIn printedIn scenarioWith entered enteredFrom ordinary scenarioOf valueIn byOwner inputs pairsAt asAnswers nineFigures inReach zeroExponent isZero isNumber zero one lesser rise unitsAt lower atMost isPair extra divided excessFrom excess carried rounded sumEnd productEnd quotientEnd restEnd provided calls.ends after afterOne zeroPair onePair entry sum product quotient oneMinusEntry pairs read letters plain worked terms fromZero pairSeries u kse ksr ksl k x g A D C aboveGround belowGround AT B exposure factor byMedium medium intakeBy intake byRoute referenceSlot reference figureBy line pathwayAt isPrinted hasReference figureAt chained kindOrder befores among kinds rulesIn rulesOf ruleIn ruleAt lineRules above below valueAtMost valueAtLeast inRange first upTo misspelled misplaced outOfRange fieldConditions fieldAt badBytes badKind begins sameLetter wrongId badId lineConditionsAfter lineConditions badLength noEnd conditions compared sixtyFour capOf linesPerReceptor linesOfReport isAbove highAbove exponentAt tooFast overCap lineTooLarge fastChemicals largeLines reportConditions allConditions lengthOf
 read-whole = refl
 
-answer-is : outcomeOf deck 665 ≡ record { number = 0; line = 665; field = 0 }
-unfolding bytes lines deckLines deck within leading linesOf lineOf fieldIn fieldOf digitsValue idSpelled idIn signSpelled exponentSpelled powerOf digitsRead endedOf pointedOf spelledOf loneDash wordOf kindOf idOf countOf tabulate valueOf slotSpelled recordOf recordsOf caseWith caseOf linesPerReceptor linesOfReport lengthOf statusOf outcomeFor outcomeOf
-answer-is = ap (λ (s : Status). outcomeFor s (caseOf deck)) read-whole
+answer-is : outcomeOf ordinary deck 665 ≡ record { number = 0; line = 665; field = 0 }
+unfolding bytes lines deckLines deck within leading linesOf lineOf fieldIn fieldOf digitsValue idSpelled idIn signSpelled exponentSpelled powerOf digitsRead endedOf pointedOf spelledOf loneDash wordOf kindOf idOf countOf tabulate valueOf slotSpelled recordOf recordsOf caseWith caseOf enteredFrom scenarioWith ordinary scenarioOf linesPerReceptor linesOfReport lengthOf statusOf outcomeFor outcomeOf
+answer-is = ap (λ (s : Status). outcomeFor s (scenarioOf ordinary deck)) read-whole
 
 -- What the cases x = 0, ED 4.5 and winter ask of the values is met: by the deck, and by these values.
 deck-at-zero : ofSlots (valuesOf (caseOf deck .site)) (valuesOf (chemicalAt (caseOf deck) 0)) x ≡ is zeroPair
-unfolding bytes lines deckLines deck within leading linesOf lineOf fieldIn fieldOf digitsValue idSpelled idIn signSpelled exponentSpelled powerOf digitsRead endedOf pointedOf spelledOf loneDash wordOf kindOf idOf countOf tabulate valueOf slotSpelled recordOf recordsOf caseWith caseOf table same isIn placeIn ownerOf placeOf valueAt chemicalAt receptorAt ownersRecord printed orOne pairOf restOf valuesOf valueIn byOwner inputs pairsAt asAnswers nineFigures inReach zeroExponent isZero isNumber zero one lesser rise unitsAt lower atMost isPair extra divided excessFrom excess carried rounded sumEnd productEnd quotientEnd restEnd provided calls.ends after afterOne zeroPair onePair entry sum product quotient oneMinusEntry pairs read letters plain u kse ksr ksl k x ofSlots noValues
+unfolding bytes lines deckLines deck within leading linesOf lineOf fieldIn fieldOf digitsValue idSpelled idIn signSpelled exponentSpelled powerOf digitsRead endedOf pointedOf spelledOf loneDash wordOf kindOf idOf countOf tabulate valueOf slotSpelled recordOf recordsOf caseWith caseOf table same isIn placeIn ownerOf placeOf valueAt chemicalAt orOne pairOf valuesOf valueIn byOwner inputs asAnswers nineFigures inReach zeroExponent isZero isNumber zero one lesser rise unitsAt lower atMost isPair extra divided excessFrom excess carried rounded sumEnd productEnd quotientEnd restEnd provided calls.ends after afterOne zeroPair onePair entry sum product quotient oneMinusEntry pairs read letters plain u kse ksr ksl k x ofSlots noValues
 deck-at-zero = refl
 
 -- 1 in every place but those of a receptor's first ten slots, and so of the site's eleventh

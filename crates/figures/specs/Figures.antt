@@ -21,12 +21,11 @@ use Rattle.pathway.specs.declared.Factor.{Factor}
 use Rattle.pathway.specs.Lines.{workedFor, factorOf}
 use Rattle.deck.specs.declared.Status.the-variants.{Read}
 use Rattle.deck.specs.Conditions.{first}
-use Rattle.deck.specs.Cases.{caseOf}
 use Rattle.totals.specs.declared.Columns.{Columns}
 use Rattle.totals.specs.declared.Columns.the-variants.{Absent, Counted}
 use Rattle.text.specs.declared.Row.{Row}
 use Rattle.text.specs.Text.{linesText}
-use Rattle.report.specs.Report.{rowsOf, allConditions, outcomeOf}
+use Rattle.report.specs.Report.{rowsOf, ordinary, scenarioOf, allConditions, outcomeOf}
 
 -- a text's bytes; every character here is one byte
 unfoldable pub bytes : String → List ℕ
@@ -122,10 +121,10 @@ cases =
     ∷ (entry 9999999995 (negsuc 0) ≡ is (record { low = record { significand = 999999999; exponent = pos 0 }; high = record { significand = 100000000; exponent = pos 1 } }))
     ∷ (oneMinusEntry 99999999999 (negsuc 10) ≡ bothEnds 100000000 100000000 (negsuc 18))
     -- the deck: no condition holds, with a buffer of 665 bytes; its answer, its report's lines, and their bytes
-    ∷ (first (allConditions deck 665) ≡ Read)
-    ∷ (outcomeOf deck 665 ≡ record { number = 0; line = 665; field = 0 })
-    ∷ (rowsOf (caseOf deck) ≡ rows)
-    ∷ (linesText (rowsOf (caseOf deck)) ≡ printedText)
+    ∷ (first (allConditions ordinary deck 665) ≡ Read)
+    ∷ (outcomeOf ordinary deck 665 ≡ record { number = 0; line = 665; field = 0 })
+    ∷ (rowsOf (scenarioOf ordinary deck) ≡ rows)
+    ∷ (linesText (rowsOf (scenarioOf ordinary deck)) ≡ printedText)
     ∷ []
 
 -- all of them, jointly
