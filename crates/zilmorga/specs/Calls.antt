@@ -6,6 +6,7 @@ use lib.IntN.{ℤ}
 use Rattle.pair.specs.declared.Pair.{Pair}
 use Rattle.pair.specs.declared.Units.{Units}
 use Rattle.pair.specs.Calls.{Outcome, is, refused, after, afterOne, inUnits}
+use Rattle.slots.specs.declared.Sort.{Sort}
 use Rattle.deck.specs.declared.Told.{Told}
 use Rattle.deck.specs.Cases.{readOf, toldOf}
 use Rattle.zilmorga.specs.Numbers.{entryAt, andThen, numberOf, pairFrom, comparedIf, numbersOf}
@@ -26,9 +27,9 @@ leaves spelled (refused n) before = left n before
 abbrev pub told : ℕ → ℕ → ℕ → Told
 told number line field = record { number = number; line = line; field = field }
 
--- a deck that is read and no more
-unfoldable pub readTold : List ℕ → Told
-readTold deck = toldOf (readOf deck .status)
+-- a deck of this sort that is read and no more
+unfoldable pub readTold : Sort → List ℕ → Told
+readTold sort deck = toldOf (readOf sort deck .status)
 
 -- an operation on pairs that the caller wrote
 unfoldable pub onOnePair : (Pair → Outcome Pair) → List ℤ → List ℤ → Left (List ℤ)

@@ -6,7 +6,8 @@ ghost use mathlib.Core.Path.{_≡_};
 ghost use lib.ListN.{length};
 ghost use Rattle.pair.specs.Calls as calls;
 ghost use Rattle.equations.specs.Series.{pairSeries};
-ghost use Rattle.report.specs.Report.{outcomeOf, bufferOf};
+ghost use Rattle.report.specs.Report.{ordinary, outcomeOf, bufferOf};
+ghost use Rattle.slots.specs.declared.Sort.the-variants.{Ordinary, Composite};
 ghost use Rattle.totals.specs.Totals.{totalOf};
 ghost use Rattle.zilmorga.specs.Numbers.{numbersOf};
 ghost use Rattle.zilmorga.specs.Calls.{left, leaves, told, readTold, onOnePair, onTwoPairs, comparison, units, unitsLeft};
@@ -20,6 +21,7 @@ use deck::Told;
 use pair::Answer;
 use pair::Count;
 use pair::Pair;
+use slots::Sort;
 use totals::Sum;
 
 // The number, with line and field written.
@@ -39,21 +41,36 @@ pub extern "C" fn zilmorga_report(
     line: &mut usize,
     field: &mut usize,
 ) -> u32
-    ensures { λ r. ⌜ told r (now (line .exit)) (now (field .exit)) ≡ outcomeOf (now (deck .entry)) (length (now (report .entry))) ⌝ }
-    ensures { λ _. ⌜ now (report .exit) ≡ bufferOf (now (deck .entry)) (now (report .entry)) ⌝ }
+    ensures { λ r. ⌜ told r (now (line .exit)) (now (field .exit)) ≡ outcomeOf ordinary (now (deck .entry)) (length (now (report .entry))) ⌝ }
+    ensures { λ _. ⌜ now (report .exit) ≡ bufferOf ordinary (now (deck .entry)) (now (report .entry)) ⌝ }
 {
     let told = report::report(deck, report);
     put_told(told, line, field)
 }
 
-// A deck read alone: 0, 0 and 0; or number, line and field of the refusal.
-#[no_mangle]
-pub extern "C" fn zilmorga_read(deck: &[u8], line: &mut usize, field: &mut usize) -> u32
-    ensures { λ r. ⌜ told r (now (line .exit)) (now (field .exit)) ≡ readTold (now (deck .entry)) ⌝ }
+// A deck of this sort read alone: 0, 0 and 0; or number, line and field of the refusal.
+fn read_alone(deck: &[u8], sort: Sort, line: &mut usize, field: &mut usize) -> u32
+    ensures { λ r. ⌜ told r (now (line .exit)) (now (field .exit)) ≡ readTold sort (now (deck .entry)) ⌝ }
 {
-    let reading = deck::read(deck);
+    let reading = deck::read(deck, sort);
     let status = reading.status;
     put_told(deck::tell(status), line, field)
+}
+
+// An ordinary deck read alone.
+#[no_mangle]
+pub extern "C" fn zilmorga_read(deck: &[u8], line: &mut usize, field: &mut usize) -> u32
+    ensures { λ r. ⌜ told r (now (line .exit)) (now (field .exit)) ≡ readTold Ordinary (now (deck .entry)) ⌝ }
+{
+    read_alone(deck, Sort::Ordinary, line, field)
+}
+
+// A composite's deck read alone.
+#[no_mangle]
+pub extern "C" fn zilmorga_composite_read(deck: &[u8], line: &mut usize, field: &mut usize) -> u32
+    ensures { λ r. ⌜ told r (now (line .exit)) (now (field .exit)) ≡ readTold Composite (now (deck .entry)) ⌝ }
+{
+    read_alone(deck, Sort::Composite, line, field)
 }
 
 // The sum of a list of units; 52, and sum as it was, for more than 96 numbers or one above 1E+16.

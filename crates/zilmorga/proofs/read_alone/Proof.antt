@@ -1,9 +1,9 @@
--- `zilmorga_read` tells what the deck's reader answers. Assumes nothing.
+-- `read_alone` tells what the deck reader answers. Assumes nothing.
 use mathlib.Core.Path.{refl}
 use borrow.Author.Needs.{needs}
 use Rattle.zilmorga.specs.Calls.{readTold}
-use Rattle.zilmorga.proofs.zilmorga_read.Statement.{statement}
-use Rattle.zilmorga.proofs.zilmorga_read.Tie as tie
+use Rattle.zilmorga.proofs.read_alone.Statement.{statement}
+use Rattle.zilmorga.proofs.read_alone.Tie as tie
 
 read-requires : tie.Need-read-requires
 read-requires c κs = search needs
@@ -19,5 +19,5 @@ unfolding readTold
 returns c =
     rw (c .put-told .ensures, c .before .before .before .tell .ensures, c .before .before .before .before .read .ensures .0) refl
 
-pub zilmorga-read-spec : {M : Type 1} → statement M
-zilmorga-read-spec = tie.close (tie.spec read-requires tell-requires put-told-requires returns)
+pub read-alone-spec : {M : Type 1} → statement M
+read-alone-spec = tie.close (tie.spec read-requires tell-requires put-told-requires returns)
