@@ -1,9 +1,9 @@
--- `tally::put_answer` is safe and ends: what is written lies in the buffer. Assumes nothing.
+-- `answers::put_answer` is safe and ends: what is written lies in the buffer. Assumes nothing.
 use mathlib.Core.Path.{sym}
 use borrow.Author.Needs.{needs}
 use lib.Seq.{length-take-le}
-use Rattle.tally.proofs.put_answer.Statement.{statement}
-use Rattle.tally.proofs.put_answer.Tie as tie
+use Rattle.answers.proofs.put_answer.Statement.{statement}
+use Rattle.answers.proofs.put_answer.Tie as tie
 
 put-refusal-requires : tie.Need-put-refusal-requires
 put-refusal-requires c κs = search needs
