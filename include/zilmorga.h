@@ -2,7 +2,7 @@
  *
  * Every call returns 0, or the number of the first condition that stops it:
  *
- *   11  the deck is empty, longer than 6,723 bytes, or no whole number of lines of 81 bytes
+ *   11  the deck is empty, longer than 6,723 bytes (a composite's: 8,019), or no whole number of lines of 81 bytes
  *   12  a line is not 80 bytes from 32 to 126 and a line feed
  *   21  a line of this kind cannot come here, or EN is missing, told as the line past the last
  *   22  an id is misspelled, unlike its record's, or not above the one before; or EN is not blank
@@ -20,7 +20,8 @@
  * Memory. The caller owns all of it. A call reads its const arguments and writes its other pointers' targets during the call, keeps no
  * pointer, allocates nothing and frees nothing. No pointer may be null, not even with a length of 0; each must be aligned for its type
  * and good for the whole length given. What a call writes must not overlap anything else that is passed to the same call, so
- * zilmorga_sum(a, b, a) is wrong, and line and field must be two objects. zilmorga_report takes some 80 KB of stack.
+ * zilmorga_sum(a, b, a) is wrong, and line and field must be two objects. zilmorga_report takes some 130 KB of
+ * stack, zilmorga_composite_report some 140 KB.
  *
  * Threads. There is no state: no global variable, no setting, no errno. Calls may run at the same time in any threads, as long as no
  * call writes what another reads or writes.
@@ -42,6 +43,10 @@ extern "C" {
 #define ZILMORGA_LONGEST_DECK 6723
 #define ZILMORGA_LONGEST_REPORT 36860
 
+/* The same of a composite: 97 lines, those of one receptor. */
+#define ZILMORGA_LONGEST_COMPOSITE_DECK 8019
+#define ZILMORGA_LONGEST_COMPOSITE_REPORT 9215
+
 /* Decks
  *
  * line and field are always written. On a refusal they say where: line counts from 1 (41: the chemical's place; 42: the report line,
@@ -52,8 +57,13 @@ extern "C" {
  * Refusals, the first that holds: 11; then line by line 12, 21, 22, and in each field 31, 32, 33; then 51, 41, 42. */
 uint32_t zilmorga_report(const uint8_t *deck, size_t n, uint8_t *report, size_t room, size_t *line, size_t *field);
 
-/* Reads a deck and does no more. On 0, *line and *field are 0. Refusals: 11, 12, 21, 22, 31, 32, 33. */
+/* The report of a composite's deck: its one to eight receptors are the life stages of one person, each with its years in slot 23, and the
+ * report has that one person, under the first stage's id. Told and refused as zilmorga_report is. */
+uint32_t zilmorga_composite_report(const uint8_t *deck, size_t n, uint8_t *report, size_t room, size_t *line, size_t *field);
+
+/* Read an ordinary deck, or a composite's, and do no more. On 0, *line and *field are 0. Refusals: 11, 12, 21, 22, 31, 32, 33. */
 uint32_t zilmorga_read(const uint8_t *deck, size_t n, size_t *line, size_t *field);
+uint32_t zilmorga_composite_read(const uint8_t *deck, size_t n, size_t *line, size_t *field);
 
 /* The sum of a list of n units, at most 96. Refusal: 52, and *sum stays as it was. */
 uint32_t zilmorga_total(const uint64_t *list, size_t n, uint64_t *sum);

@@ -1,6 +1,7 @@
-/* Reads a deck from standard input and writes its report to standard output, or the number, line and field of what stops it.
- * Then works 2 / 3 and 1 - 0.99999999999 as pairs, on standard error. */
+/* Reads a deck from standard input and writes its report to standard output, or the number, line and field of what stops it. With the
+ * argument `composite` the deck is a composite's. Then works 2 / 3 and 1 - 0.99999999999 as pairs, on standard error. */
 #include <stdio.h>
+#include <string.h>
 #include "zilmorga.h"
 
 static void say(const char *what, uint32_t refused, const int64_t p[4])
@@ -11,14 +12,16 @@ static void say(const char *what, uint32_t refused, const int64_t p[4])
         fprintf(stderr, "%s is refused by %u\n", what, (unsigned)refused);
 }
 
-int main(void)
+int main(int argc, char **argv)
 {
-    /* One byte more than the longest deck, so that a longer one is refused and not cut. */
-    static uint8_t deck[ZILMORGA_LONGEST_DECK + 1];
+    /* Room for either sort: one byte more than the longest deck, so that a longer one is refused and not cut. */
+    static uint8_t deck[ZILMORGA_LONGEST_COMPOSITE_DECK + 1];
     static uint8_t report[ZILMORGA_LONGEST_REPORT];
     size_t line, field;
     size_t n = fread(deck, 1, sizeof deck, stdin);
-    uint32_t number = zilmorga_report(deck, n, report, sizeof report, &line, &field);
+    int composite = argc > 1 && strcmp(argv[1], "composite") == 0;
+    uint32_t number = composite ? zilmorga_composite_report(deck, n, report, sizeof report, &line, &field)
+                                : zilmorga_report(deck, n, report, sizeof report, &line, &field);
     if (number == 0)
         fwrite(report, 1, line, stdout);
     else

@@ -7,6 +7,7 @@ ghost use lib.ListN.{length};
 ghost use Rattle.pair.specs.Calls as calls;
 ghost use Rattle.equations.specs.Series.{pairSeries};
 ghost use Rattle.report.specs.Report.{ordinary, outcomeOf, bufferOf};
+ghost use Rattle.composite.specs.Composite.{composite};
 ghost use Rattle.slots.specs.declared.Sort.the-variants.{Ordinary, Composite};
 ghost use Rattle.totals.specs.Totals.{totalOf};
 ghost use Rattle.zilmorga.specs.Numbers.{numbersOf};
@@ -33,7 +34,7 @@ fn put_told(t: Told, line: &mut usize, field: &mut usize) -> u32
     t.number
 }
 
-// The report of a deck: 0, the report's length and 0; or number, line and field of the refusal, and the report as it was.
+// The report of an ordinary deck: 0, the report's length and 0; or number, line and field of the refusal, and the report as it was.
 #[no_mangle]
 pub extern "C" fn zilmorga_report(
     deck: &[u8],
@@ -45,6 +46,21 @@ pub extern "C" fn zilmorga_report(
     ensures { λ _. ⌜ now (report .exit) ≡ bufferOf ordinary (now (deck .entry)) (now (report .entry)) ⌝ }
 {
     let told = report::report(deck, report);
+    put_told(told, line, field)
+}
+
+// The report of the one person whose life stages a composite's deck has, told as that of an ordinary deck is.
+#[no_mangle]
+pub extern "C" fn zilmorga_composite_report(
+    deck: &[u8],
+    report: &mut [u8],
+    line: &mut usize,
+    field: &mut usize,
+) -> u32
+    ensures { λ r. ⌜ told r (now (line .exit)) (now (field .exit)) ≡ outcomeOf composite (now (deck .entry)) (length (now (report .entry))) ⌝ }
+    ensures { λ _. ⌜ now (report .exit) ≡ bufferOf composite (now (deck .entry)) (now (report .entry)) ⌝ }
+{
+    let told = composite::report(deck, report);
     put_told(told, line, field)
 }
 
