@@ -1,5 +1,5 @@
-// Runs the stored decks of the file `decks` through `report::report` and compares each answer, and every byte of the report buffer, with
-// what is stored.
+// Runs the stored decks of the file `decks` through `report::report`, then those of `composites` through `composite::report`, and compares
+// each answer, and every byte of the report buffer, with what is stored.
 //
 // A stored deck is a line of five numbers in 6 columns each, the deck's bytes and the report's bytes. The numbers: the deck's length, the
 // buffer's length, and the number, line and field that the call tells. There are report bytes only where the number is 0; the line is then
@@ -7,6 +7,7 @@
 use deck::Told;
 use deck::Word;
 use libc::STDOUT_FILENO;
+use slots::Sort;
 ghost use Prim.Native.Nat.{_<_};
 
 const COLUMNS: usize = 6;
@@ -161,9 +162,18 @@ fn read_both(fd: i32, deck: &mut [u8], report: &mut [u8]) -> bool {
     io::read_full(fd, report) == report.len()
 }
 
+// The call on decks of this sort.
+fn reported(sort: Sort, deck: &[u8], buffer: &mut [u8]) -> Told {
+    match sort {
+        Sort::Ordinary => report::report(deck, buffer),
+        Sort::Composite => composite::report(deck, buffer),
+    }
+}
+
 // Runs the deck that stands next in the file. The buffer and what it must hold afterwards are lent equally long.
 fn answered(
     fd: i32,
+    sort: Sort,
     deck: &mut [u8],
     buffer: &mut [u8],
     expected: &mut [u8],
@@ -179,7 +189,7 @@ fn answered(
     if !read_both(fd, deck, &mut expected[..length]) {
         return at_end(totals);
     }
-    let told = report::report(deck, buffer);
+    let told = reported(sort, deck, buffer);
     let same_bytes = check::same(buffer, expected);
     Step {
         ended: false,
@@ -187,7 +197,7 @@ fn answered(
     }
 }
 
-fn next_step(fd: i32, totals: Totals) -> Step {
+fn next_step(fd: i32, sort: Sort, totals: Totals) -> Step {
     let mut head = [0u8; HEAD];
     let got = io::read_full(fd, &mut head);
     let stored = stored_in(&head);
@@ -207,6 +217,7 @@ fn next_step(fd: i32, totals: Totals) -> Step {
     let mut expected = [0u8; REPORT_ROOM];
     answered(
         fd,
+        sort,
         &mut deck[..n],
         &mut buffer[..m],
         &mut expected[..m],
@@ -216,7 +227,7 @@ fn next_step(fd: i32, totals: Totals) -> Step {
 }
 
 // Each deck in turn, up to the file's end.
-fn trial(fd: i32) -> Totals {
+fn trial(fd: i32, sort: Sort) -> Totals {
     let mut totals = Totals {
         decks: 0,
         accepted: 0,
@@ -225,7 +236,7 @@ fn trial(fd: i32) -> Totals {
     };
     let mut i: usize = 0;
     while i < MOST_DECKS {
-        let next = next_step(fd, totals);
+        let next = next_step(fd, sort, totals);
         totals = next.totals;
         if next.ended {
             return totals;
@@ -235,13 +246,18 @@ fn trial(fd: i32) -> Totals {
     totals
 }
 
-fn main() {
-    let path = b"decks";
+// The file's decks, each one of this sort.
+fn run(path: &[u8], sort: Sort) {
     let fd = os::open_read(path);
     if fd < 0 {
         os::fail(path);
         return;
     }
-    put_totals(trial(fd));
+    put_totals(trial(fd, sort));
     libc::close(fd);
+}
+
+fn main() {
+    run(b"decks", Sort::Ordinary);
+    run(b"composites", Sort::Composite);
 }

@@ -44,8 +44,8 @@ same-length-3 c = search needs
 returns-2 : tie.Need-returns-2
 returns-2 c = search needs
 
-report-requires : tie.Need-report-requires
-report-requires c κs = search needs
+reported-requires : tie.Need-reported-requires
+reported-requires c κs = search needs
 
 same-requires : tie.Need-same-requires
 same-requires c κs = search needs
@@ -82,7 +82,7 @@ answered-spec =
     same-length-2
     same-length-3
     returns-2
-    report-requires
+    reported-requires
     same-requires
     compared-requires
     same-length-4

@@ -5,10 +5,10 @@ use Rattle.report_trials.proofs.trial.Statement.{statement}
 use Rattle.report_trials.proofs.trial.Tie as tie
 
 abbrev Inv-loop : tie.InvT-loop
-Inv-loop fd totals₀ i₀ totals i = i ≤ 10000
+Inv-loop fd sort totals₀ i₀ totals i = i ≤ 10000
 
 abbrev μ-loop : tie.MeasureT-loop
-μ-loop fd totals₀ i₀ totals i = 10000 - i
+μ-loop fd sort totals₀ i₀ totals i = 10000 - i
 
 loop-holds : tie.Need-loop-holds Inv-loop μ-loop
 loop-holds c = search needs
