@@ -32,10 +32,11 @@ use Rattle.deck.specs.Conditions.{first, upTo, misspelled, misplaced, outOfRang
 use Rattle.deck.specs.Cases.{tabulate, valueOf, slotSpelled, recordOf, recordsOf, caseWith, caseOf, valueAt, chemicalAt, receptorAt}
 use Rattle.totals.specs.Totals.{_added_}
 use Rattle.text.specs.Text.{digits, decimal, justified, number, columnsText, rowText, linesText}
-use Rattle.sheet.specs.Values.{orOne, pairOf, restOf, valuesOf, chemicalIn, receptorIn, printedIn, pairsAt, scenarioWith, entered, enteredFrom}
+use Rattle.sheet.specs.Values.{orOne, pairOf, restOf, valuesOf, noReceptor, chemicalIn, receptorIn, printedIn, pairsAt, scenarioWith, entered, enteredFrom}
 use Rattle.sheet.specs.Sheet.{pathwayAt, isPrinted, hasReference, figureAt, unitOf, capOf, counted, countedIn, columnsAt, addedOver, totalAt, chained, linesPerReceptor, isAbove, highAbove, exponentAt, tooFast, overCap, lineTooLarge, fastChemicals, largeLines}
+use Rattle.composite.specs.Composite.{summed, sumOfYears, mean, composed, pairStage, lastStage, compositeReceptor, compositeFrom, composite}
 use Rattle.report.specs.Report.{rowAt, totalRow, rowsAt, rowsOf, linesOfReport, ordinary, scenarioOf, reportConditions, allConditions, statusOf, lengthOf, outcomeFor, outcomeOf}
-use Rattle.figures.specs.Figures.{bytes, lines, deckLines, deck, printedLines, printedText, row, rows, Winter, cases, CheckedFigures}
+use Rattle.figures.specs.Figures.{bytes, lines, deckWith, deck, compositeDeck, compositeText, compositeRows, fiveStages, printedLines, printedText, row, rows, Winter, cases, CheckedFigures}
 
 -- x = 0
 at-zero : (site chemical : Values) (particles : Pair) → ofSlots site chemical x ≡ is zeroPair → (ofMedia site chemical particles φ ≡ is onePair) × (ofMedia site chemical particles g ≡ is onePair)
@@ -56,7 +57,7 @@ winter site chemical receptor w =
 
 -- the deck: its report's lines, their text, and that none of the conditions holds
 lines-are : rowsOf (scenarioOf ordinary deck) ≡ rows
-unfolding bytes lines deckLines deck within leading linesOf lineOf fieldIn fieldOf digitsValue idSpelled idIn signSpelled exponentSpelled powerOf digitsRead endedOf pointedOf spelledOf loneDash wordOf kindOf idOf countOf tabulate valueOf slotSpelled recordOf recordsOf caseWith caseOf table same isIn placeIn ownerOf placeOf valueAt chemicalAt receptorAt orOne pairOf restOf valuesOf chemicalIn receptorIn printedIn scenarioWith entered enteredFrom ordinary scenarioOf valueIn byOwner inputs pairsAt asAnswers nineFigures inReach zeroExponent isZero isNumber zero one lesser rise unitsAt lower atMost isPair extra divided excessFrom excess carried rounded sumEnd productEnd quotientEnd restEnd provided calls.ends after afterOne zeroPair onePair entry sum product quotient oneMinusEntry pairs read letters plain worked terms fromZero pairSeries u kse ksr ksl k x g A D C aboveGround belowGround AT B exposure factor byMedium medium intakeBy intake byRoute referenceSlot reference figureBy line pathwayAt isPrinted hasReference figureAt chained unitsEnd inUnits unitOf counted countedIn columnsAt _added_ addedOver totalAt rowAt totalRow rowsAt rowsOf row rows
+unfolding bytes lines deckWith deck within leading linesOf lineOf fieldIn fieldOf digitsValue idSpelled idIn signSpelled exponentSpelled powerOf digitsRead endedOf pointedOf spelledOf loneDash wordOf kindOf idOf countOf tabulate valueOf slotSpelled recordOf recordsOf caseWith caseOf table same isIn placeIn ownerOf placeOf valueAt chemicalAt receptorAt orOne pairOf restOf valuesOf chemicalIn receptorIn printedIn scenarioWith entered enteredFrom ordinary scenarioOf valueIn byOwner inputs pairsAt asAnswers nineFigures inReach zeroExponent isZero isNumber zero one lesser rise unitsAt lower atMost isPair extra divided excessFrom excess carried rounded sumEnd productEnd quotientEnd restEnd provided calls.ends after afterOne zeroPair onePair entry sum product quotient oneMinusEntry pairs read letters plain worked terms fromZero pairSeries u kse ksr ksl k x g A D C aboveGround belowGround AT B exposure factor byMedium medium intakeBy intake byRoute referenceSlot reference figureBy line pathwayAt isPrinted hasReference figureAt chained unitsEnd inUnits unitOf counted countedIn columnsAt _added_ addedOver totalAt rowAt totalRow rowsAt rowsOf row rows
 lines-are = refl
 
 text-is : linesText rows ≡ printedText
@@ -64,16 +65,38 @@ unfolding bytes lines printedLines printedText row rows linesText rowText column
 text-is = refl
 
 read-whole : first (allConditions ordinary deck 665) ≡ Read
-unfolding bytes lines deckLines deck within leading linesOf lineOf fieldIn fieldOf digitsValue idSpelled idIn signSpelled exponentSpelled powerOf digitsRead endedOf pointedOf spelledOf loneDash wordOf kindOf idOf countOf tabulate valueOf slotSpelled recordOf recordsOf caseWith caseOf table same isIn placeIn ownerOf placeOf valueAt chemicalAt receptorAt orOne pairOf restOf valuesOf chemicalIn receptorIn printedIn scenarioWith entered enteredFrom ordinary scenarioOf valueIn byOwner inputs pairsAt asAnswers nineFigures inReach zeroExponent isZero isNumber zero one lesser rise unitsAt lower atMost isPair extra divided excessFrom excess carried rounded sumEnd productEnd quotientEnd restEnd provided calls.ends after afterOne zeroPair onePair entry sum product quotient oneMinusEntry pairs read letters plain worked terms fromZero pairSeries u kse ksr ksl k x g A D C aboveGround belowGround AT B exposure factor byMedium medium intakeBy intake byRoute referenceSlot reference figureBy line pathwayAt isPrinted hasReference figureAt chained kindOrder befores among kinds rulesIn rulesOf ruleIn ruleAt lineRules above below valueAtMost valueAtLeast inRange first upTo misspelled misplaced outOfRange fieldConditions fieldAt badBytes badKind begins sameLetter wrongId badId lineConditionsAfter lineConditions badLength noEnd conditions compared sixtyFour capOf linesPerReceptor linesOfReport isAbove highAbove exponentAt tooFast overCap lineTooLarge fastChemicals largeLines reportConditions allConditions lengthOf
+unfolding bytes lines deckWith deck within leading linesOf lineOf fieldIn fieldOf digitsValue idSpelled idIn signSpelled exponentSpelled powerOf digitsRead endedOf pointedOf spelledOf loneDash wordOf kindOf idOf countOf tabulate valueOf slotSpelled recordOf recordsOf caseWith caseOf table same isIn placeIn ownerOf placeOf valueAt chemicalAt receptorAt orOne pairOf restOf valuesOf chemicalIn receptorIn printedIn scenarioWith entered enteredFrom ordinary scenarioOf valueIn byOwner inputs pairsAt asAnswers nineFigures inReach zeroExponent isZero isNumber zero one lesser rise unitsAt lower atMost isPair extra divided excessFrom excess carried rounded sumEnd productEnd quotientEnd restEnd provided calls.ends after afterOne zeroPair onePair entry sum product quotient oneMinusEntry pairs read letters plain worked terms fromZero pairSeries u kse ksr ksl k x g A D C aboveGround belowGround AT B exposure factor byMedium medium intakeBy intake byRoute referenceSlot reference figureBy line pathwayAt isPrinted hasReference figureAt chained kindOrder befores among kinds rulesIn rulesOf ruleIn ruleAt lineRules above below valueAtMost valueAtLeast inRange first upTo misspelled misplaced outOfRange fieldConditions fieldAt badBytes badKind begins sameLetter wrongId badId lineConditionsAfter lineConditions badLength noEnd conditions compared sixtyFour capOf linesPerReceptor linesOfReport isAbove highAbove exponentAt tooFast overCap lineTooLarge fastChemicals largeLines reportConditions allConditions lengthOf
 read-whole = refl
 
 answer-is : outcomeOf ordinary deck 665 ≡ record { number = 0; line = 665; field = 0 }
-unfolding bytes lines deckLines deck within leading linesOf lineOf fieldIn fieldOf digitsValue idSpelled idIn signSpelled exponentSpelled powerOf digitsRead endedOf pointedOf spelledOf loneDash wordOf kindOf idOf countOf tabulate valueOf slotSpelled recordOf recordsOf caseWith caseOf enteredFrom scenarioWith ordinary scenarioOf linesPerReceptor linesOfReport lengthOf statusOf outcomeFor outcomeOf
+unfolding bytes lines deckWith deck within leading linesOf lineOf fieldIn fieldOf digitsValue idSpelled idIn signSpelled exponentSpelled powerOf digitsRead endedOf pointedOf spelledOf loneDash wordOf kindOf idOf countOf tabulate valueOf slotSpelled recordOf recordsOf caseWith caseOf enteredFrom scenarioWith ordinary scenarioOf linesPerReceptor linesOfReport lengthOf statusOf outcomeFor outcomeOf
 answer-is = ap (λ (s : Status). outcomeFor s (scenarioOf ordinary deck)) read-whole
+
+-- the composite's
+composite-lines : rowsOf (scenarioOf composite compositeDeck) ≡ compositeRows
+unfolding bytes lines deckWith compositeDeck within leading linesOf lineOf fieldIn fieldOf digitsValue idSpelled idIn signSpelled exponentSpelled powerOf digitsRead endedOf pointedOf spelledOf loneDash wordOf kindOf idOf countOf tabulate valueOf slotSpelled recordOf recordsOf caseWith caseOf table same isIn placeIn ownerOf placeOf valueAt chemicalAt receptorAt orOne pairOf restOf valuesOf chemicalIn receptorIn printedIn scenarioWith composed mean summed sumOfYears pairStage lastStage compositeReceptor compositeFrom composite noReceptor scenarioOf valueIn byOwner inputs pairsAt asAnswers nineFigures inReach zeroExponent isZero isNumber zero one lesser rise unitsAt lower atMost isPair extra divided excessFrom excess carried rounded sumEnd productEnd quotientEnd restEnd provided calls.ends after afterOne zeroPair onePair entry sum product quotient oneMinusEntry pairs read letters plain worked terms fromZero pairSeries u kse ksr ksl k x g A D C aboveGround belowGround AT B exposure factor byMedium medium intakeBy intake byRoute referenceSlot reference figureBy line pathwayAt isPrinted hasReference figureAt chained unitsEnd inUnits unitOf counted countedIn columnsAt _added_ addedOver totalAt rowAt totalRow rowsAt rowsOf row compositeRows
+composite-lines = refl
+
+composite-text : linesText compositeRows ≡ compositeText
+unfolding bytes lines compositeText row compositeRows linesText rowText columnsText number justified decimal digits
+composite-text = refl
+
+composite-whole : first (allConditions composite compositeDeck 665) ≡ Read
+unfolding bytes lines deckWith compositeDeck within leading linesOf lineOf fieldIn fieldOf digitsValue idSpelled idIn signSpelled exponentSpelled powerOf digitsRead endedOf pointedOf spelledOf loneDash wordOf kindOf idOf countOf tabulate valueOf slotSpelled recordOf recordsOf caseWith caseOf table same isIn placeIn ownerOf placeOf valueAt chemicalAt receptorAt orOne pairOf restOf valuesOf chemicalIn receptorIn printedIn scenarioWith composed mean summed sumOfYears pairStage lastStage compositeReceptor compositeFrom composite noReceptor scenarioOf valueIn byOwner inputs pairsAt asAnswers nineFigures inReach zeroExponent isZero isNumber zero one lesser rise unitsAt lower atMost isPair extra divided excessFrom excess carried rounded sumEnd productEnd quotientEnd restEnd provided calls.ends after afterOne zeroPair onePair entry sum product quotient oneMinusEntry pairs read letters plain worked terms fromZero pairSeries u kse ksr ksl k x g A D C aboveGround belowGround AT B exposure factor byMedium medium intakeBy intake byRoute referenceSlot reference figureBy line pathwayAt isPrinted hasReference figureAt chained kindOrder befores among kinds rulesIn rulesOf ruleIn ruleAt lineRules above below valueAtMost valueAtLeast inRange first upTo misspelled misplaced outOfRange fieldConditions fieldAt badBytes badKind begins sameLetter wrongId badId lineConditionsAfter lineConditions badLength noEnd conditions compared sixtyFour capOf linesPerReceptor linesOfReport isAbove highAbove exponentAt tooFast overCap lineTooLarge fastChemicals largeLines reportConditions allConditions lengthOf
+composite-whole = refl
+
+composite-answer : outcomeOf composite compositeDeck 665 ≡ record { number = 0; line = 665; field = 0 }
+unfolding bytes lines deckWith compositeDeck within leading linesOf lineOf fieldIn fieldOf digitsValue idSpelled idIn signSpelled exponentSpelled powerOf digitsRead endedOf pointedOf spelledOf loneDash wordOf kindOf idOf countOf tabulate valueOf slotSpelled recordOf recordsOf caseWith caseOf scenarioWith compositeFrom composite scenarioOf linesPerReceptor linesOfReport lengthOf statusOf outcomeFor outcomeOf
+composite-answer = ap (λ (s : Status). outcomeFor s (scenarioOf composite compositeDeck)) composite-whole
+
+-- 002's five stages
+stages-weigh : (composed pairs fiveStages 4 (placeOf "BW") ≡ bothEnds 624401315 624401316 (negsuc 6)) × (composed pairs fiveStages 4 (placeOf "ED") ≡ whole 76)
+unfolding fiveStages composed mean summed sumOfYears bothEnds whole pairs table same isIn placeIn ownerOf placeOf nineFigures inReach zeroExponent isZero isNumber zero one lesser rise unitsAt lower atMost isPair extra divided excessFrom excess carried rounded sumEnd productEnd quotientEnd provided calls.ends after afterOne zeroPair onePair entry sum product quotient
+stages-weigh = (refl, refl)
 
 -- What the cases x = 0, ED 4.5 and winter ask of the values is met: by the deck, and by these values.
 deck-at-zero : ofSlots (valuesOf (caseOf deck .site)) (valuesOf (chemicalAt (caseOf deck) 0)) x ≡ is zeroPair
-unfolding bytes lines deckLines deck within leading linesOf lineOf fieldIn fieldOf digitsValue idSpelled idIn signSpelled exponentSpelled powerOf digitsRead endedOf pointedOf spelledOf loneDash wordOf kindOf idOf countOf tabulate valueOf slotSpelled recordOf recordsOf caseWith caseOf table same isIn placeIn ownerOf placeOf valueAt chemicalAt orOne pairOf valuesOf valueIn byOwner inputs asAnswers nineFigures inReach zeroExponent isZero isNumber zero one lesser rise unitsAt lower atMost isPair extra divided excessFrom excess carried rounded sumEnd productEnd quotientEnd restEnd provided calls.ends after afterOne zeroPair onePair entry sum product quotient oneMinusEntry pairs read letters plain u kse ksr ksl k x ofSlots noValues
+unfolding bytes lines deckWith deck within leading linesOf lineOf fieldIn fieldOf digitsValue idSpelled idIn signSpelled exponentSpelled powerOf digitsRead endedOf pointedOf spelledOf loneDash wordOf kindOf idOf countOf tabulate valueOf slotSpelled recordOf recordsOf caseWith caseOf table same isIn placeIn ownerOf placeOf valueAt chemicalAt orOne pairOf valuesOf valueIn byOwner inputs asAnswers nineFigures inReach zeroExponent isZero isNumber zero one lesser rise unitsAt lower atMost isPair extra divided excessFrom excess carried rounded sumEnd productEnd quotientEnd restEnd provided calls.ends after afterOne zeroPair onePair entry sum product quotient oneMinusEntry pairs read letters plain u kse ksr ksl k x ofSlots noValues
 deck-at-zero = refl
 
 -- 1 in every place but those of a receptor's first ten slots, and so of the site's eleventh
@@ -100,4 +123,4 @@ year-met = refl
 -- the single list
 pub checked-figures : CheckedFigures
 unfolding CheckedFigures cases figures
-checked-figures = (figures-hold .0, (figures-hold .1 .0, (at-zero, (year, (winter, (figures-hold .1 .1 .1 .1 .0, (figures-hold .1 .1 .1 .1 .1 .0, (read-whole, (answer-is, (lines-are, (ap linesText lines-are ∙ text-is, tt)))))))))))
+checked-figures = (figures-hold .0, (figures-hold .1 .0, (at-zero, (year, (winter, (figures-hold .1 .1 .1 .1 .0, (figures-hold .1 .1 .1 .1 .1 .0, (read-whole, (answer-is, (lines-are, (ap linesText lines-are ∙ text-is, (composite-whole, (composite-answer, (composite-lines, (ap linesText composite-lines ∙ composite-text, (stages-weigh .0, (stages-weigh .1, tt)))))))))))))))))

@@ -5,14 +5,18 @@ use mathlib.Core.List.{List, [], _∷_, _++_}
 use Prim.Native.Nat.{ℕ}
 use Prim.Native.Char.{code}
 use Prim.Native.String.{String, [] as ε, _∷_ as _◂_}
+use mathlib.Core.Bool.{cond}
+use lib.Dec.{eqb}
 use lib.IntN.{pos, negsuc}
+use lib.ListN.{getD}
 use Rattle.pair.specs.declared.Pair.{Pair}
-use Rattle.pair.specs.Calls.{is, mapped, afterOne, entry, oneMinus, oneMinusEntry, zeroPair, onePair}
+use Rattle.pair.specs.Calls.{Outcome, is, mapped, afterOne, entry, oneMinus, oneMinusEntry, zeroPair, onePair}
 use Rattle.pair.specs.Figures.{_⊘_, whole, bothEnds}
 use Rattle.equations.specs.declared.Pathway.the-variants.{SoilWinter}
 use Rattle.equations.specs.declared.Effect.the-variants.{Hazard, Cancer}
-use Rattle.slots.specs.Slots.{Slot}
+use Rattle.slots.specs.Slots.{Slot, placeOf}
 use Rattle.equations.specs.declared.Values.{Values}
+use Rattle.equations.specs.Formula.{pairs}
 use Rattle.equations.specs.Letters.{φ}
 use Rattle.equations.specs.Page.{x, g, AT}
 use Rattle.equations.specs.Readings.{inputs}
@@ -25,6 +29,7 @@ use Rattle.totals.specs.declared.Columns.{Columns}
 use Rattle.totals.specs.declared.Columns.the-variants.{Absent, Counted}
 use Rattle.text.specs.declared.Row.{Row}
 use Rattle.text.specs.Text.{linesText}
+use Rattle.composite.specs.Composite.{composed, composite}
 use Rattle.report.specs.Report.{rowsOf, ordinary, scenarioOf, allConditions, outcomeOf}
 
 -- a text's bytes; every character here is one byte
@@ -37,10 +42,11 @@ unfoldable pub lines : List String → List ℕ
 lines [] = []
 lines (l ∷ ls) = bytes l ++ (10 ∷ lines ls)
 
--- the deck: kind, id and six fields
-unfoldable pub deckLines : List String
-deckLines =
-    "S1     1          10           2          30         0.2           0           0"
+-- the deck: kind, id and six fields; its receptor's fourth line is given
+unfoldable pub deckWith : String → List ℕ
+deckWith r4 =
+    lines
+    ("S1     1          10           2          30         0.2           0           0"
     ∷ "S2     1           0           0           0        0.01         0.5            "
     ∷ "C1     1           1           1           1           0           0           1"
     ∷ "C2     1           0           0       0.001           0         100           0"
@@ -49,12 +55,16 @@ deckLines =
     ∷ "R1     1          20           5       27375          10           1         365"
     ∷ "R2     1          80           1          73         146        1000        0.02"
     ∷ "R3     1         400         0.1           1         0.1         0.5         0.2"
-    ∷ "R4     1         0.5           1         365                                    "
+    ∷ r4
     ∷ "EN                                                                              "
-    ∷ []
+    ∷ [])
 
 unfoldable pub deck : List ℕ
-deck = lines deckLines
+deck = deckWith "R4     1         0.5           1         365                                    "
+
+-- with 1 in the slot that document 02's P2 adds: a composite's deck of one stage, its years 1
+unfoldable pub compositeDeck : List ℕ
+compositeDeck = deckWith "R4     1         0.5           1         365                       1            "
 
 -- what `tally` prints of it, and these lines as values
 unfoldable pub printedLines : List String
@@ -86,6 +96,37 @@ rows =
     ∷ row 1 0 0 (Counted 538499000000 538499000000) (Counted 2566599987 2566600013)
     ∷ []
 
+-- what `tally_composite` prints of the composite's deck, in which ED is 1 and ATc 365
+unfoldable pub compositeText : List ℕ
+compositeText =
+    lines
+    ("     1     1 1        500000000000        500000000000                   -                   -"
+    ∷ "     1     1 2           120000000           120000000           120000000           120000000"
+    ∷ "     1     1 3           120000000           120000000           120000000           120000000"
+    ∷ "     1     1 4             9000000             9000000             9000000             9000000"
+    ∷ "     1     1 5         37500000000         37500000000         37500000000         37500000000"
+    ∷ "     1     1 6           750000000           750000000           750000000           750000000"
+    ∷ "     1     0 0        538499000000        538499000000         38499000000         38499000000"
+    ∷ [])
+
+unfoldable pub compositeRows : List Row
+compositeRows =
+    row 1 1 1 (Counted 500000000000 500000000000) Absent
+    ∷ row 1 1 2 (Counted 120000000 120000000) (Counted 120000000 120000000)
+    ∷ row 1 1 3 (Counted 120000000 120000000) (Counted 120000000 120000000)
+    ∷ row 1 1 4 (Counted 9000000 9000000) (Counted 9000000 9000000)
+    ∷ row 1 1 5 (Counted 37500000000 37500000000) (Counted 37500000000 37500000000)
+    ∷ row 1 1 6 (Counted 750000000 750000000) (Counted 750000000 750000000)
+    ∷ row 1 0 0 (Counted 538499000000 538499000000) (Counted 38499000000 38499000000)
+    ∷ []
+
+-- 002's five life stages, infant to adult: their years, and their body weights in every other slot
+unfoldable pub fiveStages : ℕ → ℕ → Outcome Pair
+fiveStages j k =
+    cond (eqb k (placeOf "years"))
+    (getD (entry 5 (negsuc 0) ∷ entry 45 (negsuc 0) ∷ whole 7 ∷ whole 8 ∷ whole 56 ∷ []) j (whole 0))
+    (getD (entry 82 (negsuc 0) ∷ entry 165 (negsuc 0) ∷ entry 329 (negsuc 0) ∷ entry 597 (negsuc 0) ∷ entry 707 (negsuc 0) ∷ []) j (whole 0))
+
 -- every one of a list holds
 abbrev pub All : List (Type 0) → Type 0
 All [] = Unit {0}
@@ -102,7 +143,7 @@ pub record Winter (env : Slot → Pair) : Type 0 where
   pub BW : is (env "BW") ≡ entry 633 (negsuc 0)
   pub ATc : is (env "ATc") ≡ whole 27375
 
--- document 01's cases, and the figures of its change P1
+-- document 01's cases, and the figures of document 02's P1 and P2
 unfoldable pub cases : List (Type 0)
 cases =
     -- 2 / 3
@@ -125,6 +166,14 @@ cases =
     ∷ (outcomeOf ordinary deck 665 ≡ record { number = 0; line = 665; field = 0 })
     ∷ (rowsOf (scenarioOf ordinary deck) ≡ rows)
     ∷ (linesText (rowsOf (scenarioOf ordinary deck)) ≡ printedText)
+    -- the composite's deck likewise
+    ∷ (first (allConditions composite compositeDeck 665) ≡ Read)
+    ∷ (outcomeOf composite compositeDeck 665 ≡ record { number = 0; line = 665; field = 0 })
+    ∷ (rowsOf (scenarioOf composite compositeDeck) ≡ compositeRows)
+    ∷ (linesText (rowsOf (scenarioOf composite compositeDeck)) ≡ compositeText)
+    -- 002's five stages weigh 62.44 kg, where 002 prints 63.3; their years add to 76
+    ∷ (composed pairs fiveStages 4 (placeOf "BW") ≡ bothEnds 624401315 624401316 (negsuc 6))
+    ∷ (composed pairs fiveStages 4 (placeOf "ED") ≡ whole 76)
     ∷ []
 
 -- all of them, jointly
