@@ -17,8 +17,8 @@ use Rattle.deck.specs.declared.Case.{Case}
 use Rattle.deck.specs.declared.Record.{Record}
 use Rattle.deck.specs.Cases.{noRecord, valueAt, receptorAt}
 use Rattle.sheet.specs.declared.Receptor.{Receptor}
-use Rattle.sheet.specs.declared.Scenario.{Scenario}
-use Rattle.sheet.specs.Values.{pairOf, noReceptor, scenarioWith}
+use Rattle.sheet.specs.declared.Receptors.{Receptors}
+use Rattle.sheet.specs.Values.{pairOf, noReceptor}
 use Rattle.deck.proofs.Accepted.{tabulated}
 use Rattle.composite.specs.Composite.{summed, sumOfYears, mean, composed, pairStage, lastStage, compositeReceptor, compositeFrom}
 use Rattle.composite.specs.Inner.{pairIn, stageIn, yearsIn, composedIn}
@@ -59,22 +59,11 @@ module _ (stage : ℕ → ℕ → Outcome Pair) (last k : ℕ) (total : Answer) 
   unfolding composed mean pairs placeOf ownerOf placeIn isIn same table
   weighted-mean a b w r s q = q ∙ ap₂ (after quotient) s total-is ∙ rw (ne-eqb k 1 a, ne-eqb k 2 b) refl
 
--- ---- the scenario as it is made
+-- ---- the receptor as it is made
 pub composite-made : (case : Case) (blank : Record) → 0 < length (case .receptors .records) → (values′ : Values) (none : Receptor)
     → values′ .list ≡ composedIn (case .receptors .records) (case .receptors .count - 1) → none ≡ noReceptor
-    → _≡_ {A = Scenario}
-    (record {
-      site = case .site;
-      chemicals = case .chemicals;
-      receptors = record { count = 1; list = record { id = getD (case .receptors .records) 0 blank .id; values = values′ } ∷ none ∷ none ∷ none ∷ [] };
-    })
-    (scenarioWith case (compositeFrom case))
-unfolding scenarioWith compositeFrom compositeReceptor composedIn stageIn pairIn pairStage lastStage receptorAt
+    → _≡_ {A = Receptors} (record { count = 1; list = record { id = getD (case .receptors .records) 0 blank .id; values = values′ } ∷ none ∷ none ∷ none ∷ [] }) (compositeFrom case)
+unfolding compositeFrom compositeReceptor composedIn stageIn pairIn pairStage lastStage receptorAt
 composite-made case blank h values′ none e n =
     let first : getD (case .receptors .records) 0 blank .id ≡ getD (case .receptors .records) 0 noRecord .id = ap (λ (r : Record). r .id) (read-any (case .receptors .records) 0 h blank noRecord) in
-    λ i.
-    record {
-      site = case .site;
-      chemicals = case .chemicals;
-      receptors = record { count = 1; list = record { id = first i; values = record { list = e i } } ∷ n i ∷ n i ∷ n i ∷ [] };
-    }
+    λ i. record { count = 1; list = record { id = first i; values = record { list = e i } } ∷ n i ∷ n i ∷ n i ∷ [] }

@@ -25,6 +25,6 @@ pub fn report(deck: &[u8], out: &mut [u8]) -> Told
     let Status::Read = status else {
         return deck::tell(status);
     };
-    let scenario = composite_of(reading.case);
-    report::write_report(scenario, out)
+    let receptors = composite_of(reading.case);
+    report::write_report(reading.case.site, reading.case.chemicals, receptors, out)
 }

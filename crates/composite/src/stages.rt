@@ -7,7 +7,6 @@ use equations::Values;
 use pair::Answer;
 use pair::Pair;
 use sheet::Receptor;
-use sheet::Scenario;
 use slots::ATC;
 use slots::ED;
 use slots::SLOTS;
@@ -18,7 +17,7 @@ ghost use Rattle.pair.specs.Calls.{answer, after, product};
 ghost use Rattle.equations.specs.Formula.{pairs};
 ghost use Rattle.slots.specs.Slots.{placeOf};
 ghost use Rattle.deck.specs.Cases.{valueAt};
-ghost use Rattle.sheet.specs.Values.{pairOf, noReceptor, scenarioWith};
+ghost use Rattle.sheet.specs.Values.{pairOf, noReceptor};
 ghost use Rattle.composite.specs.Composite.{summed, sumOfYears, composed, compositeFrom};
 ghost use Rattle.composite.specs.Inner.{pairIn, stageIn, yearsIn, composedIn};
 
@@ -142,10 +141,10 @@ fn no_receptor() -> Receptor
     }
 }
 
-// The scenario of a composite's case: a single receptor, made of all of the deck's, under the first one's id.
-pub(crate) fn composite_of(case: Case) -> Scenario
+// A single receptor, made of all of the deck's, under the first one's id.
+pub(crate) fn composite_of(case: Case) -> sheet::Receptors
     requires { ⌜ (1 ≤ case .receptors .count) × (case .receptors .count ≤ 8) ⌝ }
-    ensures { λ r. ⌜ r ≡ scenarioWith case (compositeFrom case) ⌝ }
+    ensures { λ r. ⌜ r ≡ compositeFrom case ⌝ }
 {
     let stages = case.receptors;
     let first = stages.records[0];
@@ -160,11 +159,5 @@ pub(crate) fn composite_of(case: Case) -> Scenario
         none,
         none,
     ];
-    let site = case.site;
-    let chemicals = case.chemicals;
-    Scenario {
-        site,
-        chemicals,
-        receptors: sheet::Receptors { count: 1, list },
-    }
+    sheet::Receptors { count: 1, list }
 }

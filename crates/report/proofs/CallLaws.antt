@@ -20,7 +20,8 @@ use Rattle.deck.proofs.Places.{append-read}
 use Rattle.text.specs.declared.Row.{Row}
 use Rattle.text.specs.Text.{linesText}
 use Rattle.sheet.specs.declared.Counts.{Counts}
-use Rattle.sheet.specs.declared.Scenario.{Scenario}
+use Rattle.sheet.specs.Values.{Scenario}
+use Rattle.sheet.specs.declared.Receptors.{Receptors}
 use Rattle.sheet.specs.Values.{scenarioWith}
 use Rattle.sheet.specs.Sheet.{fastChemicals, largeLines}
 use Rattle.sheet.specs.DemandThree.{Exact}
@@ -150,12 +151,12 @@ module _ (call : Call) (deck buffer : List ℕ) where
     unfolding readOf caseFor
     case-is = ap (λ (r : Reading). r .case) of-deck ∙ ap (λ (s : Status). caseFor s deck) deck-read
 
-    pub answers : Sound (scenarioOf call deck) (exactOf call deck) → (scenario : Scenario) → scenario ≡ scenarioWith (reading .case) (call .receptors (reading .case))
-        → (told : Told) (out : List ℕ) → told ≡ writtenOutcome scenario (length buffer) → out ≡ writtenBuffer scenario buffer
+    pub answers : Sound (scenarioOf call deck) (exactOf call deck) → (receptors′ : Receptors) → receptors′ ≡ call .receptors (reading .case)
+        → (told : Told) (out : List ℕ) → told ≡ writtenOutcome (scenarioWith (reading .case) receptors′) (length buffer) → out ≡ writtenBuffer (scenarioWith (reading .case) receptors′) buffer
         → (told ≡ outcomeOf call deck (length buffer)) × (out ≡ bufferOf call deck buffer)
     unfolding writtenOutcome writtenBuffer outcomeOf bufferOf statusOf allConditions scenarioOf
-    answers sound scenario made told out t o =
-        let same : scenario ≡ scenarioOf call deck = made ∙ ap (λ (c : Case). scenarioWith c (call .receptors c)) case-is in
+    answers sound receptors′ made told out t o =
+        let same : scenarioWith (reading .case) receptors′ ≡ scenarioOf call deck = ap (scenarioWith (reading .case)) made ∙ ap (λ (c : Case). scenarioWith c (call .receptors c)) case-is in
         let here : first (reportConditions (scenarioOf call deck) (length buffer)) ≡ statusOf call deck (length buffer) =
         first-passes (conditions (call .sort) deck) (reportConditions (scenarioOf call deck) (length buffer)) _ deck-read refl
         in

@@ -18,7 +18,7 @@ use Rattle.slots.specs.Slots.{Slot}
 use Rattle.text.specs.declared.Row.{Row}
 use Rattle.text.specs.Text.{reportLineWidth, linesText}
 use Rattle.sheet.specs.declared.Receptors.{Receptors}
-use Rattle.sheet.specs.declared.Scenario.{Scenario}
+use Rattle.sheet.specs.Values.{Scenario}
 use Rattle.sheet.specs.Values.{chemicalIn, receptorIn, scenarioWith, enteredFrom, exactFrom, exactWith}
 use Rattle.sheet.specs.Sheet.{pathwaysPerChemical, pathwayAt, columnsAt, totalAt, chained, linesPerReceptor, fastChemicals, largeLines}
 

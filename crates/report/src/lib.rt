@@ -2,18 +2,21 @@
 mod rows;
 
 use crate::rows::write_rows;
+use deck::Chemicals;
 use deck::MAX_CHEMICALS;
 use deck::MAX_RECEPTORS;
+use deck::Record;
 use deck::Status;
 use deck::Told;
 use sheet::PATHWAYS;
-use sheet::Scenario;
+use sheet::Receptors;
 use slots::Sort;
 use text::LINE_WIDTH;
 ghost use mathlib.Core.Path.{_≡_};
 ghost use Prim.Native.Nat.{_*_, _≤_};
 ghost use lib.ListN.{length};
 ghost use Rattle.text.specs.Text.{reportLineWidth};
+ghost use Rattle.sheet.specs.Values.{scenarioFrom};
 ghost use Rattle.report.specs.Report.{ordinary, outcomeOf, bufferOf};
 ghost use Rattle.report.specs.Scenario.{perReceptor, writtenOutcome, writtenBuffer};
 
@@ -45,26 +48,31 @@ fn refused(number: u32) -> Told
 
 // The report of a scenario into the buffer: 0, the report's length, 0; or the number, line and field of the first condition that stops it,
 // and the buffer as it was. Every call on a deck ends here, however it made its receptors.
-pub fn write_report(scenario: Scenario, out: &mut [u8]) -> Told
-    ensures { λ r. ⌜ r ≡ writtenOutcome scenario (length (now (out .entry))) ⌝ }
-    ensures { λ _. ⌜ now (out .exit) ≡ writtenBuffer scenario (now (out .entry)) ⌝ }
+pub fn write_report(
+    site: Record,
+    chemicals: Chemicals,
+    receptors: Receptors,
+    out: &mut [u8],
+) -> Told
+    ensures { λ r. ⌜ r ≡ writtenOutcome (scenarioFrom site chemicals receptors) (length (now (out .entry))) ⌝ }
+    ensures { λ _. ⌜ now (out .exit) ≡ writtenBuffer (scenarioFrom site chemicals receptors) (now (out .entry)) ⌝ }
 {
-    if MAX_CHEMICALS < scenario.chemicals.count {
+    if MAX_CHEMICALS < chemicals.count {
         return refused(TOO_MANY);
     }
-    if MAX_RECEPTORS < scenario.receptors.count {
+    if MAX_RECEPTORS < receptors.count {
         return refused(TOO_MANY);
     }
-    let length = length_of(scenario.chemicals.count, scenario.receptors.count);
+    let length = length_of(chemicals.count, receptors.count);
     if out.len() < length {
         return refused(TOO_SHORT);
     }
-    let counts = sheet::counts_of(scenario);
+    let counts = sheet::counts_of(site, chemicals, receptors);
     let worked = counts.status;
     let Status::Read = worked else {
         return deck::tell(worked);
     };
-    write_rows(out, &counts.cells, scenario.chemicals, scenario.receptors);
+    write_rows(out, &counts.cells, chemicals, receptors);
     Told {
         number: 0,
         line: length,
@@ -82,6 +90,6 @@ pub fn report(deck: &[u8], out: &mut [u8]) -> Told
     let Status::Read = status else {
         return deck::tell(status);
     };
-    let scenario = sheet::ordinary_of(reading.case);
-    write_report(scenario, out)
+    let receptors = sheet::entered_from(reading.case);
+    write_report(reading.case.site, reading.case.chemicals, receptors, out)
 }

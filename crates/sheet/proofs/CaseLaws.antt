@@ -32,7 +32,7 @@ use Rattle.deck.specs.Conditions.{Condition, at, first}
 use Rattle.totals.specs.declared.Columns.{Columns}
 use Rattle.totals.specs.declared.Columns.the-variants as Cols
 use Rattle.totals.specs.Totals.{_added_}
-use Rattle.sheet.specs.declared.Scenario.{Scenario}
+use Rattle.sheet.specs.Values.{Scenario}
 use Rattle.sheet.specs.Values.{valuesOf, particlesOf, chemicalIn, pairsAt}
 use Rattle.sheet.specs.Sheet.{pathwaysPerChemical, pathwayAt, hasReference, figureAt, unitOf, counted, countedIn, columnsAt, addedOver, totalAt, isAbove, highAbove, exponentAt, tooFast, overCap, capOf, fastChemicals, largeLines, chained}
 use Rattle.sheet.specs.Counts.{tooMany, isRefused, mediaFor, noMediaAt, sheetConditions, Part, Mark, Low, High, cellOf, cellsOf, totalIn, CountsMost}

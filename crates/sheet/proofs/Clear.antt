@@ -9,7 +9,7 @@ use Rattle.deck.specs.declared.Status.the-variants.{Read}
 use Rattle.deck.specs.Conditions.{at, first}
 use Rattle.deck.proofs.Scan.{first-read, neither}
 use Rattle.equations.specs.Ranges.{sixtyFour}
-use Rattle.sheet.specs.declared.Scenario.{Scenario}
+use Rattle.sheet.specs.Values.{Scenario}
 use Rattle.sheet.specs.Sheet.{pathwayAt, pathwaysPerChemical, chained, linesPerReceptor, highAbove, exponentAt, tooFast, overCap, lineTooLarge, fastChemicals, largeLines}
 use Rattle.sheet.proofs.Chains.{chained-each}
 

@@ -21,7 +21,7 @@ use Rattle.deck.proofs.Scan.{first-read}
 use Rattle.deck.proofs.Accepted.{tabulated}
 use Rattle.deck.proofs.CaseLaws.{length-tabulate}
 use Rattle.totals.specs.declared.Columns.the-variants as Cols
-use Rattle.sheet.specs.declared.Scenario.{Scenario}
+use Rattle.sheet.specs.Values.{Scenario}
 use Rattle.sheet.specs.declared.Counts.{Counts}
 use Rattle.sheet.specs.declared.Source.{Source}
 use Rattle.sheet.specs.declared.Sources.{Sources}

@@ -21,7 +21,7 @@ use Rattle.deck.specs.declared.Value.the-variants.{Printed}
 use Rattle.deck.specs.Cases.{tabulate, noRecord, valueAt, receptorAt}
 use Rattle.deck.specs.Ranged.{Fits, Ranged}
 use Rattle.sheet.specs.declared.Receptor as receptors
-use Rattle.sheet.specs.declared.Scenario.{Scenario}
+use Rattle.sheet.specs.declared.Receptors as many
 use Rattle.sheet.specs.Values.{pairOf, noReceptor, receptorIn, pairsAt, entered, scenarioWith, enteredFrom, ordinaryOf, fractionOf, exactFrom, exactAt}
 use Rattle.sheet.proofs.Sound.{Sound}
 use Rattle.deck.proofs.Accepted.{tabulated}
@@ -60,12 +60,12 @@ module _ (case : Case) (ranged : Ranged Ordinary case) where
   unfolding ordinaryOf exactAt enteredFrom
   ordinary-sound = made-sound Ordinary case ranged (enteredFrom case) (exactFrom case) (ranged .some-receptors) (ranged .few-receptors) entered-good
 
--- the scenario as it is made: the first four records entered
+-- the receptors as they are made: the first four records entered
 pub entered-all : (case : Case) (blank : Record) → 4 ≤ length (case .receptors .records) → (a b c d : receptors.Receptor)
     → a ≡ entered (getD (case .receptors .records) 0 blank) → b ≡ entered (getD (case .receptors .records) 1 blank)
     → c ≡ entered (getD (case .receptors .records) 2 blank) → d ≡ entered (getD (case .receptors .records) 3 blank)
-    → _≡_ {A = Scenario} (record { site = case .site; chemicals = case .chemicals; receptors = record { count = case .receptors .count; list = a ∷ b ∷ c ∷ d ∷ [] } }) (ordinaryOf case)
-unfolding ordinaryOf scenarioWith enteredFrom tabulate receptorAt
+    → _≡_ {A = many.Receptors} (record { count = case .receptors .count; list = a ∷ b ∷ c ∷ d ∷ [] }) (enteredFrom case)
+unfolding enteredFrom tabulate receptorAt
 entered-all case blank long a b c d p q r s =
     let at : (k : ℕ) → k < 4 → getD (case .receptors .records) k blank ≡ getD (case .receptors .records) k noRecord = λ k h. read-any (case .receptors .records) k (omega arith) blank noRecord in
     rw (p, q, r, s, at 0 (lit< tt), at 1 (lit< tt), at 2 (lit< tt), at 3 (lit< tt)) refl

@@ -19,7 +19,7 @@ use Rattle.deck.proofs.CaseLaws.{length-tabulate}
 use Rattle.totals.specs.declared.Columns.{Columns}
 use Rattle.totals.specs.declared.Columns.the-variants as Cols
 use Rattle.totals.specs.Totals.{_added_, totalOf, listSum, allAtMost}
-use Rattle.sheet.specs.declared.Scenario.{Scenario}
+use Rattle.sheet.specs.Values.{Scenario}
 use Rattle.sheet.specs.Sheet.{chained, pathwayAt, columnsAt, addedOver, totalAt}
 use Rattle.sheet.specs.Counts.{Part, Mark, Low, High, cellOf, effectAt, partAt, lineColumns, cellAt, cellsOf, columnsFrom, sideOf, isHeld, columnsFound, columnsIn, totalledFrom, totalFound, totalIn}
 use Rattle.sheet.specs.Inner.{partOf, CellsHold}

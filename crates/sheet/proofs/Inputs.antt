@@ -39,7 +39,7 @@ use Rattle.deck.specs.Cases.{noSlot, valueAt, chemicalAt, receptorAt, ownersRec
 use Rattle.deck.specs.Ranged.{Spelled, Fits, Ranged}
 use Rattle.deck.proofs.Accepted.{range-positive, range-bounds}
 use Rattle.sheet.specs.declared.Receptors.{Receptors}
-use Rattle.sheet.specs.declared.Scenario.{Scenario}
+use Rattle.sheet.specs.Values.{Scenario}
 use Rattle.sheet.specs.Values.{orOne, pairOf, restOf, valuesOf, noReceptor, chemicalIn, receptorIn, printedIn, pairsAt, scenarioWith, fractionOf, exactWith}
 use Rattle.sheet.proofs.Sound.{Sound}
 

@@ -4,7 +4,7 @@ use Prim.Native.Nat.{ℕ, _≤_, _<_}
 use Rattle.slots.specs.Slots.{Slot}
 use Rattle.equations.proofs.LineLaws.{InRange}
 use Rattle.deck.specs.Kinds.{maxChemicals}
-use Rattle.sheet.specs.declared.Scenario.{Scenario}
+use Rattle.sheet.specs.Values.{Scenario}
 use Rattle.sheet.specs.Values.{mostWorked, pairsAt}
 use Rattle.sheet.specs.DemandThree.{Exact}
 

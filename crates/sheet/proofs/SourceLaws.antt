@@ -27,7 +27,7 @@ use Rattle.deck.specs.declared.Value.{Value}
 use Rattle.deck.specs.declared.Value.the-variants.{Absent, Printed}
 use Rattle.deck.specs.Cases.{valueAt}
 use Rattle.totals.specs.declared.Columns.the-variants as Cols
-use Rattle.sheet.specs.declared.Scenario.{Scenario}
+use Rattle.sheet.specs.Values.{Scenario}
 use Rattle.sheet.specs.Values.{pairOf, valuesOf, particlesOf, chemicalIn, receptorIn, printedIn, pairsAt}
 use Rattle.sheet.specs.Sheet.{isPrinted, hasReference, figureAt, unitOf, capOf, countedIn, columnsAt, highAbove, overCap}
 use Rattle.sheet.specs.Counts.{isRefused, mediaFor}

@@ -19,7 +19,7 @@ use Rattle.totals.specs.declared.Columns.{Columns}
 use Rattle.totals.specs.declared.Columns.the-variants as Cols
 use Rattle.totals.specs.Totals.{totalOf}
 use Rattle.sheet.specs.declared.Counts.{Counts}
-use Rattle.sheet.specs.declared.Scenario.{Scenario}
+use Rattle.sheet.specs.Values.{Scenario}
 use Rattle.sheet.specs.Values.{mostWorked, valuesOf, particlesOf, chemicalIn}
 use Rattle.sheet.specs.Sheet.{pathwaysPerChemical, pathwayAt, columnsAt, chained, largeLines}
 

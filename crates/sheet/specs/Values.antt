@@ -12,6 +12,7 @@ use Rattle.slots.specs.Slots.{Slot, ownerOf, placeOf}
 use Rattle.equations.specs.declared.Values.{Values}
 use Rattle.equations.specs.Readings.{Inputs, byOwner, inputs}
 use Rattle.deck.specs.declared.Case.{Case}
+use Rattle.deck.specs.declared.Chemicals.{Chemicals}
 use Rattle.deck.specs.declared.Filled.{Filled}
 use Rattle.deck.specs.declared.Record.{Record}
 use Rattle.deck.specs.declared.Value.{Value}
@@ -20,7 +21,6 @@ use Rattle.deck.specs.Kinds.{maxReceptors}
 use Rattle.deck.specs.Cases.{tabulate, noRecord, valueAt, chemicalAt, receptorAt}
 use Rattle.sheet.specs.declared.Receptor.{Receptor}
 use Rattle.sheet.specs.declared.Receptors.{Receptors}
-use Rattle.sheet.specs.declared.Scenario.{Scenario}
 
 -- how many receptors a sheet is worked for: an ordinary deck's
 abbrev pub mostWorked : ℕ
@@ -48,7 +48,16 @@ valuesOf r = record { list = map (λ (s : Filled). pairOf (s .value)) (r .slots)
 unfoldable pub particlesOf : Record → Pair
 particlesOf r = restOf (valueAt r (placeOf "Fv"))
 
--- ---- a scenario: a site and chemicals as printed, and receptors made of pairs
+-- ---- a scenario: a site and chemicals as printed, and receptors made of pairs. Whether a receptor's values were printed or made of life stages,
+-- nothing after this asks.
+pub record Scenario : Type 0 where
+  pub site : Record
+  pub chemicals : Chemicals
+  pub receptors : Receptors
+
+abbrev pub scenarioFrom : Record → Chemicals → Receptors → Scenario
+scenarioFrom site′ chemicals′ receptors′ = record { site = site′; chemicals = chemicals′; receptors = receptors′ }
+
 -- no receptor: every value reads as 1
 unfoldable pub noReceptor : Receptor
 noReceptor = record { id = 0; values = valuesOf noRecord }
@@ -74,7 +83,7 @@ pairsAt scenario j i =
 
 -- the site and the chemicals of a case, with these receptors
 unfoldable pub scenarioWith : Case → Receptors → Scenario
-scenarioWith case receptors′ = record { site = case .site; chemicals = case .chemicals; receptors = receptors′ }
+scenarioWith case receptors′ = scenarioFrom (case .site) (case .chemicals) receptors′
 
 -- the exact values: what is printed of the site and of chemical i, and these of receptor j
 unfoldable pub fractionOf : Value → Fraction

@@ -8,7 +8,7 @@ mod values;
 
 use crate::chemicals::sources_of;
 use crate::lines::put_all;
-pub use crate::ordinary::ordinary_of;
+pub use crate::ordinary::entered_from;
 use crate::reading::columns_found;
 use crate::reading::total_found;
 pub use crate::values::or_one;
@@ -25,6 +25,7 @@ use media::Media;
 use pathway::References;
 use totals::Columns;
 ghost use mathlib.Core.Path.{_≡_};
+ghost use Rattle.sheet.specs.Values.{scenarioFrom};
 ghost use Rattle.sheet.specs.Counts.{noCells, countsOf, sideOf, columnsIn, totalIn};
 
 // Pathways of a chemical.
@@ -44,13 +45,6 @@ pub struct Receptor {
 pub struct Receptors {
     pub count: usize,
     pub list: [Receptor; MAX_RECEPTORS],
-}
-
-// What a sheet is worked from.
-pub struct Scenario {
-    pub site: Record,
-    pub chemicals: Chemicals,
-    pub receptors: Receptors,
 }
 
 // The counts of a scenario's lines stand in cells. An effect has three columns of 96 cells: 1 for each line that has counts, the low and the
@@ -98,28 +92,23 @@ fn stopped(status: Status) -> Counts
 
 // The counts of a scenario's lines, or where it stops: more records than a sheet has room for, a chemical whose x is above 64, a line above
 // its cap.
-pub fn counts_of(scenario: Scenario) -> Counts
-    ensures { λ r. ⌜ r ≡ countsOf scenario ⌝ }
+pub fn counts_of(site: Record, chemicals: Chemicals, receptors: Receptors) -> Counts
+    ensures { λ r. ⌜ r ≡ countsOf (scenarioFrom site chemicals receptors) ⌝ }
 {
-    if MAX_CHEMICALS < scenario.chemicals.count {
+    if MAX_CHEMICALS < chemicals.count {
         return stopped(Status::Stopped(TOO_MANY, 0, 0));
     }
-    if MAX_RECEPTORS < scenario.receptors.count {
+    if MAX_RECEPTORS < receptors.count {
         return stopped(Status::Stopped(TOO_MANY, 0, 0));
     }
-    let site = values_of(scenario.site);
-    let prepared = sources_of(site, scenario.chemicals);
+    let values = values_of(site);
+    let prepared = sources_of(values, chemicals);
     let ready = prepared.status;
     let Status::Read = ready else {
         return stopped(ready);
     };
     let mut counts = stopped(Status::Read);
-    let status = put_all(
-        &mut counts.cells,
-        site,
-        scenario.receptors,
-        prepared.sources,
-    );
+    let status = put_all(&mut counts.cells, values, receptors, prepared.sources);
     let Status::Read = status else {
         return stopped(status);
     };

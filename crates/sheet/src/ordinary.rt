@@ -1,11 +1,10 @@
-// The scenario of an ordinary deck.
+// The receptors of an ordinary deck.
 use deck::Case;
 use deck::Record;
 ghost use mathlib.Core.Path.{_≡_};
-ghost use Rattle.sheet.specs.Values.{entered, ordinaryOf};
+ghost use Rattle.sheet.specs.Values.{entered, enteredFrom};
 use crate::Receptor;
 use crate::Receptors;
-use crate::Scenario;
 use crate::values::values_of;
 
 // A receptor whose slots' pairs are the entries of what is printed.
@@ -16,12 +15,10 @@ fn enter(r: Record) -> Receptor
     Receptor { id: r.id, values }
 }
 
-// What an ordinary deck's sheet is worked from.
-pub fn ordinary_of(case: Case) -> Scenario
-    ensures { λ r. ⌜ r ≡ ordinaryOf case ⌝ }
+// The receptors that an ordinary deck's sheet is worked for.
+pub fn entered_from(case: Case) -> Receptors
+    ensures { λ r. ⌜ r ≡ enteredFrom case ⌝ }
 {
-    let site = case.site;
-    let chemicals = case.chemicals;
     let receptors = case.receptors;
     let list = [
         enter(receptors.records[0]),
@@ -29,12 +26,8 @@ pub fn ordinary_of(case: Case) -> Scenario
         enter(receptors.records[2]),
         enter(receptors.records[3]),
     ];
-    Scenario {
-        site,
-        chemicals,
-        receptors: Receptors {
-            count: receptors.count,
-            list,
-        },
+    Receptors {
+        count: receptors.count,
+        list,
     }
 }

@@ -4,6 +4,7 @@ use borrow.Author.Needs.{needs}
 use denote.Ref.{now}
 use Rattle.deck.specs.declared.Reading.{Reading}
 use Rattle.deck.specs.Cases.{readOf}
+use Rattle.sheet.specs.Values.{scenarioWith}
 use Rattle.report.proofs.CallLaws.{deck-stops, deck-read, answers}
 use Rattle.composite.specs.Composite.{composite}
 use Rattle.composite.proofs.Demands.{composite-sounds, stages-few}
@@ -41,7 +42,7 @@ same-length : tie.Need-same-length
 same-length c = search needs
 
 returns-2 : tie.Need-returns-2
-unfolding composite
+unfolding composite scenarioWith
 returns-2 c =
     let a = c .before .before .before .before .before .before .before .before .before .before .args in
     let reading = c .before .before .before .before .before .before .before .read .ensures .0 in

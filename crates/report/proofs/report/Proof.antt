@@ -4,7 +4,7 @@ use borrow.Author.Needs.{needs}
 use denote.Ref.{now}
 use Rattle.deck.specs.declared.Reading.{Reading}
 use Rattle.deck.specs.Cases.{readOf}
-use Rattle.sheet.specs.Values.{ordinaryOf}
+use Rattle.sheet.specs.Values.{scenarioWith}
 use Rattle.report.specs.Report.{ordinary}
 use Rattle.report.proofs.CallLaws.{deck-stops, deck-read, answers}
 use Rattle.report.proofs.DemandTwo.{ordinary-sounds}
@@ -29,8 +29,8 @@ returns c =
     let a = c .before .before .before .before .before .before .args in
     deck-stops ordinary (now (a .deck)) (now (a .out)) _ _ _ _ _ (ap (λ (r : Reading). r .status) (c .before .before .before .read .ensures .0)) (c .before .enum-told2 .given .1) (c .tell .ensures)
 
-ordinary-of-requires : tie.Need-ordinary-of-requires
-ordinary-of-requires c κs = search needs
+entered-from-requires : tie.Need-entered-from-requires
+entered-from-requires c κs = search needs
 
 write-report-requires : tie.Need-write-report-requires
 write-report-requires c κs = search needs
@@ -39,12 +39,12 @@ same-length : tie.Need-same-length
 same-length c = search needs
 
 returns-2 : tie.Need-returns-2
-unfolding ordinary ordinaryOf
+unfolding ordinary scenarioWith
 returns-2 c =
     let a = c .before .before .before .before .before .before .before .before .before .before .args in
     let reading = c .before .before .before .before .before .before .before .read .ensures .0 in
     let none = c .before .before .before .before .before .enum-told .given .1 in
-    answers ordinary (now (a .deck)) (now (a .out)) _ reading none (ordinary-sounds .sound (now (a .deck)) (deck-read ordinary (now (a .deck)) (now (a .out)) _ reading none)) _ (c .before .before .before .before .ordinary-of .ensures) _ _ (c .before .before .write-report .ensures .0) (c .before .before .write-report .ensures .1)
+    answers ordinary (now (a .deck)) (now (a .out)) _ reading none (ordinary-sounds .sound (now (a .deck)) (deck-read ordinary (now (a .deck)) (now (a .out)) _ reading none)) _ (c .before .before .before .before .entered-from .ensures) _ _ (c .before .before .write-report .ensures .0) (c .before .before .write-report .ensures .1)
 
 pub report-spec : {M : Type 1} → statement M
 report-spec =
@@ -55,7 +55,7 @@ report-spec =
     enum-told-2
     tell-requires
     returns
-    ordinary-of-requires
+    entered-from-requires
     write-report-requires
     same-length
     returns-2)

@@ -1,6 +1,7 @@
 -- `report::write_report` meets its contract. Assumes nothing.
 use borrow.Author.Needs.{needs}
 use denote.Ref.{now}
+use Rattle.sheet.specs.Values.{scenarioFrom}
 use Rattle.sheet.specs.Sheet.{linesPerReceptor}
 use Rattle.report.specs.Report.{linesOfReport, lengthOf}
 use Rattle.report.proofs.CallLaws.{many-chemicals, many-receptors, too-short, sheet-stops, written}
@@ -13,7 +14,7 @@ refused-requires c κs = search needs
 returns : tie.Need-returns
 returns c =
     let a = c .before .before .before .before .args in
-    many-chemicals (a .scenario) (now (a .out)) (c .before .if1 .taken) (c .refused .result) (c .refused .ensures)
+    many-chemicals (scenarioFrom (a .site) (a .chemicals) (a .receptors)) (now (a .out)) (c .before .if1 .taken) (c .refused .result) (c .refused .ensures)
 
 refused-requires-2 : tie.Need-refused-requires-2
 refused-requires-2 c κs = search needs
@@ -21,7 +22,7 @@ refused-requires-2 c κs = search needs
 returns-2 : tie.Need-returns-2
 returns-2 c =
     let a = c .before .before .before .before .before .before .args in
-    many-receptors (a .scenario) (now (a .out)) (c .before .before .before .if1 .left) (c .before .if2 .taken) (c .refused2 .result) (c .refused2 .ensures)
+    many-receptors (scenarioFrom (a .site) (a .chemicals) (a .receptors)) (now (a .out)) (c .before .before .before .if1 .left) (c .before .if2 .taken) (c .refused2 .result) (c .refused2 .ensures)
 
 length-of-requires : tie.Need-length-of-requires
 length-of-requires c κs = search needs
@@ -33,7 +34,7 @@ returns-3 : tie.Need-returns-3
 unfolding lengthOf linesOfReport linesPerReceptor
 returns-3 c =
     let a = c .before .before .before .before .before .before .before .before .args in
-    too-short (a .scenario) (now (a .out)) (c .before .before .before .before .before .if1 .left) (c .before .before .before .if2 .left) (rw (c .before .before .length-of .ensures) at (c .before .if3 .taken)) (c .refused3 .result) (c .refused3 .ensures)
+    too-short (scenarioFrom (a .site) (a .chemicals) (a .receptors)) (now (a .out)) (c .before .before .before .before .before .if1 .left) (c .before .before .before .if2 .left) (rw (c .before .before .length-of .ensures) at (c .before .if3 .taken)) (c .refused3 .result) (c .refused3 .ensures)
 
 counts-of-requires : tie.Need-counts-of-requires
 counts-of-requires c κs = search needs
@@ -52,7 +53,7 @@ unfolding lengthOf linesOfReport linesPerReceptor
 returns-4 c =
     let a = c .before .before .before .before .before .before .before .before .before .before .before .args in
     let room = rw (c .before .before .before .before .before .length-of .ensures) at (c .before .before .before .before .if3 .left) in
-    sheet-stops (a .scenario) (now (a .out)) (c .before .before .before .before .before .before .before .before .if1 .left) (c .before .before .before .before .before .before .if2 .left) room _ (c .before .before .before .counts-of .ensures) _ _ _ _ (c .before .enum-told2 .given .1) (c .tell .ensures)
+    sheet-stops (scenarioFrom (a .site) (a .chemicals) (a .receptors)) (now (a .out)) (c .before .before .before .before .before .before .before .before .if1 .left) (c .before .before .before .before .before .before .if2 .left) room _ (c .before .before .before .counts-of .ensures) _ _ _ _ (c .before .enum-told2 .given .1) (c .tell .ensures)
 
 write-rows-requires : tie.Need-write-rows-requires
 write-rows-requires c κs = search needs
@@ -66,7 +67,7 @@ returns-5 c =
     let a = c .before .before .before .before .before .before .before .before .before .before .before .before .before .before .before .before .before .args in
     let long = c .before .before .before .before .before .before .before .before .before .before .before .length-of .ensures in
     let room = rw long at (c .before .before .before .before .before .before .before .before .before .before .if3 .left) in
-    written (a .scenario) (now (a .out)) (c .before .before .before .before .before .before .before .before .before .before .before .before .before .before .if1 .left) (c .before .before .before .before .before .before .before .before .before .before .before .before .if2 .left) room _ (c .before .before .before .before .before .before .before .before .before .counts-of .ensures) (c .before .before .before .before .before .before .before .enum-told .given .1) _ _ long (c .before .before .write-rows .ensures)
+    written (scenarioFrom (a .site) (a .chemicals) (a .receptors)) (now (a .out)) (c .before .before .before .before .before .before .before .before .before .before .before .before .before .before .if1 .left) (c .before .before .before .before .before .before .before .before .before .before .before .before .if2 .left) room _ (c .before .before .before .before .before .before .before .before .before .counts-of .ensures) (c .before .before .before .before .before .before .before .enum-told .given .1) _ _ long (c .before .before .write-rows .ensures)
 
 pub write-report-spec : {M : Type 1} → statement M
 write-report-spec =

@@ -22,9 +22,9 @@ no-receptor-requires c κs = search needs
 
 returns : tie.Need-returns
 returns c =
-    let s = c .before .before .before .before .before .before in
+    let s = c .before .before .before .before in
     let long : length (s .args .case .receptors .records) ≡ 8 = sym (length-map (s .args .case .receptors .records) _) ∙ s .good .0 .1 .1 .1 .1 .0 .1 .1 .1 .0 .1 .0 .1 in
-    composite-made (s .args .case) _ (omega arith) (c .before .before .before .composed-values .result) (c .before .before .no-receptor .result) (c .before .before .before .composed-values .ensures) (c .before .before .no-receptor .ensures)
+    composite-made (s .args .case) _ (omega arith) (c .before .composed-values .result) (c .no-receptor .result) (c .before .composed-values .ensures) (c .no-receptor .ensures)
 
 pub composite-of-spec : {M : Type 1} → statement M
 composite-of-spec =

@@ -1,12 +1,12 @@
--- `sheet::ordinary::ordinary_of` meets its contract. Assumes nothing.
+-- `sheet::ordinary::entered_from` meets its contract. Assumes nothing.
 use mathlib.Core.Path.{_≡_, sym, _∙_}
 use Prim.Native.Nat.{_≤_}
 use native.Mathlib.Omega.{arith}
 use borrow.Author.Needs.{needs}
 use lib.ListN.{length, length-map}
 use Rattle.sheet.proofs.Entered.{entered-all}
-use Rattle.sheet.proofs.ordinary.ordinary_of.Statement.{statement}
-use Rattle.sheet.proofs.ordinary.ordinary_of.Tie as tie
+use Rattle.sheet.proofs.ordinary.entered_from.Statement.{statement}
+use Rattle.sheet.proofs.ordinary.entered_from.Tie as tie
 
 element-copy-out-enter : tie.Need-element-copy-out-enter
 element-copy-out-enter c = search needs
@@ -34,12 +34,12 @@ enter-requires-4 c κs = search needs
 
 returns : tie.Need-returns
 returns c =
-    let s = c .before .before .before .before .before .before .before .before .before .before .before in
+    let s = c .before .before .before .before .before .before .before .before .before in
     let long : length (s .args .case .receptors .records) ≡ 8 = sym (length-map (s .args .case .receptors .records) _) ∙ s .good .0 .1 .1 .1 .1 .0 .1 .1 .1 .0 .1 .0 .1 in
     entered-all (s .args .case) _ (omega arith) _ _ _ _ (c .before .before .before .before .before .before .enter .ensures) (c .before .before .before .before .enter2 .ensures) (c .before .before .enter3 .ensures) (c .enter4 .ensures)
 
-pub ordinary-of-spec : {M : Type 1} → statement M
-ordinary-of-spec =
+pub entered-from-spec : {M : Type 1} → statement M
+entered-from-spec =
     tie.close
     (tie.spec
     element-copy-out-enter
