@@ -19,13 +19,12 @@ use Rattle.deck.proofs.Scan.{first-read}
 use Rattle.deck.proofs.Places.{append-read}
 use Rattle.text.specs.declared.Row.{Row}
 use Rattle.text.specs.Text.{linesText}
-use Rattle.sheet.specs.declared.Counts.{Counts}
 use Rattle.sheet.specs.Values.{Scenario}
 use Rattle.sheet.specs.declared.Receptors.{Receptors}
 use Rattle.sheet.specs.Values.{scenarioWith}
 use Rattle.sheet.specs.Sheet.{fastChemicals, largeLines}
 use Rattle.sheet.specs.DemandThree.{Exact}
-use Rattle.sheet.specs.Counts.{tooMany, sheetConditions, cellsOf, cellsFor, countsOf}
+use Rattle.sheet.specs.Counts.{tooMany, cellsOf, cellsFor, sheetStatus, sheetCells}
 use Rattle.report.specs.Report.{rowsOf, lengthOf, reportConditions, Call, scenarioOf, exactOf, allConditions, statusOf, outcomeFor, outcomeOf, bufferWith, bufferFor, bufferOf}
 use Rattle.report.specs.Scenario.{reportIn, writtenRows, writtenConditions, writtenStatus, writtenOutcome, writtenBuffer}
 use Rattle.sheet.proofs.Sound.{Sound}
@@ -84,26 +83,24 @@ module _ (scenario : Scenario) (buffer : List ℕ) where
       too-short h told t = refused (Stopped 51 0 0) 51 0 0 told (rw (few, lt-ltb _ _ h) refl) refl (refusal 51 told t)
 
       -- the report has room
-      module _ (room : lengthOf scenario ≤ length buffer) (counts : Counts) (of-scenario : counts ≡ countsOf scenario) where
-        status-is : counts .status ≡ writtenStatus scenario (length buffer)
-        unfolding writtenStatus writtenConditions first countsOf
-        status-is = ap (λ (c : Counts). c .status) of-scenario ∙ rw (few, le-ltb _ _ room) refl
+      module _ (room : lengthOf scenario ≤ length buffer) (status : Status) (is-status : status ≡ sheetStatus scenario) where
+        status-is : status ≡ writtenStatus scenario (length buffer)
+        unfolding writtenStatus writtenConditions first sheetStatus
+        status-is = is-status ∙ rw (few, le-ltb _ _ room) refl
 
         -- the sheet stops
-        pub sheet-stops : (number line field : ℕ) (told : Told) → counts .status ≡ Stopped number line field → told ≡ toldOf (counts .status)
+        pub sheet-stops : (number line field : ℕ) (told : Told) → status ≡ Stopped number line field → told ≡ toldOf status
             → (told ≡ writtenOutcome scenario (length buffer)) × (buffer ≡ writtenBuffer scenario buffer)
-        sheet-stops number line field told q t = refused (counts .status) number line field told status-is q t
+        sheet-stops number line field told q t = refused status number line field told status-is q t
 
         -- and the report is written
-        module _ (none : counts .status ≡ Read) where
-          cells-are : counts .cells ≡ cellsOf scenario
-          unfolding countsOf cellsFor
-          cells-are =
-              let s : first (sheetConditions scenario) ≡ Read = sym (ap (λ (c : Counts). c .status) of-scenario) ∙ none in
-              ap (λ (c : Counts). c .cells) of-scenario ∙ ap (λ (x : Status). cellsFor x scenario) s
+        module _ (none : status ≡ Read) (cells : List ℕ) (held : cells ≡ sheetCells scenario) where
+          cells-are : cells ≡ cellsOf scenario
+          unfolding sheetCells cellsFor
+          cells-are = held ∙ ap (λ (x : Status). cellsFor x scenario) (sym is-status ∙ none)
 
           pub written : (out : List ℕ) (n : ℕ) → n ≡ lengthOf scenario
-              → out ≡ linesText (reportIn (counts .cells) (scenario .chemicals) (scenario .receptors .list) (scenario .receptors .count)) ++ drop (lengthOf scenario) buffer
+              → out ≡ linesText (reportIn cells (scenario .chemicals) (scenario .receptors .list) (scenario .receptors .count)) ++ drop (lengthOf scenario) buffer
               → (_≡_ {A = Told} (record { number = 0; line = n; field = 0 }) (writtenOutcome scenario (length buffer))) × (out ≡ writtenBuffer scenario buffer)
           unfolding writtenOutcome outcomeFor writtenBuffer bufferWith writtenRows
           written out n m o =
@@ -111,7 +108,7 @@ module _ (scenario : Scenario) (buffer : List ℕ) where
                 rw (s, m) refl,
                 rw s
                     (o
-                    ∙ ap (λ (cells : List ℕ). linesText (reportIn cells (scenario .chemicals) (scenario .receptors .list) (scenario .receptors .count)) ++ drop (lengthOf scenario) buffer) cells-are),
+                    ∙ ap (λ (x : List ℕ). linesText (reportIn x (scenario .chemicals) (scenario .receptors .list) (scenario .receptors .count)) ++ drop (lengthOf scenario) buffer) cells-are),
               )
 
 -- ---- a sound scenario: the report is document 01's

@@ -8,6 +8,7 @@ use deck::MAX_RECEPTORS;
 use deck::Record;
 use deck::Status;
 use deck::Told;
+use sheet::CELLS;
 use sheet::PATHWAYS;
 use sheet::Receptors;
 use slots::Sort;
@@ -67,12 +68,12 @@ pub fn write_report(
     if out.len() < length {
         return refused(TOO_SHORT);
     }
-    let counts = sheet::counts_of(site, chemicals, receptors);
-    let worked = counts.status;
+    let mut cells = [0u64; CELLS];
+    let worked = sheet::counts_of(site, chemicals, receptors, &mut cells);
     let Status::Read = worked else {
         return deck::tell(worked);
     };
-    write_rows(out, &counts.cells, chemicals, receptors);
+    write_rows(out, &cells, chemicals, receptors);
     Told {
         number: 0,
         line: length,

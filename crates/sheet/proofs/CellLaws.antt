@@ -8,15 +8,17 @@ use native.Mathlib.Nat.{eq-or-lt-of-le}
 use native.Mathlib.Omega.{arith}
 use lib.Dec.{lit<}
 use lib.ListN.{length, getD, set, replicate, length-set}
-use lib.Seq.{getD-set-same, getD-set-other}
+use lib.Seq.{ext-getD, getD-set-same, getD-set-other}
 use Rattle.equations.specs.declared.Effect.{Effect}
 use Rattle.equations.specs.declared.Effect.the-variants.{Hazard, Cancer}
 use Rattle.equations.specs.declared.Values.{Values}
+use Rattle.deck.proofs.Accepted.{tabulated}
+use Rattle.deck.proofs.CaseLaws.{length-tabulate}
 use Rattle.totals.specs.declared.Columns.{Columns}
 use Rattle.sheet.specs.declared.Receptor.{Receptor}
 use Rattle.sheet.specs.declared.Sources.{Sources}
 use Rattle.sheet.specs.Values.{noReceptor}
-use Rattle.sheet.specs.Counts.{Part, Mark, Low, High, cellOf, sideOf}
+use Rattle.sheet.specs.Counts.{Part, Mark, Low, High, cellOf, sideOf, noCells}
 use Rattle.sheet.specs.Inner.{withCounts, columnsWorked, partOf, CellsHold, CellsEmpty, CellsFilled, SameBelow, ZeroFrom}
 
 pub side-small : (e : Effect) → sideOf e < 2
@@ -34,6 +36,17 @@ pub zeros : (n : ℕ) → ZeroFrom 0 (replicate n 0)
 zeros zero k h = refl
 zeros (suc n) zero h = refl
 zeros (suc n) (suc k) h = zeros n k (omega arith)
+
+-- cells set to 0 one after another
+pub cleared-more : (cells : List ℕ) (k : ℕ) → k < length cells → ((i : ℕ) → i < k → getD cells i 0 ≡ 0) → (i : ℕ) → i < k + 1 → getD (set cells k 0) i 0 ≡ 0
+cleared-more cells k h zero′ i l =
+    let most : i ≤ k = omega arith in
+    ⊎-elim (λ z. rw z (getD-set-same cells k 0 0 h)) (λ m. getD-set-other cells k i 0 0 (λ z. omega arith) ∙ zero′ i m) (eq-or-lt-of-le most)
+
+pub all-cleared : (cells : List ℕ) → length cells ≡ 2304 → ((i : ℕ) → i < 2304 → getD cells i 0 ≡ 0) → cells ≡ noCells
+unfolding noCells
+all-cleared cells long zero′ =
+    ext-getD 0 cells noCells (long ∙ sym (length-tabulate (λ k. 0) 0 0 2304)) (λ i h. zero′ i (omega arith) ∙ sym (tabulated (λ k. 0) 0 2304 i (omega arith)))
 
 -- ---- the counts of a line stored
 module _ (cells : List ℕ) (at : ℕ) (columns : Columns) where

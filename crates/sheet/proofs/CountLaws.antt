@@ -22,12 +22,11 @@ use Rattle.deck.proofs.Accepted.{tabulated}
 use Rattle.deck.proofs.CaseLaws.{length-tabulate}
 use Rattle.totals.specs.declared.Columns.the-variants as Cols
 use Rattle.sheet.specs.Values.{Scenario}
-use Rattle.sheet.specs.declared.Counts.{Counts}
 use Rattle.sheet.specs.declared.Source.{Source}
 use Rattle.sheet.specs.declared.Sources.{Sources}
 use Rattle.sheet.specs.Values.{valuesOf, chemicalIn, receptorIn}
 use Rattle.sheet.specs.Sheet.{chained, pathwayAt, columnsAt, overCap, linesPerReceptor, lineTooLarge, largeLines}
-use Rattle.sheet.specs.Counts.{tooMany, isRefused, mediaFor, noMediaAt, sheetConditions, Part, cellOf, sideOf, effectAt, partAt, lineColumns, cellAt, cellsOf, noCells, cellsFor, countsOf}
+use Rattle.sheet.specs.Counts.{tooMany, isRefused, mediaFor, noMediaAt, sheetConditions, Part, cellOf, sideOf, effectAt, partAt, lineColumns, cellAt, cellsOf, noCells, cellsFor, sheetStatus, sheetCells}
 use Rattle.sheet.specs.Inner.{columnsOf, aboveCap, mediaWith, sourceOf, sourcesOf, sourceAt, refusedSource, figuresFrom, figureFor, figuresWorked, columnsWorked, isLarge, largeLine, largeWorked, perReceptor, allLarge, partOf, CellsFilled, ZeroFrom}
 use Rattle.sheet.proofs.Chains.{chained-same, flat, chained-each}
 use Rattle.sheet.proofs.ChemicalLaws.{source-at}
@@ -133,27 +132,27 @@ module _ (scenario : Scenario) (site′ : Values) (sources : Sources) (at-site :
 
 -- ---- the counts
 module _ (scenario : Scenario) where
-  stopped-counts : (s : Status) (number line field : ℕ) → s ≡ Stopped number line field → s ≡ first (sheetConditions scenario) → (r : Counts) → (r .status ≡ s) × (r .cells ≡ noCells)
-      → r ≡ countsOf scenario
-  unfolding countsOf cellsFor
-  stopped-counts s number line field stop is-first r given =
-      let a : r .status ≡ first (sheetConditions scenario) = given .0 ∙ is-first in
-      let b : r .cells ≡ cellsFor (first (sheetConditions scenario)) scenario = given .1 ∙ ap (λ (t : Status). cellsFor t scenario) (sym stop ∙ is-first) in
-      λ k. record { status = a k; cells = b k }
+  -- what the call tells, and what the cells hold then
+  abbrev pub Told : Status → List ℕ → Type 0
+  Told s cells = (s ≡ sheetStatus scenario) × (cells ≡ sheetCells scenario)
+
+  stopped-counts : (s : Status) (number line field : ℕ) → s ≡ Stopped number line field → s ≡ first (sheetConditions scenario) → (cells : List ℕ) → cells ≡ noCells → Told s cells
+  unfolding sheetStatus sheetCells cellsFor
+  stopped-counts s number line field stop is-first cells none = (is-first, none ∙ ap (λ (t : Status). cellsFor t scenario) (sym stop ∙ is-first))
 
   -- 21
-  many : tooMany scenario ≡ true → (r : Counts) → (r .status ≡ Stopped 21 0 0) × (r .cells ≡ noCells) → r ≡ countsOf scenario
+  many : tooMany scenario ≡ true → (cells : List ℕ) → cells ≡ noCells → Told (Stopped 21 0 0) cells
   unfolding sheetConditions first
-  many h r given = stopped-counts (Stopped 21 0 0) 21 0 0 refl (rw h refl) r given
+  many h cells none = stopped-counts (Stopped 21 0 0) 21 0 0 refl (rw h refl) cells none
 
-  pub many-chemicals : 16 < scenario .chemicals .count → (r : Counts) → (r .status ≡ Stopped 21 0 0) × (r .cells ≡ noCells) → r ≡ countsOf scenario
+  pub many-chemicals : 16 < scenario .chemicals .count → (cells : List ℕ) → cells ≡ noCells → Told (Stopped 21 0 0) cells
   unfolding tooMany
-  many-chemicals h r given = many (rw (lt-ltb 16 (scenario .chemicals .count) h) refl) r given
+  many-chemicals h cells none = many (rw (lt-ltb 16 (scenario .chemicals .count) h) refl) cells none
 
   module _ (few-chemicals : scenario .chemicals .count ≤ 16) where
-    pub many-receptors : 4 < scenario .receptors .count → (r : Counts) → (r .status ≡ Stopped 21 0 0) × (r .cells ≡ noCells) → r ≡ countsOf scenario
+    pub many-receptors : 4 < scenario .receptors .count → (cells : List ℕ) → cells ≡ noCells → Told (Stopped 21 0 0) cells
     unfolding tooMany
-    many-receptors h r given = many (rw (le-ltb 16 (scenario .chemicals .count) few-chemicals, lt-ltb 4 (scenario .receptors .count) h) refl) r given
+    many-receptors h cells none = many (rw (le-ltb 16 (scenario .chemicals .count) few-chemicals, lt-ltb 4 (scenario .receptors .count) h) refl) cells none
 
     module _ (few-receptors : scenario .receptors .count ≤ 4) (site′ : Values) (at-site : site′ ≡ valuesOf (scenario .site)) where
       conditions-are : first (sheetConditions scenario) ≡ orElse (first (chained (noMediaAt scenario) (scenario .chemicals .count))) (first (largeLines scenario))
@@ -170,11 +169,11 @@ module _ (scenario : Scenario) where
 
       -- 41
       pub chemical-stops : (s : Status) → s ≡ first (chained (refusedSource site′ (scenario .chemicals .records)) (scenario .chemicals .count)) → (number line field : ℕ)
-          → s ≡ Stopped number line field → (r : Counts) → (r .status ≡ s) × (r .cells ≡ noCells) → r ≡ countsOf scenario
+          → s ≡ Stopped number line field → (cells : List ℕ) → cells ≡ noCells → Told s cells
       unfolding orElse
-      chemical-stops s is-first number line field stop r given =
+      chemical-stops s is-first number line field stop cells none =
           let here : first (chained (noMediaAt scenario) (scenario .chemicals .count)) ≡ Stopped number line field = sym (is-first ∙ ap first chemicals-agree) ∙ stop in
-          stopped-counts s number line field stop (stop ∙ sym (conditions-are ∙ ap (λ (t : Status). orElse t (first (largeLines scenario))) here)) r given
+          stopped-counts s number line field stop (stop ∙ sym (conditions-are ∙ ap (λ (t : Status). orElse t (first (largeLines scenario))) here)) cells none
 
       module _ (sources : Sources) (sources-are : sources ≡ sourcesOf site′ (scenario .chemicals))
           (ready : first (chained (refusedSource site′ (scenario .chemicals .records)) (scenario .chemicals .count)) ≡ Read) where
@@ -194,16 +193,15 @@ module _ (scenario : Scenario) where
               ∙ sym (conditions-are ∙ ap (λ (t : Status). orElse t (first (largeLines scenario))) none)
 
           -- 42
-          pub line-stops : (number line field : ℕ) → s ≡ Stopped number line field → (r : Counts) → (r .status ≡ s) × (r .cells ≡ noCells) → r ≡ countsOf scenario
-          line-stops number line field stop r given = stopped-counts s number line field stop large-first r given
+          pub line-stops : (number line field : ℕ) → s ≡ Stopped number line field → (cells : List ℕ) → cells ≡ noCells → Told s cells
+          line-stops number line field stop cells none = stopped-counts s number line field stop large-first cells none
 
           -- every line's counts
           pub all-counted : s ≡ Read → (cells : List ℕ) → length cells ≡ 2304
               → CellsFilled site′ sources (scenario .receptors .list) (scenario .receptors .count) cells × ZeroFrom (576 * scenario .receptors .count) cells
-              → _≡_ {A = Counts} (record { status = s; cells = cells }) (countsOf scenario)
-          unfolding countsOf cellsFor
+              → Told s cells
+          unfolding sheetStatus sheetCells cellsFor
           all-counted read cells long held =
               let c : cells ≡ cellsOf scenario =
               filled-cells scenario site′ sources cells (count-is scenario site′ sources at-site sources-are none) (columns-agree scenario site′ sources at-site sources-are none) (held .0) (held .1) long in
-              let b : cells ≡ cellsFor (first (sheetConditions scenario)) scenario = c ∙ ap (λ (t : Status). cellsFor t scenario) (sym read ∙ large-first) in
-              λ k. record { status = large-first k; cells = b k }
+              (large-first, c ∙ ap (λ (t : Status). cellsFor t scenario) (sym read ∙ large-first))

@@ -13,6 +13,8 @@ use lib.Seq.{getD-drop, take-suc}
 use Rattle.pair.specs.Calls.{is}
 use Rattle.equations.specs.declared.Effect.{Effect}
 use Rattle.equations.specs.declared.Effect.the-variants.{Hazard, Cancer}
+use Rattle.deck.specs.declared.Status.{Status}
+use Rattle.deck.specs.declared.Status.the-variants.{Read, Stopped}
 use Rattle.deck.proofs.Digits.{both}
 use Rattle.deck.proofs.Accepted.{tabulated}
 use Rattle.deck.proofs.CaseLaws.{length-tabulate}
@@ -21,7 +23,7 @@ use Rattle.totals.specs.declared.Columns.the-variants as Cols
 use Rattle.totals.specs.Totals.{_added_, totalOf, listSum, allAtMost}
 use Rattle.sheet.specs.Values.{Scenario}
 use Rattle.sheet.specs.Sheet.{chained, pathwayAt, columnsAt, addedOver, totalAt}
-use Rattle.sheet.specs.Counts.{Part, Mark, Low, High, cellOf, effectAt, partAt, lineColumns, cellAt, cellsOf, columnsFrom, sideOf, isHeld, columnsFound, columnsIn, totalledFrom, totalFound, totalIn}
+use Rattle.sheet.specs.Counts.{Part, Mark, Low, High, cellOf, effectAt, partAt, lineColumns, cellAt, cellsOf, noCells, cellsFor, sheetStatus, sheetCells, columnsFrom, sideOf, isHeld, columnsFound, columnsIn, totalledFrom, totalFound, totalIn}
 use Rattle.sheet.specs.Inner.{partOf, CellsHold}
 use Rattle.sheet.proofs.Chains.{chained-length, flat}
 use Rattle.sheet.proofs.CellLaws.{side-small, part-small}
@@ -209,3 +211,13 @@ module _ (scenario : Scenario) (few-chemicals : scenario .chemicals .count ≤ 1
 pub columns-held : (scenario : Scenario) → scenario .chemicals .count ≤ 16 → scenario .receptors .count ≤ 4 → (j q : ℕ) → j < scenario .receptors .count → q < scenario .chemicals .count * 6 → (e : Effect)
     → columnsIn (cellsOf scenario) j e q ≡ columnsAt e scenario j (q / 6) (pathwayAt (q % 6))
 columns-held scenario few-chemicals few-receptors j q here h e = line-held scenario few-chemicals few-receptors j here q h e
+
+-- how many cells the call leaves
+many-for : (s : Status) (scenario : Scenario) → length (cellsFor s scenario) ≡ 2304
+unfolding cellsFor cellsOf noCells
+many-for Read scenario = length-tabulate (cellAt scenario) 0 0 2304
+many-for (Stopped number line field) scenario = length-tabulate (λ k. 0) 0 0 2304
+
+pub cells-many : (scenario : Scenario) → length (sheetCells scenario) ≡ 2304
+unfolding sheetCells
+cells-many scenario = many-for (sheetStatus scenario) scenario

@@ -18,7 +18,6 @@ use Rattle.deck.specs.Cases.{tabulate}
 use Rattle.totals.specs.declared.Columns.{Columns}
 use Rattle.totals.specs.declared.Columns.the-variants as Cols
 use Rattle.totals.specs.Totals.{totalOf}
-use Rattle.sheet.specs.declared.Counts.{Counts}
 use Rattle.sheet.specs.Values.{Scenario}
 use Rattle.sheet.specs.Values.{mostWorked, valuesOf, particlesOf, chemicalIn}
 use Rattle.sheet.specs.Sheet.{pathwaysPerChemical, pathwayAt, columnsAt, chained, largeLines}
@@ -93,9 +92,12 @@ unfoldable pub cellsFor : Status → Scenario → List ℕ
 cellsFor Read scenario = cellsOf scenario
 cellsFor (Stopped number line field) scenario = noCells
 
--- the first condition that holds, and no counts; or every line's
-unfoldable pub countsOf : Scenario → Counts
-countsOf scenario = record { status = first (sheetConditions scenario); cells = cellsFor (first (sheetConditions scenario)) scenario }
+-- the call: the first condition that holds, and no counts; or every line's
+unfoldable pub sheetStatus : Scenario → Status
+sheetStatus scenario = first (sheetConditions scenario)
+
+unfoldable pub sheetCells : Scenario → List ℕ
+sheetCells scenario = cellsFor (sheetStatus scenario) scenario
 
 -- ---- read from cells
 unfoldable pub columnsFrom : ℕ → ℕ → ℕ → Columns

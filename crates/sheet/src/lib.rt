@@ -7,6 +7,7 @@ mod reading;
 mod values;
 
 use crate::chemicals::sources_of;
+use crate::lines::clear;
 use crate::lines::put_all;
 pub use crate::ordinary::entered_from;
 use crate::reading::columns_found;
@@ -26,7 +27,7 @@ use pathway::References;
 use totals::Columns;
 ghost use mathlib.Core.Path.{_≡_};
 ghost use Rattle.sheet.specs.Values.{scenarioFrom};
-ghost use Rattle.sheet.specs.Counts.{noCells, countsOf, sideOf, columnsIn, totalIn};
+ghost use Rattle.sheet.specs.Counts.{sheetStatus, sheetCells, sideOf, columnsIn, totalIn};
 
 // Pathways of a chemical.
 pub const PATHWAYS: usize = 6;
@@ -74,45 +75,38 @@ pub struct Prepared {
     pub sources: Sources,
 }
 
-// Every line's counts; or the first condition that holds, and no counts.
-pub struct Counts {
-    pub status: Status,
-    pub cells: [u64; CELLS],
-}
-
 const TOO_MANY: u32 = 21;
 
-// No counts, with a status.
-fn stopped(status: Status) -> Counts
-    ensures { λ r. ⌜ (r .status ≡ status) × (r .cells ≡ noCells) ⌝ }
+// The counts of a scenario's lines into the cells, or where it stops, and 0 in every cell: more records than a sheet has room for, a chemical
+// whose x is above 64, a line above its cap.
+pub fn counts_of(
+    site: Record,
+    chemicals: Chemicals,
+    receptors: Receptors,
+    cells: &mut [u64; CELLS],
+) -> Status
+    ensures { λ r. ⌜ r ≡ sheetStatus (scenarioFrom site chemicals receptors) ⌝ }
+    ensures { λ _. ⌜ now (cells .exit) ≡ sheetCells (scenarioFrom site chemicals receptors) ⌝ }
 {
-    let cells = [0u64; CELLS];
-    Counts { status, cells }
-}
-
-// The counts of a scenario's lines, or where it stops: more records than a sheet has room for, a chemical whose x is above 64, a line above
-// its cap.
-pub fn counts_of(site: Record, chemicals: Chemicals, receptors: Receptors) -> Counts
-    ensures { λ r. ⌜ r ≡ countsOf (scenarioFrom site chemicals receptors) ⌝ }
-{
+    clear(cells);
     if MAX_CHEMICALS < chemicals.count {
-        return stopped(Status::Stopped(TOO_MANY, 0, 0));
+        return Status::Stopped(TOO_MANY, 0, 0);
     }
     if MAX_RECEPTORS < receptors.count {
-        return stopped(Status::Stopped(TOO_MANY, 0, 0));
+        return Status::Stopped(TOO_MANY, 0, 0);
     }
     let values = values_of(site);
     let prepared = sources_of(values, chemicals);
     let ready = prepared.status;
     let Status::Read = ready else {
-        return stopped(ready);
+        return ready;
     };
-    let mut counts = stopped(Status::Read);
-    let status = put_all(&mut counts.cells, values, receptors, prepared.sources);
+    let status = put_all(cells, values, receptors, prepared.sources);
     let Status::Read = status else {
-        return stopped(status);
+        clear(cells);
+        return status;
     };
-    counts
+    status
 }
 
 fn side_of(effect: Effect) -> usize

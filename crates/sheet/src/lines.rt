@@ -13,7 +13,7 @@ ghost use Rattle.deck.specs.declared.Status.the-variants as Statuses;
 ghost use Rattle.deck.specs.Conditions.{first};
 ghost use Rattle.pathway.specs.Lines as specs;
 ghost use Rattle.sheet.specs.Sheet.{pathwayAt};
-ghost use Rattle.sheet.specs.Counts.{mostLines, receptorCells, allCells};
+ghost use Rattle.sheet.specs.Counts.{mostLines, receptorCells, allCells, noCells};
 ghost use Rattle.sheet.specs.Inner.{maxRows, figuresFrom, isLarge, withCounts, columnsWorked, largeWorked, allLarge, CellsHold, CellsEmpty, CellsFilled, SameBelow, ZeroFrom};
 use crate::CELLS;
 use crate::EFFECT_CELLS;
@@ -65,6 +65,18 @@ fn is_large(line: Line) -> bool
     }
     let cancer = line.cancer;
     above_cap(cancer, Effect::Cancer)
+}
+
+// 0 in every cell.
+pub(crate) fn clear(cells: &mut [u64])
+    requires { ⌜ length (now cells) ≡ allCells ⌝ }
+    ensures { λ _. ⌜ now (cells .exit) ≡ noCells ⌝ }
+{
+    let mut k: usize = 0;
+    while k < CELLS {
+        cells[k] = 0;
+        k += 1;
+    }
 }
 
 // The cells of two columns of a line.

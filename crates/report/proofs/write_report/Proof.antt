@@ -1,9 +1,12 @@
 -- `report::write_report` meets its contract. Assumes nothing.
+use mathlib.Core.Path.{sym, ap, _∙_}
 use borrow.Author.Needs.{needs}
 use denote.Ref.{now}
+use lib.ListN.{length}
 use Rattle.sheet.specs.Values.{scenarioFrom}
 use Rattle.sheet.specs.Sheet.{linesPerReceptor}
 use Rattle.report.specs.Report.{linesOfReport, lengthOf}
+use Rattle.sheet.proofs.Held.{cells-many}
 use Rattle.report.proofs.CallLaws.{many-chemicals, many-receptors, too-short, sheet-stops, written}
 use Rattle.report.proofs.write_report.Statement.{statement}
 use Rattle.report.proofs.write_report.Tie as tie
@@ -51,9 +54,14 @@ tell-requires c κs = search needs
 returns-4 : tie.Need-returns-4
 unfolding lengthOf linesOfReport linesPerReceptor
 returns-4 c =
-    let a = c .before .before .before .before .before .before .before .before .before .before .before .args in
-    let room = rw (c .before .before .before .before .before .length-of .ensures) at (c .before .before .before .before .if3 .left) in
-    sheet-stops (scenarioFrom (a .site) (a .chemicals) (a .receptors)) (now (a .out)) (c .before .before .before .before .before .before .before .before .if1 .left) (c .before .before .before .before .before .before .if2 .left) room _ (c .before .before .before .counts-of .ensures) _ _ _ _ (c .before .enum-told2 .given .1) (c .tell .ensures)
+    let a = c .before .before .before .before .before .before .before .before .before .before .before .before .args in
+    let room = rw (c .before .before .before .before .before .before .length-of .ensures) at (c .before .before .before .before .before .if3 .left) in
+    sheet-stops (scenarioFrom (a .site) (a .chemicals) (a .receptors)) (now (a .out)) (c .before .before .before .before .before .before .before .before .before .if1 .left) (c .before .before .before .before .before .before .before .if2 .left) room _ (c .before .before .before .counts-of .ensures .0) _ _ _ _ (c .before .enum-told2 .given .1) (c .tell .ensures)
+
+slice-aggregate-write-rows : tie.Need-slice-aggregate-write-rows
+slice-aggregate-write-rows c =
+    let a = c .before .before .before .before .before .before .before .before .before .before .before .before .before .args in
+    sym (ap length (c .before .before .before .before .counts-of .ensures .1) ∙ cells-many (scenarioFrom (a .site) (a .chemicals) (a .receptors)))
 
 write-rows-requires : tie.Need-write-rows-requires
 write-rows-requires c κs = search needs
@@ -64,10 +72,11 @@ same-length c = search needs
 returns-5 : tie.Need-returns-5
 unfolding lengthOf linesOfReport linesPerReceptor
 returns-5 c =
-    let a = c .before .before .before .before .before .before .before .before .before .before .before .before .before .before .before .before .before .args in
-    let long = c .before .before .before .before .before .before .before .before .before .before .before .length-of .ensures in
-    let room = rw long at (c .before .before .before .before .before .before .before .before .before .before .if3 .left) in
-    written (scenarioFrom (a .site) (a .chemicals) (a .receptors)) (now (a .out)) (c .before .before .before .before .before .before .before .before .before .before .before .before .before .before .if1 .left) (c .before .before .before .before .before .before .before .before .before .before .before .before .if2 .left) room _ (c .before .before .before .before .before .before .before .before .before .counts-of .ensures) (c .before .before .before .before .before .before .before .enum-told .given .1) _ _ long (c .before .before .write-rows .ensures)
+    let a = c .before .before .before .before .before .before .before .before .before .before .before .before .before .before .before .before .args in
+    let long = c .before .before .before .before .before .before .before .before .before .before .length-of .ensures in
+    let room = rw long at (c .before .before .before .before .before .before .before .before .before .if3 .left) in
+    let worked = c .before .before .before .before .before .before .before .counts-of in
+    written (scenarioFrom (a .site) (a .chemicals) (a .receptors)) (now (a .out)) (c .before .before .before .before .before .before .before .before .before .before .before .before .before .if1 .left) (c .before .before .before .before .before .before .before .before .before .before .before .if2 .left) room _ (worked .ensures .0) (c .before .before .before .before .before .enum-told .given .1) _ (worked .ensures .1) _ _ long (c .before .before .write-rows .ensures)
 
 pub write-report-spec : {M : Type 1} → statement M
 write-report-spec =
@@ -85,6 +94,7 @@ write-report-spec =
     enum-told-2
     tell-requires
     returns-4
+    slice-aggregate-write-rows
     write-rows-requires
     same-length
     returns-5)
