@@ -2,9 +2,9 @@
 use mathlib.Core.Path.{_≡_, refl, sym, ap, _∙_, subst}
 use mathlib.Core.Bool.{Bool, true}
 use mathlib.Core.List.{List}
-use Prim.Native.Nat.{ℕ, zero, suc, _+_, _*_, _-_, _^_, _≤_, _<_}
+use Prim.Native.Nat.{ℕ, zero, suc, _-_, _^_, _≤_, _<_}
 use native.Mathlib.Omega.{arith}
-use lib.Dec.{lit≤, lit<}
+use lib.Dec.{lit≤}
 use lib.IntN.{ℤ}
 use lib.ListN.{getD}
 use Rattle.pair.specs.declared.Pair.{Pair}
@@ -25,18 +25,17 @@ use Rattle.deck.specs.declared.Value.{Value}
 use Rattle.deck.specs.declared.Value.the-variants as Values
 use Rattle.deck.specs.declared.Reading.{Reading}
 use Rattle.deck.specs.declared.Status.the-variants.{Read}
-use Rattle.deck.specs.Conditions.{first, conditions}
-use Rattle.deck.specs.Cases.{tabulate, readOf, caseOf, valueAt, chemicalAt, receptorAt}
+use Rattle.deck.specs.Cases.{readOf, caseOf, valueAt, chemicalAt, receptorAt}
 use Rattle.deck.specs.Ranged.{Fits, Ranged}
 use Rattle.deck.proofs.Accepted.{accepted, tabulated}
-use Rattle.sheet.specs.Values.{orOne, pairOf, noReceptor, chemicalIn, receptorIn, pairsAt, scenarioWith, fractionOf, exactWith}
+use Rattle.sheet.specs.Values.{orOne, pairOf, noReceptor, chemicalIn, receptorIn, pairsAt, scenarioWith, exactWith}
 use Rattle.sheet.proofs.Sound.{Sound}
 use Rattle.sheet.proofs.Inputs.{value-good, value-entered, receptor-fits, made-sound}
-use Rattle.report.specs.Report.{Call, scenarioOf, exactOf}
+use Rattle.report.specs.Report.{scenarioOf, exactOf}
 use Rattle.report.specs.DemandTwo.{Demand2}
 use Rattle.report.specs.DemandThree.{Demand3}
 use Rattle.report.proofs.CallLaws.{deck-read, case-is}
-use Rattle.report.proofs.Fitting.{SmallIds, small-ids}
+use Rattle.report.proofs.Fitting.{small-ids}
 use Rattle.report.proofs.DemandTwo.{Sounds, demand-2-of}
 use Rattle.report.proofs.DemandThree.{demand-3-of}
 use Rattle.composite.specs.Composite.{mean, summed, sumOfYears, composed, pairStage, exactStage, lastStage, compositeReceptor, compositeFrom, exactComposite, composite, Composed}

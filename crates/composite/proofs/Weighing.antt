@@ -1,9 +1,9 @@
 -- The weighting keeps what the equations ask of an input: of eight stages at most, whose values are printed, every slot of the composite is
 -- answered, holds the exact composite's value and is as wide as a receptor's slot may be. The weighting is read a third time, on profiles.
 -- Assumes nothing.
-use mathlib.Core.Path.{_≡_, refl, sym, ap, _∙_, subst}
+use mathlib.Core.Path.{_≡_, refl, sym, subst}
 use mathlib.Core.Bool.{Bool, true, false, cond, not, _&&_, _||_}
-use Prim.Native.Nat.{ℕ, zero, suc, _+_, _≤_, _<_}
+use Prim.Native.Nat.{ℕ, zero, suc, _≤_, _<_}
 use native.Mathlib.Omega.{arith}
 use borrow.Author.Tests.{leb-true}
 use lib.Dec.{leb, eqb}
@@ -14,12 +14,12 @@ use Rattle.pair.specs.Calls.{Outcome}
 use Rattle.pair.specs.Promises.{sums, products, quotients, call, exactResult}
 use Rattle.pair.proofs.Promises.{joint}
 use Rattle.slots.specs.declared.Owner.the-variants.{Receptor}
-use Rattle.slots.specs.Slots.{Slot, table, same, isIn, placeIn, entryRule, ownerOf, placeOf, ruleOf, neverZero}
+use Rattle.slots.specs.Slots.{Slot, ownerOf, placeOf, neverZero}
 use Rattle.equations.specs.Formula.{pairs, fractions}
 use Rattle.equations.specs.Readings.{byOwner}
 use Rattle.equations.proofs.Nearness.{spread}
 use Rattle.equations.proofs.Profile.{Profile, profiles, ofNumber, positives, usable, joined, Good, both, parts, good-op, good-more, good-number}
-use Rattle.equations.proofs.LineLaws.{ofPrinted, ofSlot, answeredAs}
+use Rattle.equations.proofs.LineLaws.{ofSlot, answeredAs}
 use Rattle.composite.specs.Composite.{summed, sumOfYears, mean, composed}
 
 -- a sum of answered terms

@@ -3,7 +3,7 @@
 -- receptor like any other: its report is that of Report.antt of `report`, and so are its demands.
 use mathlib.Core.Path.{_≡_}
 use mathlib.Core.Bool.{cond}
-use mathlib.Core.List.{List, [], _∷_}
+use mathlib.Core.List.{[], _∷_}
 use Prim.Native.Nat.{ℕ, zero, suc, _-_, _<_}
 use lib.Dec.{eqb}
 use lib.IntN.{ℤ, pos}

@@ -21,7 +21,6 @@ use Rattle.equations.specs.Letters.{φ}
 use Rattle.equations.specs.Page.{x, g, AT}
 use Rattle.equations.specs.Readings.{inputs}
 use Rattle.media.specs.Media.{ofSlots, ofMedia}
-use Rattle.pathway.specs.declared.Factor.{Factor}
 use Rattle.pathway.specs.Lines.{workedFor, factorOf}
 use Rattle.deck.specs.declared.Status.the-variants.{Read}
 use Rattle.deck.specs.Conditions.{first}

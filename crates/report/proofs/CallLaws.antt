@@ -1,8 +1,8 @@
 -- The report calls: what they answer and leave in the buffer is what the definitions say. First the call on a scenario in memory, stage by
 -- stage; then any call on a deck that hands it a sound scenario. Assumes nothing.
 use mathlib.Core.Path.{_≡_, refl, sym, ap, _∙_}
-use mathlib.Core.Bool.{true, false, _||_}
-use mathlib.Core.List.{List, _∷_, _++_}
+use mathlib.Core.Bool.{true, false}
+use mathlib.Core.List.{List, _++_}
 use Prim.Native.Nat.{ℕ, _≤_, _<_}
 use borrow.Author.Tests.{lt-ltb, le-ltb}
 use lib.Dec.{ltb}
@@ -19,9 +19,8 @@ use Rattle.deck.proofs.Scan.{first-read}
 use Rattle.deck.proofs.Places.{append-read}
 use Rattle.text.specs.declared.Row.{Row}
 use Rattle.text.specs.Text.{linesText}
-use Rattle.sheet.specs.Values.{Scenario}
+use Rattle.sheet.specs.Values.{Scenario, scenarioWith}
 use Rattle.sheet.specs.declared.Receptors.{Receptors}
-use Rattle.sheet.specs.Values.{scenarioWith}
 use Rattle.sheet.specs.Sheet.{fastChemicals, largeLines}
 use Rattle.sheet.specs.DemandThree.{Exact}
 use Rattle.sheet.specs.Counts.{tooMany, cellsOf, cellsFor, sheetStatus, sheetCells}

@@ -30,8 +30,7 @@ use Rattle.text.specs.Text.{rowText, linesText}
 use Rattle.text.proofs.Rows.{length-row, length-lines, lines-append}
 use Rattle.sheet.specs.declared.Receptor as receptors
 use Rattle.sheet.specs.declared.Receptors.{Receptors}
-use Rattle.sheet.specs.Values.{Scenario}
-use Rattle.sheet.specs.Values.{chemicalIn, receptorIn, printedIn, pairsAt, scenarioWith, entered, enteredFrom, ordinaryOf, exactAt}
+use Rattle.sheet.specs.Values.{Scenario, chemicalIn, receptorIn, printedIn, pairsAt, scenarioWith, entered, enteredFrom, ordinaryOf, exactAt}
 use Rattle.sheet.specs.DemandThree.{Exact}
 use Rattle.sheet.specs.Sheet.{pathwayAt, hasReference, chained, linesPerReceptor, fastChemicals, largeLines}
 use Rattle.report.specs.Report.{rowAt, totalRow, rowsAt, rowsOf, linesOfReport, lengthOf, reportConditions, Call, ordinary, scenarioOf, exactOf, allConditions, statusOf, outcomeFor, outcomeOf, bufferWith, bufferFor, bufferOf}

@@ -21,8 +21,7 @@ use Rattle.deck.proofs.Digits.{both, digits-value-below}
 use Rattle.totals.specs.declared.Columns.{Columns}
 use Rattle.totals.specs.declared.Columns.the-variants.{Absent, Counted}
 use Rattle.text.specs.Text.{countWidth, CountsFit, FitsColumns}
-use Rattle.sheet.specs.Values.{Scenario}
-use Rattle.sheet.specs.Values.{chemicalIn, receptorIn}
+use Rattle.sheet.specs.Values.{Scenario, chemicalIn, receptorIn}
 use Rattle.sheet.specs.DemandThree.{Exact}
 use Rattle.sheet.specs.Sheet.{pathwayAt, columnsAt, totalAt, fastChemicals, largeLines}
 use Rattle.sheet.specs.Counts.{CountsMost}

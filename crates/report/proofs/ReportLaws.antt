@@ -7,8 +7,7 @@ use Rattle.equations.specs.declared.Effect.the-variants.{Hazard, Cancer}
 use Rattle.deck.specs.declared.Status.the-variants.{Read}
 use Rattle.deck.specs.Conditions.{first}
 use Rattle.text.specs.declared.Row.{Row}
-use Rattle.sheet.specs.Values.{Scenario}
-use Rattle.sheet.specs.Values.{chemicalIn, receptorIn}
+use Rattle.sheet.specs.Values.{Scenario, chemicalIn, receptorIn}
 use Rattle.sheet.specs.DemandThree.{Exact}
 use Rattle.sheet.specs.Sheet.{chained, fastChemicals, largeLines}
 use Rattle.sheet.specs.Counts.{cellsOf}

@@ -22,8 +22,7 @@ use Rattle.deck.specs.Conditions.{Condition, NoneHolds}
 use Rattle.deck.specs.Cases.{caseOf, valueAt, receptorAt}
 use Rattle.totals.specs.declared.Columns.the-variants as Cols
 use Rattle.text.specs.Text.{reportLineWidth, rowText, FitsColumns}
-use Rattle.sheet.specs.Values.{Scenario}
-use Rattle.sheet.specs.Values.{printedIn, pairsAt, ordinaryOf}
+use Rattle.sheet.specs.Values.{Scenario, printedIn, pairsAt, ordinaryOf}
 use Rattle.sheet.specs.Sheet.{pathwaysPerChemical, pathwayAt, hasReference, figureAt, unitOf, columnsAt, linesPerReceptor}
 use Rattle.report.specs.Report.{rowAt, totalRow, Call, scenarioOf, allConditions, lengthOf, outcomeOf, bufferOf}
 

@@ -18,8 +18,7 @@ use Rattle.slots.specs.Slots.{Slot}
 use Rattle.text.specs.declared.Row.{Row}
 use Rattle.text.specs.Text.{reportLineWidth, linesText}
 use Rattle.sheet.specs.declared.Receptors.{Receptors}
-use Rattle.sheet.specs.Values.{Scenario}
-use Rattle.sheet.specs.Values.{chemicalIn, receptorIn, scenarioWith, enteredFrom, exactFrom, exactWith}
+use Rattle.sheet.specs.Values.{Scenario, chemicalIn, receptorIn, scenarioWith, enteredFrom, exactFrom, exactWith}
 use Rattle.sheet.specs.Sheet.{pathwaysPerChemical, pathwayAt, columnsAt, totalAt, chained, linesPerReceptor, fastChemicals, largeLines}
 
 -- ---- the lines: of receptor j, chemical i and pathway p, all counted from 0; pathways are printed from 1

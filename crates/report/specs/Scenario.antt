@@ -15,8 +15,7 @@ use Rattle.sheet.specs.Sheet.{pathwaysPerChemical, chained}
 use Rattle.sheet.specs.Counts.{tooMany, sheetConditions, cellsOf, columnsIn, totalIn}
 pub use Rattle.sheet.specs.Inner.{perReceptor}
 use Rattle.sheet.specs.declared.Receptor.{Receptor}
-use Rattle.sheet.specs.Values.{Scenario}
-use Rattle.sheet.specs.Values.{noReceptor}
+use Rattle.sheet.specs.Values.{Scenario, noReceptor}
 use Rattle.report.specs.Report.{lengthOf, outcomeFor, bufferWith}
 
 -- receptor j's line q, counted from 0, and the total line of its first n lines

@@ -2,12 +2,12 @@
 -- where neither 41 nor 42 holds, every line with a reference value has its pair and its counts, and all counts and totals are small.
 -- Assumes nothing.
 use mathlib.Core.Path.{_≡_, refl, sym, _∙_, ap, subst}
-use mathlib.Core.Bool.{Bool, true, false, cond, not, _&&_, _||_, true≢false}
+use mathlib.Core.Bool.{Bool, true, false, cond, not, _&&_, true≢false}
 use mathlib.Core.List.{List, [], _∷_, _++_}
 use Prim.Native.Nat.{ℕ, zero, suc, _+_, _*_, _/_, _%_, _^_, _≤_, _<_}
 use native.Mathlib.Nat.{mul-le-mul-right}
 use native.Mathlib.Omega.{arith}
-use lib.Dec.{ltb, lit≤}
+use lib.Dec.{lit≤}
 use borrow.Author.Tests.{le-ltb}
 use Rattle.pair.specs.declared.Pair.{Pair}
 use Rattle.pair.specs.declared.Units.{Units}
@@ -26,15 +26,13 @@ use Rattle.equations.proofs.LineLaws.{x-answered, medium-works}
 use Rattle.slots.specs.Slots.{table, same, isIn, placeIn, ownerOf, placeOf}
 use Rattle.media.specs.declared.Media.{Media}
 use Rattle.media.specs.Media.{mediaInputs, bounded, slow, exponentOf, four, given, mediaOf}
-use Rattle.deck.specs.declared.Status.{Status}
 use Rattle.deck.specs.declared.Status.the-variants.{Read}
 use Rattle.deck.specs.Conditions.{Condition, at, first}
 use Rattle.totals.specs.declared.Columns.{Columns}
 use Rattle.totals.specs.declared.Columns.the-variants as Cols
 use Rattle.totals.specs.Totals.{_added_}
-use Rattle.sheet.specs.Values.{Scenario}
-use Rattle.sheet.specs.Values.{valuesOf, particlesOf, chemicalIn, pairsAt}
-use Rattle.sheet.specs.Sheet.{pathwaysPerChemical, pathwayAt, hasReference, figureAt, unitOf, counted, countedIn, columnsAt, addedOver, totalAt, isAbove, highAbove, exponentAt, tooFast, overCap, capOf, fastChemicals, largeLines, chained}
+use Rattle.sheet.specs.Values.{Scenario, valuesOf, particlesOf, chemicalIn, pairsAt}
+use Rattle.sheet.specs.Sheet.{pathwaysPerChemical, pathwayAt, hasReference, figureAt, unitOf, counted, countedIn, columnsAt, addedOver, totalAt, isAbove, highAbove, exponentAt, tooFast, overCap, capOf, fastChemicals, largeLines}
 use Rattle.sheet.specs.Counts.{tooMany, isRefused, mediaFor, noMediaAt, sheetConditions, Part, Mark, Low, High, cellOf, cellsOf, totalIn, CountsMost}
 use Rattle.sheet.specs.DemandThree.{Exact}
 use Rattle.sheet.proofs.Sound.{Sound}

@@ -21,10 +21,9 @@ use Rattle.deck.proofs.Scan.{first-read}
 use Rattle.deck.proofs.Accepted.{tabulated}
 use Rattle.deck.proofs.CaseLaws.{length-tabulate}
 use Rattle.totals.specs.declared.Columns.the-variants as Cols
-use Rattle.sheet.specs.Values.{Scenario}
+use Rattle.sheet.specs.Values.{Scenario, valuesOf, chemicalIn, receptorIn}
 use Rattle.sheet.specs.declared.Source.{Source}
 use Rattle.sheet.specs.declared.Sources.{Sources}
-use Rattle.sheet.specs.Values.{valuesOf, chemicalIn, receptorIn}
 use Rattle.sheet.specs.Sheet.{chained, pathwayAt, columnsAt, overCap, linesPerReceptor, lineTooLarge, largeLines}
 use Rattle.sheet.specs.Counts.{tooMany, isRefused, mediaFor, noMediaAt, sheetConditions, Part, cellOf, sideOf, effectAt, partAt, lineColumns, cellAt, cellsOf, noCells, cellsFor, sheetStatus, sheetCells}
 use Rattle.sheet.specs.Inner.{columnsOf, aboveCap, mediaWith, sourceOf, sourcesOf, sourceAt, refusedSource, figuresFrom, figureFor, figuresWorked, columnsWorked, isLarge, largeLine, largeWorked, perReceptor, allLarge, partOf, CellsFilled, ZeroFrom}

@@ -6,8 +6,7 @@ use Prim.Native.Nat.{ℕ, _≤_, _<_}
 use Rattle.equations.specs.declared.Effect.{Effect}
 use Rattle.deck.specs.declared.Status.the-variants.{Read}
 use Rattle.deck.specs.Conditions.{first}
-use Rattle.sheet.specs.Values.{Scenario}
-use Rattle.sheet.specs.Values.{scenarioWith, enteredFrom, ordinaryOf}
+use Rattle.sheet.specs.Values.{Scenario, scenarioWith, enteredFrom, ordinaryOf}
 use Rattle.sheet.specs.Sheet.{pathwaysPerChemical, pathwayAt, columnsAt, addedOver, totalAt, fastChemicals, largeLines}
 use Rattle.sheet.specs.DemandThree.{Exact, exactLine, lineCounts, sumOver, countOver, exactTotal, linesAdded, TotalHolds, CaseDemand3}
 use Rattle.sheet.proofs.Sound.{Sound}

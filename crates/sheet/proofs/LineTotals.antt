@@ -23,14 +23,13 @@ use Rattle.equations.specs.declared.Effect.the-variants.{Hazard, Cancer}
 use Rattle.equations.specs.Formula.{read, pairs}
 use Rattle.equations.specs.Page as page
 use Rattle.equations.specs.Page.{x, line}
-use Rattle.equations.specs.Readings.{letters, plain, asAnswers, exactly, inputs, byOwner, valueIn}
+use Rattle.equations.specs.Readings.{letters, plain, asAnswers, exactly, inputs, byOwner}
 use Rattle.equations.specs.Ranges.{sixtyFour}
 use Rattle.equations.proofs.LineLaws.{Works, x-answered, line-works, line-narrow}
 use Rattle.deck.specs.Ranges.{above, below}
 use Rattle.slots.specs.Slots.{table, same, isIn, placeIn, ownerOf, placeOf}
 use Rattle.totals.specs.declared.Columns.the-variants as Cols
-use Rattle.sheet.specs.Values.{Scenario}
-use Rattle.sheet.specs.Values.{pairsAt}
+use Rattle.sheet.specs.Values.{Scenario, pairsAt}
 use Rattle.sheet.specs.Sheet.{hasReference, figureAt, unitOf, capOf, counted, countedIn, columnsAt, isAbove, highAbove, exponentAt, overCap}
 use Rattle.sheet.specs.DemandThree.{Exact, Enclosed, unitsPerOne, inUnitsOf, nothing, exactLine, lineCounts}
 use Rattle.sheet.proofs.Sound.{Sound}

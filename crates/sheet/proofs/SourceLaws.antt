@@ -1,7 +1,7 @@
 -- What the crates below work for a chemical and for its lines is the page read from the scenario's slots: for every scenario in which the chemical's
 -- media are worked, each line's columns and its cap are those of the definitions. Assumes nothing.
 use mathlib.Core.Path.{_≡_, refl, sym, _∙_, ap, ap₂}
-use mathlib.Core.Bool.{Bool, true, false, cond, _&&_, true≢false}
+use mathlib.Core.Bool.{false, cond, _&&_, true≢false}
 use Prim.Native.Nat.{ℕ, _<_}
 use Rattle.pair.specs.declared.Pair.{Pair}
 use Rattle.pair.specs.Calls.{Outcome, is, refused, mapped, checked, after, afterOne, product, quotient}
@@ -20,15 +20,13 @@ use Rattle.media.specs.declared.Media.{Media}
 use Rattle.media.specs.Media.{mediaInputs, exponentOf, four, given, mediaOf}
 use Rattle.pathway.specs.declared.Factor.{Factor}
 use Rattle.pathway.specs.declared.Dose.{Dose}
-use Rattle.pathway.specs.declared.References.{References}
 use Rattle.pathway.specs.Lines.{Optional, some, none, workedFor, factorOf, concentrationFor, doseOf, figureOf, rfdGiven, csfGiven, rfdValue, csfValue, quotientOf, riskOf, figuresOf}
 use Rattle.deck.specs.declared.Record.{Record}
 use Rattle.deck.specs.declared.Value.{Value}
 use Rattle.deck.specs.declared.Value.the-variants.{Absent, Printed}
 use Rattle.deck.specs.Cases.{valueAt}
 use Rattle.totals.specs.declared.Columns.the-variants as Cols
-use Rattle.sheet.specs.Values.{Scenario}
-use Rattle.sheet.specs.Values.{pairOf, valuesOf, particlesOf, chemicalIn, receptorIn, printedIn, pairsAt}
+use Rattle.sheet.specs.Values.{Scenario, pairOf, valuesOf, particlesOf, chemicalIn, receptorIn, printedIn, pairsAt}
 use Rattle.sheet.specs.Sheet.{isPrinted, hasReference, figureAt, unitOf, capOf, countedIn, columnsAt, highAbove, overCap}
 use Rattle.sheet.specs.Counts.{isRefused, mediaFor}
 use Rattle.sheet.specs.Inner.{columnsOf, aboveCap, mediaFrom, mediaWith, rfdOf, csfOf, referencesOf, sourceWith, sourceOf, figuresFrom, figureFor}

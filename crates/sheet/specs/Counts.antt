@@ -18,8 +18,7 @@ use Rattle.deck.specs.Cases.{tabulate}
 use Rattle.totals.specs.declared.Columns.{Columns}
 use Rattle.totals.specs.declared.Columns.the-variants as Cols
 use Rattle.totals.specs.Totals.{totalOf}
-use Rattle.sheet.specs.Values.{Scenario}
-use Rattle.sheet.specs.Values.{mostWorked, valuesOf, particlesOf, chemicalIn}
+use Rattle.sheet.specs.Values.{Scenario, mostWorked, valuesOf, particlesOf, chemicalIn}
 use Rattle.sheet.specs.Sheet.{pathwaysPerChemical, pathwayAt, columnsAt, chained, largeLines}
 
 -- ---- what stops a scenario: more records than a deck holds (21), a chemical whose media are refused (41), a line above its cap (42). In a scenario

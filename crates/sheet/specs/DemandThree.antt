@@ -17,8 +17,7 @@ use Rattle.slots.specs.declared.Sort.the-variants.{Ordinary}
 use Rattle.slots.specs.Slots.{Slot}
 use Rattle.totals.specs.declared.Columns.{Columns}
 use Rattle.totals.specs.declared.Columns.the-variants as Cols
-use Rattle.sheet.specs.Values.{Scenario}
-use Rattle.sheet.specs.Values.{ordinaryOf, exactAt}
+use Rattle.sheet.specs.Values.{Scenario, ordinaryOf, exactAt}
 use Rattle.sheet.specs.Sheet.{pathwayAt, pathwaysPerChemical, hasReference, totalAt, fastChemicals, largeLines}
 
 -- a fraction in units of 1E-12, or of 1E-15

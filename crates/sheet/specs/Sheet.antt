@@ -22,8 +22,7 @@ use Rattle.deck.specs.Conditions.{Condition, at}
 use Rattle.totals.specs.declared.Columns.{Columns}
 use Rattle.totals.specs.declared.Columns.the-variants as Cols
 use Rattle.totals.specs.Totals.{_added_}
-use Rattle.sheet.specs.Values.{Scenario}
-use Rattle.sheet.specs.Values.{printedIn, pairsAt}
+use Rattle.sheet.specs.Values.{Scenario, printedIn, pairsAt}
 
 abbrev pub pathwaysPerChemical : ℕ
 pathwaysPerChemical = 6

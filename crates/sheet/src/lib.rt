@@ -14,7 +14,7 @@ use crate::reading::columns_found;
 use crate::reading::total_found;
 pub use crate::values::or_one;
 pub use crate::values::pair_of;
-pub use crate::values::values_of;
+use crate::values::values_of;
 use deck::Chemicals;
 use deck::MAX_CHEMICALS;
 use deck::MAX_RECEPTORS;

@@ -62,7 +62,7 @@ pub(crate) fn particles_of(chemical: Record) -> Pair
 }
 
 // A record's values, place by place.
-pub fn values_of(r: Record) -> Values
+pub(crate) fn values_of(r: Record) -> Values
     ensures { λ v. ⌜ v ≡ valuesOf r ⌝ }
 {
     let mut list = [Pair::ONE; SLOTS];

@@ -1,5 +1,5 @@
 -- `report::report` meets its contract. Assumes nothing.
-use mathlib.Core.Path.{ap, _∙_}
+use mathlib.Core.Path.{ap}
 use borrow.Author.Needs.{needs}
 use denote.Ref.{now}
 use Rattle.deck.specs.declared.Reading.{Reading}

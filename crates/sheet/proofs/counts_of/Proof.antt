@@ -1,7 +1,7 @@
 -- `sheet::counts_of` meets its contract: 21, then 41 by chemical, then 42 by line, or every line's counts. Assumes nothing.
 use mathlib.Core.Path.{sym, subst, _∙_}
 use borrow.Author.Needs.{needs}
-use Rattle.sheet.specs.Values.{Scenario, scenarioFrom}
+use Rattle.sheet.specs.Values.{scenarioFrom}
 use Rattle.sheet.specs.Counts.{noCells}
 use Rattle.sheet.specs.Inner.{ZeroFrom}
 use Rattle.sheet.proofs.CellLaws.{zeros}

@@ -1,12 +1,12 @@
 -- `composite::stages::composed_values` meets its contract. Assumes nothing.
-use mathlib.Core.Path.{_≡_, sym, ap, _∙_}
+use mathlib.Core.Path.{_≡_, ap, _∙_}
 use mathlib.Core.List.{_++_, append-nil}
-use Prim.Native.Nat.{_-_, _≤_, _<_}
+use Prim.Native.Nat.{_-_, _≤_}
 use native.Mathlib.Omega.{arith}
 use borrow.Author.Needs.{needs}
 use lib.ListN.{replicate}
 use Rattle.pair.specs.Number.{one}
-use Rattle.pair.specs.Calls.{answer, onePair}
+use Rattle.pair.specs.Calls.{onePair}
 use Rattle.equations.specs.Formula.{pairs}
 use Rattle.deck.specs.Cases.{tabulate}
 use Rattle.deck.proofs.CaseLaws.{filled-start, filled-more}

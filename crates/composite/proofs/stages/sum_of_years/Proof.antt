@@ -1,9 +1,9 @@
 -- `composite::stages::sum_of_years` meets its contract. Assumes nothing.
-use mathlib.Core.Path.{_≡_, sym, ap, _∙_}
-use Prim.Native.Nat.{ℕ, _+_, _-_, _≤_, _<_}
+use mathlib.Core.Path.{_≡_}
+use Prim.Native.Nat.{_-_, _≤_}
 use native.Mathlib.Omega.{arith}
 use borrow.Author.Needs.{needs}
-use Rattle.pair.specs.Calls.{answer, after, product}
+use Rattle.pair.specs.Calls.{answer}
 use Rattle.slots.specs.Slots.{placeOf}
 use Rattle.equations.specs.Formula.{pairs}
 use Rattle.composite.specs.Composite.{summed, sumOfYears}

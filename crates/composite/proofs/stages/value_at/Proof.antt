@@ -1,6 +1,5 @@
 -- `composite::stages::value_at` meets its contract. Assumes nothing.
 use mathlib.Core.Path.{_≡_, sym, _∙_}
-use Prim.Native.Nat.{_<_}
 use native.Mathlib.Omega.{arith}
 use lib.ListN.{length, length-map}
 use Rattle.composite.proofs.StageLaws.{value-is}

@@ -1,5 +1,5 @@
 -- `composite::stages::weighted` meets its contract. Assumes nothing.
-use mathlib.Core.Path.{_≡_, _∙_, ap, ap₂}
+use mathlib.Core.Path.{_∙_, ap, ap₂}
 use Rattle.pair.specs.declared.Pair.{Pair}
 use Rattle.pair.specs.Calls.{is, after, product}
 use Rattle.composite.specs.Inner.{stageIn}

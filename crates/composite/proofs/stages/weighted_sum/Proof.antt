@@ -1,12 +1,12 @@
 -- `composite::stages::weighted_sum` meets its contract. Assumes nothing.
-use mathlib.Core.Path.{_≡_, sym, ap, _∙_}
-use Prim.Native.Nat.{ℕ, _+_, _-_, _≤_, _<_}
+use mathlib.Core.Path.{_≡_}
+use Prim.Native.Nat.{_-_, _≤_}
 use native.Mathlib.Omega.{arith}
 use borrow.Author.Needs.{needs}
 use Rattle.pair.specs.Calls.{answer, after, product}
 use Rattle.slots.specs.Slots.{placeOf}
 use Rattle.equations.specs.Formula.{pairs}
-use Rattle.composite.specs.Composite.{summed, sumOfYears}
+use Rattle.composite.specs.Composite.{summed}
 use Rattle.composite.specs.Inner.{stageIn}
 use Rattle.composite.proofs.StageLaws.{next-sum}
 use Rattle.composite.proofs.stages.weighted_sum.Statement.{statement}

@@ -1,10 +1,9 @@
 -- `sheet::lines::clear` meets its contract. The invariant: the cells so far are 0. Assumes nothing.
-use mathlib.Core.Path.{_≡_, refl, sym, ap, _∙_}
-use Prim.Native.Nat.{ℕ, _+_, _-_, _≤_, _<_}
+use mathlib.Core.Path.{_≡_, sym, _∙_}
+use Prim.Native.Nat.{ℕ, _-_, _≤_, _<_}
 use native.Mathlib.Omega.{arith}
 use borrow.Author.Needs.{needs}
 use lib.ListN.{length, getD, length-set}
-use Rattle.sheet.specs.Counts.{noCells}
 use Rattle.sheet.proofs.CellLaws.{cleared-more, all-cleared}
 use Rattle.sheet.proofs.lines.clear.Statement.{statement}
 use Rattle.sheet.proofs.lines.clear.Tie as tie
