@@ -1,14 +1,15 @@
 -- The stages as they stand in a case's records, and sums over them. Assumes nothing.
 use mathlib.Core.Path.{_≡_, refl, sym, ap, ap₂, _∙_}
 use mathlib.Core.List.{List, [], _∷_}
-use Prim.Native.Nat.{ℕ, _+_, _-_, _<_}
+use Prim.Native.Nat.{ℕ, zero, suc, _+_, _-_, _≤_, _<_}
+use native.Mathlib.Omega.{arith}
 use native.Mathlib.Numerals.{add-one}
 use lib.IntN.{pos}
 use lib.ListN.{length, getD}
 use borrow.Author.Tests.{ne-eqb}
 use Rattle.pair.specs.declared.Pair.{Pair}
 use Rattle.pair.specs.declared.Answer.{Answer}
-use Rattle.pair.specs.Calls.{Outcome, is, answer, after, entry, sum, product, quotient}
+use Rattle.pair.specs.Calls.{Outcome, is, onePair, answer, after, entry, sum, product, quotient}
 use Rattle.slots.specs.Slots.{table, same, isIn, placeIn, ownerOf, placeOf}
 use Rattle.equations.specs.Formula.{pairs}
 use Rattle.equations.proofs.ValueLaws.{read-any}
@@ -21,19 +22,44 @@ use Rattle.sheet.specs.declared.Receptors.{Receptors}
 use Rattle.sheet.specs.Values.{pairOf, noReceptor}
 use Rattle.deck.proofs.Accepted.{tabulated}
 use Rattle.composite.specs.Composite.{summed, sumOfYears, mean, composed, pairStage, lastStage, compositeReceptor, compositeFrom}
-use Rattle.composite.specs.Inner.{pairIn, stageIn, yearsIn, composedIn}
+use Rattle.composite.specs.Inner.{pairIn, stageIn, yearsIn, yearAt, weightAt, composedIn}
 
--- a stage's pair, whatever stands for a missing record
-pub value-is : (records : List Record) (blank : Record) (j k : ℕ) → j < length records → (p : Pair) → p ≡ pairOf (valueAt (getD records j blank) k) → p ≡ pairIn records j k
+-- terms that agree have one sum
+summed-same : (f g : ℕ → Outcome Pair) (n : ℕ) → ((j : ℕ) → j ≤ n → f j ≡ g j) → summed pairs f n ≡ summed pairs g n
+unfolding summed
+summed-same f g zero h = h 0 (omega arith)
+summed-same f g (suc n) h = ap₂ (pairs .plus) (summed-same f g n (λ j l. h j (omega arith))) (h (suc n) (omega arith))
+
+-- a stage's pair and its years, whatever stands for a missing one
+pub value-is : (records : List Record) (blank : Record) (j k : ℕ) → j < length records → pairOf (valueAt (getD records j blank) k) ≡ pairIn records j k
 unfolding pairIn
-value-is records blank j k h p e = e ∙ ap (λ (r : Record). pairOf (valueAt r k)) (read-any records j h blank noRecord)
+value-is records blank j k h = ap (λ (r : Record). pairOf (valueAt r k)) (read-any records j h blank noRecord)
 
--- its years, of those that were entered
-pub year-is : (records : List Record) (years : List Pair) (blank : Pair) (j : ℕ) → j < 8 → years ≡ yearsIn records → (r : Answer) → answer r ≡ is (getD years j blank)
-    → answer r ≡ stageIn records j (placeOf "years")
-unfolding stageIn yearsIn
-year-is records years blank j h e r a =
-    a ∙ ap (λ (p : Pair). is p) (ap (λ (l : List Pair). getD l j blank) e ∙ tabulated (λ i. pairIn records i (placeOf "years")) blank 8 j h)
+pub year-is : (years : List Pair) (blank : Pair) (j : ℕ) → j < length years → is (getD years j blank) ≡ yearAt years j
+unfolding yearAt
+year-is years blank j h = ap (λ (p : Pair). is p) (read-any years j h blank onePair)
+
+pub weight-is : (records : List Record) (years : List Pair) (blank : Record) (none : Pair) (j k : ℕ) → j < length records → j < length years → (r : Answer)
+    → answer r ≡ after product (is (getD years j none)) (is (pairOf (valueAt (getD records j blank) k))) → answer r ≡ weightAt records years k j
+unfolding weightAt stageIn
+weight-is records years blank none j k h l r e = e ∙ ap₂ (after product) (year-is years none j l) (ap (λ (p : Pair). is p) (value-is records blank j k h))
+
+-- of the years that were entered, the sums are those of the stages
+module _ (records : List Record) (years : List Pair) (entered : years ≡ yearsIn records) where
+  year-entered : (j : ℕ) → j < 8 → yearAt years j ≡ stageIn records j (placeOf "years")
+  unfolding yearAt stageIn yearsIn
+  year-entered j h = ap (λ (p : Pair). is p) (ap (λ (l : List Pair). getD l j onePair) entered ∙ tabulated (λ i. pairIn records i (placeOf "years")) onePair 8 j h)
+
+  pub years-summed : (last : ℕ) → last < 8 → summed pairs (yearAt years) last ≡ sumOfYears pairs (stageIn records) last
+  unfolding sumOfYears
+  years-summed last h = summed-same (yearAt years) (λ j. stageIn records j (placeOf "years")) last (λ j l. year-entered j (omega arith))
+
+  pub weights-summed : (last k : ℕ) → last < 8
+      → summed pairs (weightAt records years k) last ≡ summed pairs (λ j. after product (stageIn records j (placeOf "years")) (stageIn records j k)) last
+  unfolding weightAt
+  weights-summed last k h =
+      summed-same (weightAt records years k) (λ j. after product (stageIn records j (placeOf "years")) (stageIn records j k)) last
+      (λ j l. ap (λ (o : Outcome Pair). after product o (stageIn records j k)) (year-entered j (omega arith)))
 
 -- one stage more
 pub next-sum : (f : ℕ → Outcome Pair) (so-far term new : Answer) (n : ℕ) → answer so-far ≡ summed pairs f n → answer term ≡ f (n + 1) → answer new ≡ after sum (answer so-far) (answer term)

@@ -3,7 +3,7 @@ use mathlib.Core.List.{List}
 use Prim.Native.Nat.{ℕ}
 use lib.ListN.{getD}
 use Rattle.pair.specs.declared.Pair.{Pair}
-use Rattle.pair.specs.Calls.{Outcome, is}
+use Rattle.pair.specs.Calls.{Outcome, is, onePair, after, product}
 use Rattle.slots.specs.Slots.{placeOf}
 use Rattle.equations.specs.Formula.{pairs}
 use Rattle.deck.specs.declared.Record.{Record}
@@ -21,6 +21,13 @@ stageIn records j k = is (pairIn records j k)
 
 unfoldable pub yearsIn : List Record → List Pair
 yearsIn records = tabulate mostReceptors (λ j. pairIn records j (placeOf "years"))
+
+-- the years of stage j, and years × value at place k, from the years as they were entered
+unfoldable pub yearAt : List Pair → ℕ → Outcome Pair
+yearAt years j = is (getD years j onePair)
+
+unfoldable pub weightAt : List Record → List Pair → ℕ → ℕ → Outcome Pair
+weightAt records years k j = after product (yearAt years j) (stageIn records j k)
 
 -- the composite's values, place by place
 unfoldable pub composedIn : List Record → ℕ → List Pair

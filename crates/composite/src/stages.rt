@@ -13,20 +13,19 @@ use slots::SLOTS;
 use slots::YEARS;
 ghost use mathlib.Core.Path.{_≡_};
 ghost use Prim.Native.Nat.{_<_, _≤_};
-ghost use Rattle.pair.specs.Calls.{answer, after, product};
+ghost use Rattle.pair.specs.Calls.{answer, is, after, product};
 ghost use Rattle.equations.specs.Formula.{pairs};
-ghost use Rattle.slots.specs.Slots.{placeOf};
 ghost use Rattle.deck.specs.Cases.{valueAt};
 ghost use Rattle.sheet.specs.Values.{pairOf, noReceptor};
 ghost use Rattle.composite.specs.Composite.{summed, sumOfYears, composed, compositeFrom};
-ghost use Rattle.composite.specs.Inner.{pairIn, stageIn, yearsIn, composedIn};
+ghost use Rattle.composite.specs.Inner.{stageIn, yearsIn, yearAt, weightAt, composedIn};
 
 // The years of each stage, entered once.
 struct Years {
     list: [Pair; MAX_STAGES],
 }
 
-// A stage's value at place k, and that of stage j.
+// A stage's value at place k.
 fn value_in(stage: Record, k: usize) -> Pair
     requires { ⌜ k < 24 ⌝ }
     ensures { λ r. ⌜ r ≡ pairOf (valueAt stage k) ⌝ }
@@ -36,68 +35,57 @@ fn value_in(stage: Record, k: usize) -> Pair
     sheet::pair_of(v)
 }
 
-fn value_at(stages: Receptors, j: usize, k: usize) -> Pair
-    requires { ⌜ (j < 8) × (k < 24) ⌝ }
-    ensures { λ r. ⌜ r ≡ pairIn (stages .records) j k ⌝ }
-{
-    let stage = stages.records[j];
-    value_in(stage, k)
-}
-
 fn years_of(stages: Receptors) -> Years
     ensures { λ r. ⌜ r .list ≡ yearsIn (stages .records) ⌝ }
 {
     let mut list = [Pair::ONE; MAX_STAGES];
     let mut j: usize = 0;
     while j < MAX_STAGES {
-        list[j] = value_at(stages, j, YEARS);
+        let stage = stages.records[j];
+        list[j] = value_in(stage, YEARS);
         j += 1;
     }
     Years { list }
 }
 
-fn year_at(stages: Receptors, years: Years, j: usize) -> Answer
-    requires { ⌜ (j < 8) × (years .list ≡ yearsIn (stages .records)) ⌝ }
-    ensures { λ r. ⌜ answer r ≡ stageIn (stages .records) j (placeOf "years") ⌝ }
-{
-    let p = years.list[j];
-    p.answer()
-}
-
 // The sum of the years of stages 0 to last, in deck order.
-fn sum_of_years(stages: Receptors, years: Years, last: usize) -> Answer
-    requires { ⌜ (last < 8) × (years .list ≡ yearsIn (stages .records)) ⌝ }
-    ensures { λ r. ⌜ answer r ≡ sumOfYears pairs (stageIn (stages .records)) last ⌝ }
+fn sum_of_years(years: Years, last: usize) -> Answer
+    requires { ⌜ last < 8 ⌝ }
+    ensures { λ r. ⌜ answer r ≡ summed pairs (yearAt (years .list)) last ⌝ }
 {
-    let mut sum = year_at(stages, years, 0);
+    let first = years.list[0];
+    let mut sum = first.answer();
     let mut j: usize = 0;
     while j < last {
         let next = j + 1;
-        sum = sum.plus(year_at(stages, years, next));
+        let year = years.list[next];
+        sum = sum.plus(year.answer());
         j = next;
     }
     sum
 }
 
-// years × value of stage j at place k.
-fn weighted(stages: Receptors, years: Years, j: usize, k: usize) -> Answer
-    requires { ⌜ (j < 8) × (k < 24) × (years .list ≡ yearsIn (stages .records)) ⌝ }
-    ensures { λ r. ⌜ answer r ≡ after product (stageIn (stages .records) j (placeOf "years")) (stageIn (stages .records) j k) ⌝ }
+// years × value of a stage at place k.
+fn weighted(stage: Record, years: Pair, k: usize) -> Answer
+    requires { ⌜ k < 24 ⌝ }
+    ensures { λ r. ⌜ answer r ≡ after product (is years) (is (pairOf (valueAt stage k))) ⌝ }
 {
-    let value = value_at(stages, j, k);
-    year_at(stages, years, j).times(value.answer())
+    let value = value_in(stage, k);
+    years.answer().times(value.answer())
 }
 
-// The sum of these, of stages 0 to last.
+// The sum of these, of stages 0 to last. A stage is copied out for its turn; all of them are passed on once for each place.
 fn weighted_sum(stages: Receptors, years: Years, last: usize, k: usize) -> Answer
-    requires { ⌜ (last < 8) × (k < 24) × (years .list ≡ yearsIn (stages .records)) ⌝ }
-    ensures { λ r. ⌜ answer r ≡ summed pairs (λ j. after product (stageIn (stages .records) j (placeOf "years")) (stageIn (stages .records) j k)) last ⌝ }
+    requires { ⌜ (last < 8) × (k < 24) ⌝ }
+    ensures { λ r. ⌜ answer r ≡ summed pairs (weightAt (stages .records) (years .list) k) last ⌝ }
 {
-    let mut sum = weighted(stages, years, 0, k);
+    let first = stages.records[0];
+    let mut sum = weighted(first, years.list[0], k);
     let mut j: usize = 0;
     while j < last {
         let next = j + 1;
-        sum = sum.plus(weighted(stages, years, next, k));
+        let stage = stages.records[next];
+        sum = sum.plus(weighted(stage, years.list[next], k));
         j = next;
     }
     sum
@@ -121,7 +109,7 @@ fn composed_values(stages: Receptors, last: usize) -> Values
     ensures { λ r. ⌜ r .list ≡ composedIn (stages .records) last ⌝ }
 {
     let years = years_of(stages);
-    let total = sum_of_years(stages, years, last);
+    let total = sum_of_years(years, last);
     let mut list = [Pair::ONE; SLOTS];
     let mut k: usize = 0;
     while k < SLOTS {

@@ -1,7 +1,8 @@
 -- `composite::stages::composed_at` meets its contract. Assumes nothing.
+use mathlib.Core.Path.{_∙_}
 use native.Mathlib.Omega.{arith}
 use Rattle.composite.specs.Inner.{stageIn}
-use Rattle.composite.proofs.StageLaws.{total-years, total-days, weighted-mean}
+use Rattle.composite.proofs.StageLaws.{weights-summed, total-years, total-days, weighted-mean}
 use borrow.Author.Needs.{needs}
 use Rattle.composite.proofs.stages.composed_at.Statement.{statement}
 use Rattle.composite.proofs.stages.composed_at.Tie as tie
@@ -31,7 +32,7 @@ returns-2 c =
 returns-3 : tie.Need-returns-3
 returns-3 c =
     let s = c .before .before .before in
-    weighted-mean (stageIn (s .args .stages .records)) (s .args .last) (s .args .k) (s .args .total) (s .pre .1) (λ z. omega (arith, c .before .before .match .rest)) (λ z. omega (arith, c .before .before .match .rest)) (c .before .weighted-sum .result) (c .over .result) (c .before .weighted-sum .ensures) (c .over .ensures)
+    weighted-mean (stageIn (s .args .stages .records)) (s .args .last) (s .args .k) (s .args .total) (s .pre .1) (λ z. omega (arith, c .before .before .match .rest)) (λ z. omega (arith, c .before .before .match .rest)) (c .before .weighted-sum .result) (c .over .result) (c .before .weighted-sum .ensures ∙ weights-summed (s .args .stages .records) (s .args .years .list) (s .pre .0 .2) (s .args .last) (s .args .k) (s .pre .0 .0)) (c .over .ensures)
 
 pub composed-at-spec : {M : Type 1} → statement M
 composed-at-spec =

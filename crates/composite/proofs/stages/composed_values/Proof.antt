@@ -13,6 +13,7 @@ use Rattle.deck.proofs.CaseLaws.{filled-start, filled-more}
 use Rattle.sheet.specs.Values.{orOne}
 use Rattle.composite.specs.Composite.{composed}
 use Rattle.composite.specs.Inner.{stageIn, composedIn}
+use Rattle.composite.proofs.StageLaws.{years-summed}
 use Rattle.composite.proofs.stages.composed_values.Statement.{statement}
 use Rattle.composite.proofs.stages.composed_values.Tie as tie
 
@@ -36,7 +37,7 @@ loop-holds c =
 
 composed-at-requires : tie.Need-composed-at-requires Inv-loop μ-loop
 composed-at-requires c κs =
-    ((c .before .before .before .before .pre, c .loop-test .taken, c .before .before .before .years-of .ensures), c .before .before .sum-of-years .ensures)
+    ((c .before .before .before .before .pre, c .loop-test .taken, c .before .before .before .years-of .ensures), c .before .before .sum-of-years .ensures ∙ years-summed (c .before .before .before .before .args .stages .records) (c .before .before .before .years-of .result .list) (c .before .before .before .years-of .ensures) (c .before .before .before .before .args .last) (c .before .before .before .before .pre))
 
 or-one-requires : tie.Need-or-one-requires Inv-loop μ-loop
 or-one-requires c κs = search needs
