@@ -25,7 +25,7 @@ use Rattle.pair.proofs.Alignment.{Small, lesser-below, units-scaled}
 use Rattle.pair.proofs.Ordered.{Working, working, Aligned, aligned, depth-is, size-small, power-rise}
 use Rattle.pair.proofs.Nearest.{Ratio, rounded-nearest, rounded-reach, rounded-itself, zero-significand}
 
-place-size : (e : ℤ) → mag e < 100000 → (depth ≤ place e + 100000) × (place e < depth + 100000)
+pub place-size : (e : ℤ) → mag e < 100000 → (depth ≤ place e + 100000) × (place e < depth + 100000)
 unfolding depth place
 place-size (pos n) h = (omega arith, omega arith)
 place-size (negsuc n) h = (omega arith, omega arith)

@@ -29,7 +29,7 @@ carry-tenth false e = refl
 carry-tenth true e = refl
 
 -- nine figures, or ten of them as a carry
-nine-kept : (up : Bool) (m : ℕ) (e : ℤ) → mag e < 100000 → 100000000 ≤ m → m ≤ 1000000000 → rounded up m 1 e ≡ carried m e
+pub nine-kept : (up : Bool) (m : ℕ) (e : ℤ) → mag e < 100000 → 100000000 ≤ m → m ≤ 1000000000 → rounded up m 1 e ≡ carried m e
 nine-kept up m e reach least most =
     by-cases (ltb m 1000000000)
     (λ t.

@@ -4,7 +4,8 @@
 use Prim.Native.Nat.{ℕ, _^_}
 use mathlib.Core.Bool.{Bool, true, false, _&&_, not}
 use lib.Dec.{leb, ltb}
-use lib.IntN.{ℤ}
+use lib.IntN.{ℤ, pos, _+ℤ_}
+use lib.Signed.{leZ}
 use Rattle.pair.specs.declared.Number.{Number}
 use Rattle.pair.specs.declared.Pair.{Pair}
 use Rattle.pair.specs.declared.Units.{Units}
@@ -15,7 +16,7 @@ use Rattle.pair.specs.declared.Order.the-variants as Orders
 use Rattle.pair.specs.declared.Count.{Count}
 use Rattle.pair.specs.declared.Count.the-variants as Counts
 use Rattle.pair.specs.Number.{inReach, isZero, isNumber, isPair, atMost, asPrinted, zero, one}
-use Rattle.pair.specs.Rounding.{rounded, sumEnd, productEnd, quotientEnd, restEnd, unitsEnd}
+use Rattle.pair.specs.Rounding.{rounded, sumEnd, productEnd, quotientEnd, restEnd, unitsEnd, lifted}
 
 -- what a call tells: a result, or the number of a refusal
 pub data Outcome (A : Type 0) : Type 0 where
@@ -96,6 +97,15 @@ oneMinus f =
 -- whether a ≤ b
 unfoldable pub compared : Number → Number → Outcome Bool
 compared a b = provided (isNumber a && isNumber b) (is (atMost a b))
+
+-- whether q is above 0 and below one unit of the last figure of p's low end: then p + q has p's low end and, at the high end, one unit more
+unfoldable pub absorbs : Pair → Pair → Bool
+absorbs p q =
+    isPair p && (isPair q && (ltb 0 (p .low .significand) && (ltb 0 (q .high .significand) && leZ (q .high .exponent +ℤ pos 9) (p .low .exponent))))
+
+-- p, above 0 at its high end, with n units more in that end's last figure
+unfoldable pub raised : ℕ → Pair → Outcome Pair
+raised n p = provided (isPair p && ltb 0 (p .high .significand)) (ends (p .low) (lifted n (p .high)))
 
 -- an operation on what earlier calls told: a refusal is carried along
 unfoldable pub after : (Pair → Pair → Outcome Pair) → Outcome Pair → Outcome Pair → Outcome Pair

@@ -57,6 +57,13 @@ restEnd up f =
     let s : ℤ = N.lesser (f .exponent) (pos 0) in
     rounded up (10 ^ N.rise s (pos 0) - unitsAt s f) 1 s
 
+-- w with n units more in its last figure; ten figures are carried into the exponent, and from there on the unit is ten times larger
+unfoldable pub lifted : ℕ → Number → Number
+lifted n w =
+    cond (ltb (w .significand + n) 1000000000)
+    (record { significand = w .significand + n; exponent = w .exponent })
+    (record { significand = w .significand + n - 900000000; exponent = w .exponent +ℤ pos 1 })
+
 -- one end counted in units of 10^u
 unfoldable pub unitsEnd : Bool → Number → ℤ → ℕ
 unitsEnd up w u =

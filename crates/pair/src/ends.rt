@@ -19,6 +19,7 @@ ghost use Prim.Native.Nat.{_+_, _-_, _*_, _^_, _≤_, _<_};
 ghost use lib.Dec.{ltb};
 ghost use lib.Signed.{mag, ltZ};
 ghost use Rattle.pair.specs.Number.{isNumber, inReach, atMost, asPrinted, one};
+ghost use Rattle.pair.specs.Rounding as rounding;
 ghost use Rattle.pair.specs.Rounding.{rounded, sumEnd, productEnd, quotientEnd, restEnd, unitsEnd};
 
 pub(crate) fn is_number(w: Number) -> bool
@@ -136,6 +137,24 @@ pub(crate) fn sum(up: bool, a: Number, b: Number) -> Number
         return aligned(up, b, a);
     }
     aligned(up, a, b)
+}
+
+// w with n units more in its last figure, fewer than it takes to carry twice.
+pub(crate) fn lifted(w: Number, n: u32) -> Number
+    requires { ⌜ (isNumber w ≡ true) × (n ≤ 255) ⌝ }
+    ensures { λ r. ⌜ r ≡ rounding.lifted n w ⌝ }
+{
+    let m = w.significand + n;
+    if m < 1_000_000_000 {
+        return Number {
+            significand: m,
+            exponent: w.exponent,
+        };
+    }
+    Number {
+        significand: m - 900_000_000,
+        exponent: plus(w.exponent, 1),
+    }
 }
 
 // Whether m × 10^e, of at most twelve digits, is at most 1.

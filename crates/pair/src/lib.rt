@@ -9,12 +9,15 @@ use crate::ends::at_most;
 use crate::ends::countable;
 use crate::ends::is_number;
 use crate::ends::is_share;
+use crate::ends::lifted;
 use crate::ends::product;
 use crate::ends::quotient;
 use crate::ends::rest;
 use crate::ends::sum;
 use crate::ends::units;
 use crate::exponent::in_reach;
+use crate::exponent::less;
+use crate::exponent::plus;
 use crate::exponent::within;
 use crate::rounding::figured;
 use crate::rounding::normal;
@@ -303,6 +306,42 @@ impl Pair {
             rest(false, high.significand as u64, high.exponent),
             rest(true, low.significand as u64, low.exponent),
         )
+    }
+
+    // Whether other is above 0 and below one unit of the low end's last figure: then a sum keeps the low end, and its high end has one
+    // unit more.
+    pub fn absorbs(self, other: Pair) -> bool
+        ensures { λ r. ⌜ r ≡ calls.absorbs self other ⌝ }
+    {
+        if !is_pair(self) {
+            return false;
+        }
+        if !is_pair(other) {
+            return false;
+        }
+        let low = self.low;
+        let high = other.high;
+        if low.significand == 0 {
+            return false;
+        }
+        if high.significand == 0 {
+            return false;
+        }
+        !less(low.exponent, plus(high.exponent, 9))
+    }
+
+    // The high end, above 0, with so many units more in its last figure.
+    pub fn raised(self, units: u8) -> Answer
+        ensures { λ r. ⌜ calls.answer r ≡ calls.raised units self ⌝ }
+    {
+        if !is_pair(self) {
+            return Answer::Refused;
+        }
+        let high = self.high;
+        if high.significand == 0 {
+            return Answer::Refused;
+        }
+        answered(self.low, lifted(high, units as u32))
     }
 
     // The ends in units of 10^unit: the low end down, the high end up.
