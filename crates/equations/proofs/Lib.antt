@@ -5,6 +5,7 @@ pub mod Profile
 mod FormulaLaws
 pub mod Tail
 mod SeriesLaws
+pub mod EarlyStop
 pub mod LineLaws
 pub mod Limits
 pub mod Rising

@@ -2,12 +2,12 @@
 -- raises its high end by one unit, so that what is left of the series is known without working it. Assumes nothing.
 use mathlib.Core.Path.{_≡_, refl, sym, _∙_, ap, ap₂, subst}
 use mathlib.Core.Bool.{Bool, true, false, _&&_, not, true≢false}
-use mathlib.Core.Logic.{⊎-elim}
+use mathlib.Core.Logic.{_⊎_, inl, inr, ⊎-elim}
 use Prim.Native.Nat.{ℕ, zero, suc, _+_, _-_, _*_, _^_, _≤_, _<_}
 use native.Mathlib.Nat.{eq-zero-or-pos, mul-le-mul-right, le-of-mul-le-mul-right, lt-of-mul-lt-mul-right, mul-lt-mul-of-pos-right, add-zero, add-suc, le-trans, mul-pos}
 use native.Mathlib.Omega.{arith}
 use lib.Dec.{ltb, lit<, lit≤}
-use lib.IntN.{ℤ, pos, _+ℤ_}
+use lib.IntN.{ℤ, pos, negsuc, _+ℤ_}
 use lib.Signed.{mag, leZ, ltZ}
 use borrow.Author.Tests.{ltb-true, ltb-false, lt-ltb, le-ltb, leb-true}
 use Rattle.pair.specs.declared.Number.{Number}
@@ -17,7 +17,7 @@ use Rattle.pair.specs.Number.{isNumber, isPair, inReach, value, place, d
 use Rattle.pair.specs.Fraction.{Fraction, _≤ᶠ_, times, over}
 use Rattle.pair.specs.Rounding.{divided, carried, rounded, sumEnd, lifted}
 use Rattle.pair.specs.Calls.{Outcome, is, refused, after, sum, entry, absorbs, raised, ends}
-use Rattle.pair.specs.Promises.{sums, products, quotients, call, exactResult, lowEnd, highEnd, withLow, withHigh, Beside, scaled}
+use Rattle.pair.specs.Promises.{sums, products, quotients, call, exactResult, lowEnd, highEnd, withLow, withHigh, Beside, Sized, scaled}
 use Rattle.pair.proofs.Exponents.{by-cases, mag-plus, place-plus, leZ-place, leZ-of}
 use Rattle.pair.proofs.Powers.{ten-above, ten-add, ten-rises, ten-falls}
 use Rattle.pair.proofs.Dividing.{divided-from}
@@ -454,3 +454,38 @@ module _ (n : ℕ) (p : Pair) where
   pub raised-worked : isPair p ≡ true → 0 < p .high .significand → ends (p .low) (lifted n (p .high)) ≡ raised n p
   unfolding raised
   raised-worked h k = sym (provided-true (ends (p .low) (lifted n (p .high))) (both-from h (lt-ltb 0 (p .high .significand) k)))
+
+-- A number's size tells its exponent.
+mag-from : (e : ℤ) → depth ≤ place e + 99000 → place e ≤ depth + 99000 → mag e ≤ 99000
+unfolding depth place
+mag-from (pos n) l h = omega arith
+mag-from (negsuc n) l h = omega arith
+
+pub sized-exponent : (w : Number) (k : ℕ) → isNumber w ≡ true → 0 < w .significand → Sized k (value w) → k ≤ 90000 →
+    (mag (w .exponent +ℤ pos 9) ≤ 99000) × (place (w .exponent) ≤ depth + 99990)
+unfolding value
+sized-exponent w k n p s l = go (s .sized)
+  where
+    nine′ : Nine w
+    nine′ = number-nine w n p
+
+    go : (w .significand * 10 ^ place (w .exponent) ≡ 0) ⊎ ((10 ^ depth ≤ w .significand * 10 ^ place (w .exponent) * 10 ^ k) × (w .significand * 10 ^ place (w .exponent) ≤ 10 ^ depth * 10 ^ k)) →
+        (mag (w .exponent +ℤ pos 9) ≤ 99000) × (place (w .exponent) ≤ depth + 99990)
+    go (inl z) = absurd (omega (arith, mul-pos p (ten-above (place (w .exponent)))))
+    go (inr b) =
+        let most : place (w .exponent) + 8 ≤ depth + k =
+        ten-falls (rw (ten-add (place (w .exponent)) 8, ten-add depth k) (omega (arith, b .1, mul-le-mul-right (10 ^ place (w .exponent)) (nine′ .least)))) in
+        let least : depth ≤ 9 + place (w .exponent) + k =
+        ten-falls
+        (rw (ten-add (9 + place (w .exponent)) k, ten-add 9 (place (w .exponent)))
+        (omega (arith, b .0, mul-le-mul-right (10 ^ k) (mul-le-mul-right {m = w .significand} {n = 1000000000} (10 ^ place (w .exponent)) (omega (arith, nine′ .most)))))) in
+        (
+          mag-from (w .exponent +ℤ pos 9) (omega (arith, nine-more (w .exponent) (nine′ .reach))) (omega (arith, nine-more (w .exponent) (nine′ .reach))),
+          omega arith,
+        )
+
+pub sized-room : (w : Number) (k : ℕ) → isNumber w ≡ true → Sized k (value w) → k ≤ 90000 → place (w .exponent) ≤ depth + 99990
+sized-room w k n s l = ⊎-elim none (λ p. sized-exponent w k n p s l .1) (eq-zero-or-pos (w .significand))
+  where
+    none : w .significand ≡ 0 → place (w .exponent) ≤ depth + 99990
+    none z = unfold N.zero place in rw (number-zero w n z) (omega arith)
