@@ -1,4 +1,4 @@
--- φ on pairs, stopped early: where the sum so far absorbs a term and x is at most the number that divides the next, every later term
+-- φ on pairs, stopped early: where the sum so far absorbs a term and x is at most a number that the next is divided by, every later term
 -- leaves the low end and raises the high end by one unit, and so does the last term once more. Assumes nothing.
 use mathlib.Core.Path.{_≡_, refl, sym, _∙_, ap, ap₂, subst}
 use mathlib.Core.Bool.{Bool, true, _&&_}
@@ -13,7 +13,7 @@ use Rattle.pair.specs.declared.Pair.{Pair}
 use Rattle.pair.specs.Fraction.{_≤ᶠ_}
 use Rattle.pair.specs.Number as numbers
 use Rattle.pair.specs.Number.{isPair, value, place, depth}
-use Rattle.pair.specs.Calls.{Outcome, is, after, afterOne, absorbs, raised, entry, sum}
+use Rattle.pair.specs.Calls.{Outcome, is, refused, after, afterOne, absorbs, raised, entry, sum}
 use Rattle.pair.specs.Promises.{sums, products, quotients, call, scaled}
 use Rattle.pair.proofs.Promises.{Within, Usable, joint, sized-on, value-proper, through, scaled-proper, ordered, answered-within, pair-again, entry-exact, entry-above}
 use Rattle.pair.proofs.Settling.{Under, Settled, lifts, settled-sum, settled-total, under-from-zero, absorbed, raised-is, shrinks, sized-exponent, sized-room}
@@ -125,8 +125,7 @@ module _ (x : Pair) (pair : isPair x ≡ true) (within : Within 300 x) where
     term-under (suc k) l t h u =
         let i = term-under k (omega arith) t h u in
         let w : Told (10 + 310 * (n + k)) (term (n + k)) = term-told (n + k) (omega arith) in
-        let s : Next (n + k) (i .0) = next (n + k) (omega arith) (i .0) (i .2 .pair) (subst (Within (10 + 310 * (n + k))) (same (w .told) (i .1)) (w .within)) in
-        (
+        let s : Next (n + k) (i .0) = next (n + k) (omega arith) (i .0) (i .2 .pair) (subst (Within (10 + 310 * (n + k))) (same (w .told) (i .1)) (w .within)) in (
           s .quotient,
           ap term (add-suc n k) ∙ next-term (n + k) (i .0) (i .1) s,
           shrinks e (n + k + 2) (i .0) x (s .divisor) (s .product) (s .quotient) size (omega arith) (omega arith) (s .divisor-told)
@@ -137,10 +136,10 @@ module _ (x : Pair) (pair : isPair x ≡ true) (within : Within 300 x) where
         more i h = unfold scaled in record { across = mul-le-mul-right (10 ^ depth) (mul-le-mul-right (10 ^ place (pos 0)) h) }
 
   -- φ is the sum so far, raised by one unit for each term left and for the last once more.
-  pub series-stopped : (n : ℕ) (s t d : Pair) → n ≤ 255 → 0 < x .high .significand → term n ≡ is t → total n ≡ is s → absorbs s t ≡ true →
-      entry (n + 2) (pos 0) ≡ is d → value (x .high) ≤ᶠ value (d .low) → pairSeries (is x) ≡ raised (256 - n) s
+  pub series-stopped : (n c : ℕ) (s t d : Pair) → n ≤ 255 → c ≤ n + 2 → 0 < x .high .significand → term n ≡ is t → total n ≡ is s → absorbs s t ≡ true →
+      entry c (pos 0) ≡ is d → value (x .high) ≤ᶠ value (d .low) → pairSeries (is x) ≡ raised (256 - n) s
   unfolding pairSeries after afterOne fromZero call
-  series-stopped n s t d l above h k a i most =
+  series-stopped n c s t d l less above h k a i most =
       let m : ℕ = le-dest l .0 in
       let e : n + m ≡ 255 = le-dest l .1 in
       let w : Told (10 + 310 * n) (term n) = term-told n l in
@@ -151,14 +150,27 @@ module _ (x : Pair) (pair : isPair x ≡ true) (within : Within 300 x) where
       let pair-s : isPair s ≡ true = subst (λ (p : Pair). isPair p ≡ true) (same (v .told) k) (v .pair) in
       let b = absorbed s t a (sized-room (s .high) (10 + 311 * n) (ordered s pair-s .high) (size-s .high) (omega arith)) in
       let z = sized-exponent (t .high) (10 + 310 * n) (ordered t pair-t .high) (b .1 .above) (size-t .high) (omega arith) in
-      let x-most : value (x .high) ≤ᶠ scaled (n + 2) (pos 0) = through (value-proper (d .low)) most (entry-exact (n + 2) (pos 0) d (omega arith) i .1 .low) in
-      let under : (j : ℕ) → n + j ≤ 255 → (u : Pair) × (term (n + j) ≡ is u) × Under (t .high .exponent +ℤ pos 9) u = λ j g. term-under n (n + 2) (t .high .exponent +ℤ pos 9) (z .0) x-most above (omega arith) j g t h (b .1) in
-      let c = settled-total (t .high .exponent +ℤ pos 9) s (b .0) term total n k (λ j. adds (n + j)) m (omega arith) (λ j g. let u = under (suc j) (omega arith) in (u .0, ap term (sym (add-suc n j)) ∙ u .1, u .2)) in
+      let x-most : value (x .high) ≤ᶠ scaled c (pos 0) = through (value-proper (d .low)) most (entry-exact c (pos 0) d (omega arith) i .1 .low) in
+      let under : (j : ℕ) → n + j ≤ 255 → (u : Pair) × (term (n + j) ≡ is u) × Under (t .high .exponent +ℤ pos 9) u = λ j g. term-under n c (t .high .exponent +ℤ pos 9) (z .0) x-most above less j g t h (b .1) in
+      let r = settled-total (t .high .exponent +ℤ pos 9) s (b .0) term total n k (λ j. adds (n + j)) m (omega arith) (λ j g. let u = under (suc j) (omega arith) in (u .0, ap term (sym (add-suc n j)) ∙ u .1, u .2)) in
       let last = under m (omega arith) in
-      ap₂ (λ (o u : Outcome Pair). after sum o (afterOne fromZero u)) (ap total (sym e) ∙ c .0) (ap term (sym e) ∙ last .1)
-      ∙ settled-sum (t .high .exponent +ℤ pos 9) s (b .0) m (record { low = numbers.zero; high = last .0 .high }) (omega arith) (c .1) (under-from-zero (last .2))
+      ap₂ (λ (o u : Outcome Pair). after sum o (afterOne fromZero u)) (ap total (sym e) ∙ r .0) (ap term (sym e) ∙ last .1)
+      ∙ settled-sum (t .high .exponent +ℤ pos 9) s (b .0) m (record { low = numbers.zero; high = last .0 .high }) (omega arith) (r .1) (under-from-zero (last .2))
       ∙ sym (raised-is (t .high .exponent +ℤ pos 9) s (b .0) (suc m) (omega arith))
       ∙ ap (λ (j : ℕ). raised j s) (omega arith)
     where
       adds : (j : ℕ) → total (suc j) ≡ after sum (total j) (term (suc j))
       adds j = unfold terms pairs in refl
+
+-- A refused sum is φ refused.
+module _ (x : Outcome Pair) where
+  total-refused : (n k : ℕ) → terms pairs x n .total ≡ refused 53 → terms pairs x (n + k) .total ≡ refused 53
+  unfolding terms pairs after
+  total-refused n zero h = ap (λ (i : ℕ). terms pairs x i .total) (add-zero n) ∙ h
+  total-refused n (suc k) h = ap (λ (i : ℕ). terms pairs x i .total) (add-suc n k) ∙ ap (λ (o : Outcome Pair). after sum o (terms pairs x (suc (n + k)) .term)) (total-refused n k h)
+
+  pub series-refused : (n : ℕ) → n ≤ 255 → terms pairs x n .total ≡ refused 53 → pairSeries x ≡ refused 53
+  unfolding pairSeries after
+  series-refused n l h =
+      ap (λ (o : Outcome Pair). after sum o (afterOne fromZero (terms pairs x 255 .term)))
+      (ap (λ (i : ℕ). terms pairs x i .total) (sym (le-dest l .1)) ∙ total-refused n (le-dest l .0) h)

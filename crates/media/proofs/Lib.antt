@@ -1,3 +1,4 @@
 -- The crate's laws. Assumes nothing.
 mod Passing
+mod Moderate
 pub mod Figures

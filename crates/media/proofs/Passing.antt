@@ -1,15 +1,16 @@
 -- x passes as it is, or not at all. Assumes nothing.
-use mathlib.Core.Path.{_≡_, sym, ap}
+use mathlib.Core.Path.{_≡_, refl, sym, ap}
 use mathlib.Core.Bool.{Bool, true, false}
 use native.Mathlib.Omega.{arith}
 use Prim.Native.Nat.{ℕ}
 use Rattle.pair.specs.declared.Pair.{Pair}
-use Rattle.pair.specs.Calls.{Outcome, is, refused, compared}
+use Rattle.pair.specs.Number.{isPair}
+use Rattle.pair.specs.Calls.{Outcome, is, refused, provided, checked, compared}
 use Rattle.equations.specs.Ranges.{sixtyFour}
 use Rattle.media.specs.Media.{bounded, slow, given}
 use Rattle.media.specs.declared.Media.{Media}
 
-is-not-refused : {A : Type 0} {B : Type 0} (p : A) (n : ℕ) → refused n ≡ is p → B
+pub is-not-refused : {A : Type 0} {B : Type 0} (p : A) (n : ℕ) → refused n ≡ is p → B
 is-not-refused {A} p n h = absurd (never h)
   where
     tell : Outcome A → ℕ
@@ -37,3 +38,12 @@ given-is o p m h = ap (λ (t : Outcome Pair). given t m) (sym h)
 pub given-refused : (o : Outcome Pair) (n : ℕ) (m : Outcome Media) → o ≡ refused n → refused n ≡ given o m
 unfolding given
 given-refused o n m h = ap (λ (t : Outcome Pair). given t m) (sym h)
+
+-- What is checked is a pair.
+pub checked-pair : (x p : Pair) → checked x ≡ is p → isPair x ≡ true
+unfolding checked
+checked-pair x p h = go (isPair x) h
+  where
+    go : (t : Bool) → provided t (is x) ≡ is p → t ≡ true
+    go true e = refl
+    go false e = unfold provided in is-not-refused p 53 e

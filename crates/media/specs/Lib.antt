@@ -1,2 +1,3 @@
 -- What the crate `media` promises.
 pub mod Media
+pub mod Inner

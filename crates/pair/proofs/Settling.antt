@@ -16,7 +16,7 @@ use Rattle.pair.specs.Number as N
 use Rattle.pair.specs.Number.{isNumber, isPair, inReach, value, place, depth, rise}
 use Rattle.pair.specs.Fraction.{Fraction, _≤ᶠ_, times, over}
 use Rattle.pair.specs.Rounding.{divided, carried, rounded, sumEnd, lifted}
-use Rattle.pair.specs.Calls.{Outcome, is, refused, after, sum, entry, absorbs, raised, ends}
+use Rattle.pair.specs.Calls.{Outcome, is, refused, after, sum, entry, zeroPair, absorbs, raised, ends}
 use Rattle.pair.specs.Promises.{sums, products, quotients, call, exactResult, lowEnd, highEnd, withLow, withHigh, Beside, Sized, scaled}
 use Rattle.pair.proofs.Exponents.{by-cases, mag-plus, place-plus, leZ-place, leZ-of}
 use Rattle.pair.proofs.Powers.{ten-above, ten-add, ten-rises, ten-falls}
@@ -231,7 +231,7 @@ module _ (e : ℤ) (s : Pair) (h : Settled e s) where
 
   -- Any series: from a settled sum on, with terms under that bound, the sum after n more terms.
   module _ (term total : ℕ → Outcome Pair) (start : ℕ) (begins : total start ≡ is s)
-    (adds : (k : ℕ) → total (suc (start + k)) ≡ after sum (total (start + k)) (term (suc (start + k)))) where
+      (adds : (k : ℕ) → total (suc (start + k)) ≡ after sum (total (start + k)) (term (suc (start + k)))) where
     pub settled-total : (n : ℕ) → n ≤ 256 → ((k : ℕ) → k < n → (t : Pair) × (term (suc (start + k)) ≡ is t) × Under e t) →
         (total (start + n) ≡ is (lifts n s)) × (isPair (lifts n s) ≡ true)
     unfolding after call
@@ -289,8 +289,7 @@ absorbed s t h room =
     let a : 0 < s .low .significand = ltb-true 0 (s .low .significand) (k .0) in
     let c : 0 < t .high .significand = ltb-true 0 (t .high .significand) (l .0) in
     let nine : Nine (t .high) = number-nine (t .high) (ordered t (j .0) .high) c in
-    let less : value (t .high) <ᶠ scaled 1 (t .high .exponent +ℤ pos 9) = below-next (t .high) nine in
-    (
+    let less : value (t .high) <ᶠ scaled 1 (t .high .exponent +ℤ pos 9) = below-next (t .high) nine in (
       record { pair = i .0; above = a; far = not-below (t .high .exponent) (s .low .exponent) (nine .reach) (number-nine (s .low) (ordered s (i .0) .low) a .reach) (l .1); room = room },
       record { pair = j .0; low = low-below t (t .high .exponent +ℤ pos 9) (j .0) less; high = record { across = omega (arith, less .across) }; above = c },
     )
@@ -478,8 +477,7 @@ sized-exponent w k n p s l = go (s .sized)
         let least : depth ≤ 9 + place (w .exponent) + k =
         ten-falls
         (rw (ten-add (9 + place (w .exponent)) k, ten-add 9 (place (w .exponent)))
-        (omega (arith, b .0, mul-le-mul-right (10 ^ k) (mul-le-mul-right {m = w .significand} {n = 1000000000} (10 ^ place (w .exponent)) (omega (arith, nine′ .most)))))) in
-        (
+        (omega (arith, b .0, mul-le-mul-right (10 ^ k) (mul-le-mul-right {m = w .significand} {n = 1000000000} (10 ^ place (w .exponent)) (omega (arith, nine′ .most)))))) in (
           mag-from (w .exponent +ℤ pos 9) (omega (arith, nine-more (w .exponent) (nine′ .reach))) (omega (arith, nine-more (w .exponent) (nine′ .reach))),
           omega arith,
         )
@@ -489,3 +487,14 @@ sized-room w k n s l = ⊎-elim none (λ p. sized-exponent w k n p s l .1) (eq-z
   where
     none : w .significand ≡ 0 → place (w .exponent) ≤ depth + 99990
     none z = unfold N.zero place in rw (number-zero w n z) (omega arith)
+
+-- A pair whose high end is 0 is 0.
+pub pair-none : (p : Pair) → isPair p ≡ true → p .high .significand ≡ 0 → p ≡ zeroPair
+unfolding zeroPair
+pair-none p h z =
+    let o : Ordered p = ordered p h in
+    let low : p .low .significand ≡ 0 = ⊎-elim (λ e. e) (λ s. absurd (omega (arith, low-none o, mul-pos s (ten-above (place (p .low .exponent)))))) (eq-zero-or-pos (p .low .significand)) in
+    ap₂ (λ (a b : Number). record { low = a; high = b }) (number-zero (p .low) (o .low) low) (number-zero (p .high) (o .high) z)
+  where
+    low-none : Ordered p → p .low .significand * 10 ^ place (p .low .exponent) ≤ 0
+    low-none o = unfold value in le-of-mul-le-mul-right {k = 10 ^ depth} (le-trans (o .rising .across) (omega (arith, ap (λ (m : ℕ). m * 10 ^ place (p .high .exponent) * 10 ^ depth) z))) (ten-above depth)
