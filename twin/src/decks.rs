@@ -2,7 +2,8 @@
 //! Either call has its own.
 
 use crate::deck::{
-    Chemical, Printed, Receptor, Slot, Sort, CHEMICAL, CHEMICAL_VALUES, FV, LINE, RECEPTOR, SITE, YEARS, YEARS_AT,
+    Chemical, Printed, Receptor, Slot, Sort, CHEMICAL, CHEMICAL_VALUES, FV, LINE, MOST_CHEMICALS, RECEPTOR, SITE,
+    YEARS, YEARS_AT,
 };
 use crate::page::{composite, pathways, Body, Figures, Media, Site};
 use crate::pairs::{Pair, Working};
@@ -53,6 +54,23 @@ pub fn everyday_eleven(sort: Sort, seed: u64, chemicals: usize, receptors: usize
             return deck;
         }
     }
+}
+
+/// Decks as a batch mixes them, each beside the call it is for: one in eight a composite's, one in ten refused, whatever for.
+/// Those accepted are everyday decks of any size, half of them with eleven digits.
+pub fn batch(seed: u64, decks: u64) -> Vec<(Sort, Vec<u8>)> {
+    let rng = &mut Rng::new(seed);
+    let one = |own_seed| {
+        let sort = if rng.below(8) == 0 { Sort::Composite } else { Sort::Ordinary };
+        let deck = if rng.chance(10) {
+            (0..).map(|place| trial(sort, own_seed, place).deck).find(|deck| !accepted(sort, deck)).unwrap()
+        } else {
+            let make = if rng.chance(50) { everyday } else { everyday_eleven };
+            make(sort, own_seed, 1 + rng.below(MOST_CHEMICALS), 1 + rng.below(sort.most_receptors()))
+        };
+        (sort, deck)
+    };
+    (0..decks).map(one).collect()
 }
 
 fn everyday_draft(rng: &mut Rng, sort: Sort, chemicals: usize, receptors: usize) -> (Draft, Vec<u8>) {
@@ -924,6 +942,15 @@ mod tests {
             }
             assert!(count[0] >= decks * 30 / 100 && count[0] <= decks * 60 / 100, "{sort:?}: {}", count[0]);
         }
+    }
+
+    #[test]
+    fn shares_of_a_batch() {
+        let decks = batch(1, 400);
+        assert_eq!(decks[..40], batch(1, 40));
+        let composites = decks.iter().filter(|(sort, _)| *sort == Sort::Composite).count();
+        let refused = decks.iter().filter(|(sort, deck)| !accepted(*sort, deck)).count();
+        assert!((30..=70).contains(&composites) && (25..=55).contains(&refused), "{composites} {refused}");
     }
 
     /// What a run of composites' decks holds: every number of stages, years at both ends of their range, refusals of the years

@@ -10,7 +10,7 @@ use std::hint::black_box;
 use std::time::Instant;
 use twin::calls::{self, Answer, Raw};
 use twin::deck::Printed;
-use twin::decks::{everyday, everyday_eleven};
+use twin::decks::{batch, everyday, everyday_eleven};
 use twin::rng::Rng;
 use twin::{ffi, Sort, LONGEST_REPORT};
 
@@ -261,9 +261,12 @@ fn counts<'a>(inputs: &'a [Raw], unit: i32) -> Item<'a> {
     Item { name: "in units".to_string(), calls: inputs.len(), library, twin }
 }
 
-/// Reading alone and the whole report of some decks of one sort and size.
-fn deck_items<'a>(size: &str, sort: Sort, decks: &'a [Vec<u8>]) -> [Item<'a>; 2] {
-    for deck in decks {
+/// Decks, each beside the call it is for.
+type Decks = Vec<(Sort, Vec<u8>)>;
+
+/// Reading alone and the whole report of some decks, of one size or mixed.
+fn deck_items<'a>(size: &str, decks: &'a Decks) -> [Item<'a>; 2] {
+    for &(sort, ref deck) in decks {
         let (mut l, mut t) = (vec![0; LONGEST_REPORT], vec![0; LONGEST_REPORT]);
         alike(size, ffi::read(sort, deck), twin::read(sort, deck));
         alike(size, ffi::report(sort, deck, &mut l), twin::report(sort, deck, &mut t));
@@ -271,7 +274,7 @@ fn deck_items<'a>(size: &str, sort: Sort, decks: &'a [Vec<u8>]) -> [Item<'a>; 2]
     }
     let read = |call: fn(Sort, &[u8]) -> twin::Outcome| {
         move || {
-            for deck in decks {
+            for &(sort, ref deck) in decks {
                 black_box(call(black_box(sort), black_box(deck)));
             }
         }
@@ -279,7 +282,7 @@ fn deck_items<'a>(size: &str, sort: Sort, decks: &'a [Vec<u8>]) -> [Item<'a>; 2]
     let report = |call: fn(Sort, &[u8], &mut [u8]) -> twin::Outcome| {
         let mut out = vec![0; LONGEST_REPORT];
         move || {
-            for deck in decks {
+            for &(sort, ref deck) in decks {
                 black_box(call(black_box(sort), black_box(deck), &mut out));
                 black_box(&out);
             }
@@ -336,16 +339,16 @@ fn main() {
             (rng.between(0, 10i64.pow(decimals as u32) - 1) as u64, -decimals as i32)
         })
         .collect();
-    let four = |make: Make, sort, (c, r)| (0..4).map(|seed| make(sort, seed, c, r)).collect();
+    let four = |make: Make, sort, (c, r)| (0..4).map(|seed| (sort, make(sort, seed, c, r))).collect();
     let (ordinary, composite) = (Sort::Ordinary, Sort::Composite);
-    let mut decks: Vec<(String, Sort, Vec<Vec<u8>>)> = Vec::new();
-    decks.extend(SIZES.map(|(c, r)| (format!("{c} × {r}"), ordinary, four(everyday, ordinary, (c, r)))));
-    decks.extend(
-        SIZES.map(|(c, r)| (format!("{c} × {r} (11 digits)"), ordinary, four(everyday_eleven, ordinary, (c, r)))),
-    );
-    decks.extend(
-        COMPOSITE_SIZES.map(|(c, r)| (format!("{c} × {r} stages"), composite, four(everyday, composite, (c, r)))),
-    );
+    let mut decks: Vec<(String, Decks)> = Vec::new();
+    decks.extend(SIZES.map(|(c, r)| (format!("{c} × {r}"), four(everyday, ordinary, (c, r)))));
+    decks.extend(SIZES.map(|(c, r)| (format!("{c} × {r} (11 digits)"), four(everyday_eleven, ordinary, (c, r)))));
+    decks.extend(COMPOSITE_SIZES.map(|(c, r)| (format!("{c} × {r} stages"), four(everyday, composite, (c, r)))));
+    // One pass takes longer than a turn should, and is one; rounds are as many as for the others.
+    let mixed = batch(2006, 1_000);
+    let mixture = made_of(&mixed);
+    decks.push(("batch of 1,000 mixed decks,".to_string(), mixed));
 
     let mut items = vec![
         on_printed("entry", &printed, ffi::entry, own::entry),
@@ -359,16 +362,33 @@ fn main() {
         counts(&quotients, -12),
         on_one("series, 256 terms", &xs, ffi::series, own::series),
     ];
-    for (size, sort, decks) in &decks {
-        items.extend(deck_items(size, *sort, decks));
+    for (size, decks) in &decks {
+        items.extend(deck_items(size, decks));
     }
     let timed = run(items, rounds);
-    let sizes: Vec<&str> = decks.iter().map(|(size, ..)| size.as_str()).collect();
-    let text = markdown(&timed, &sizes, rounds);
+    let sizes: Vec<&str> = decks.iter().map(|(size, _)| size.trim_end_matches(',')).collect();
+    let text = markdown(&timed, &sizes, &mixture, rounds);
     print!("{text}");
     let page = std::fs::read_to_string(page_path).unwrap_or_default();
     std::fs::write(page_path, with_table(&page, &text)).unwrap_or_else(|e| panic!("{page_path}: {e}"));
     std::fs::write(figure, svg(&timed, rounds)).unwrap_or_else(|e| panic!("{figure}: {e}"));
+}
+
+/// What a batch is made of.
+fn made_of(batch: &Decks) -> String {
+    let (mut ordinary, mut composites, mut refused, mut unread) = (0, 0, 0, 0);
+    for &(sort, ref deck) in batch {
+        match (twin::report(sort, deck, &mut [0; LONGEST_REPORT]).0, sort) {
+            (0, Sort::Ordinary) => ordinary += 1,
+            (0, Sort::Composite) => composites += 1,
+            _ => refused += 1,
+        }
+        unread += usize::from(twin::read(sort, deck).0 != 0);
+    }
+    format!(
+        "The batch: {ordinary} ordinary decks of 1 to 16 chemicals and 1 to 4 receptors, {composites} composites of 1 to 16\n\
+         chemicals and 1 to 8 stages, some half of either with 11 digits, and {refused} refused decks, {unread} of them in reading."
+    )
 }
 
 /// The page with its tables made anew: what stands between the two marks, or the tables alone where there are none.
@@ -398,7 +418,7 @@ fn nanoseconds(ns: f64) -> String {
 }
 
 /// The rows of decks stand last, reading and report of each size.
-fn markdown(timed: &[Timed], sizes: &[&str], rounds: usize) -> String {
+fn markdown(timed: &[Timed], sizes: &[&str], mixture: &str, rounds: usize) -> String {
     let mut text = String::new();
     let _ = writeln!(
         text,
@@ -408,7 +428,8 @@ fn markdown(timed: &[Timed], sizes: &[&str], rounds: usize) -> String {
         text,
         "decks are chemicals × receptors, those of 11 digits the same with each number moved by less than its last place;"
     );
-    let _ = writeln!(text, "decks of stages go to the composite call, which reports one receptor.");
+    let _ = writeln!(text, "decks of stages go to the composite call, which reports one receptor;");
+    let _ = writeln!(text, "of a batch, what one deck takes on average.");
     let _ = writeln!(text, "Ratio: library by twin, median of the rounds' own ratios.\n");
     let _ = writeln!(text, "| Call | Library, ns | Twin, ns | Library / twin |\n|---|---:|---:|---:|");
     for t in timed {
@@ -421,12 +442,13 @@ fn markdown(timed: &[Timed], sizes: &[&str], rounds: usize) -> String {
         let share = |pick: fn(&Timed) -> f64| 100.0 * pick(&two[0]) / pick(&two[1]);
         let _ = writeln!(text, "| {size} | {:.1} % | {:.1} % |", share(|t| t.library), share(|t| t.twin));
     }
+    let _ = writeln!(text, "\n{mixture}");
     text
 }
 
 /// Two bars for each call, on a log scale.
 fn svg(timed: &[Timed], rounds: usize) -> String {
-    const LEFT: f64 = 210.0;
+    const LEFT: f64 = 260.0;
     const RIGHT: f64 = 780.0;
     const TOP: f64 = 92.0;
     const GROUP: f64 = 38.0;
