@@ -24,6 +24,7 @@ use Rattle.slots.proofs.Laws.{places, place-rule, inside}
 use Rattle.deck.specs.Conditions.{at, first, upTo, fieldConditions, fieldAt, misspelled, misplaced, outOfRange, countOf, conditions}
 use Rattle.deck.specs.Cases.{tabulate, valueOf, noSlot, slotSpelled, noRecord, recordOf, recordsOf, caseWith, caseOf, valueAt, chemicalAt, receptorAt, ownersRecord, printed}
 use Rattle.deck.specs.Ranged.{Spelled, Fits, Ranged}
+use Rattle.deck.specs.Inner.{Small}
 use Rattle.slots.specs.declared.Rule.{Rule}
 use Rattle.deck.specs.declared.Filled.{Filled}
 use Rattle.deck.specs.declared.Record.{Record}
@@ -39,12 +40,6 @@ use Rattle.deck.proofs.CaseLaws.{length-tabulate}
 use Rattle.deck.proofs.Places.{upTo-each, line-facts, counts, lines-are, kind-site, kind-chemical, kind-receptor}
 
 -- ---- every word that is a number is one that a field may spell
-abbrev Small : Word → Type 0
-Small Blank = Unit {0}
-Small Dash = Unit {0}
-Small (Number digits power) = Spelled digits power
-Small Other = Unit {0}
-
 choose : (t : Bool) (v w : Word) → (t ≡ true → Small v) → (t ≡ false → Small w) → Small (cond t v w)
 choose true v w p q = p refl
 choose false v w p q = q refl
@@ -115,7 +110,7 @@ spelled-small text =
     choose (eqb whole 0) Other _ (λ t. tt)
     (λ t. choose (eqb (getD text whole 0) 46) _ _ (λ u. pointed-small text whole b) (λ u. ended-small text whole 0 b refl whole))
 
-word-small : (part : List ℕ) → Small (wordOf part)
+pub word-small : (part : List ℕ) → Small (wordOf part)
 unfolding wordOf
 word-small part =
     choose (eqb (length (unspaced part)) 0) Blank _ (λ t. tt) (λ t. choose (loneDash (unspaced part)) Dash _ (λ u. tt) (λ u. spelled-small (unspaced part)))

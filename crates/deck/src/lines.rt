@@ -7,6 +7,9 @@ ghost use lib.Dec.{eqb};
 ghost use lib.ListN.{length, drop};
 ghost use Rattle.deck.specs.Kinds.{kindOf, maxReceptors, kindOrder, befores, among, C1, R1, EN};
 ghost use Rattle.deck.specs.Conditions.{first, badBytes, badKind, begins, idOf, wrongId, badId, lineConditionsAfter};
+ghost use Rattle.slots.specs.Slots.{fieldsPerLine};
+ghost use Rattle.deck.specs.Cases.{tabulate};
+ghost use Rattle.deck.specs.Inner.{packedIn};
 use crate::MAX_CHEMICALS;
 use crate::MAX_RECEPTORS;
 use crate::MAX_STAGES;
@@ -172,7 +175,7 @@ fn bad_id(seen: Seen, kind: u32, id: u32, line: &[u8]) -> bool
     wrong_id(seen, kind, id)
 }
 
-// The conditions of line n, of this kind and id.
+// The conditions of line n, of this kind and id. Where none holds, the values of its fields are kept.
 pub(crate) fn line_status(
     sort: Sort,
     line: &[u8],
@@ -180,10 +183,12 @@ pub(crate) fn line_status(
     seen: Seen,
     kind: u32,
     id: u32,
+    values: &mut [u64],
 ) -> Status
-    requires { ⌜ length (now line) ≡ 81 ⌝ }
+    requires { ⌜ (length (now line) ≡ 81) × (length (now values) ≡ 6) ⌝ }
     requires { ⌜ (kind ≡ kindOf (now line)) × (id ≡ idOf (now line)) ⌝ }
     ensures { λ r. ⌜ r ≡ first (lineConditionsAfter sort (seen .kind) (seen .id) (seen .chemicals) (seen .receptors) (now (line .entry)) n) ⌝ }
+    ensures { λ r. ⌜ (r ≡ Status.Read → now (values .exit) ≡ tabulate fieldsPerLine (packedIn (now (line .entry)))) ⌝ }
 {
     if bad_bytes(line) {
         return Status::Stopped(12, n, 0);
@@ -194,7 +199,7 @@ pub(crate) fn line_status(
     if bad_id(seen, kind, id, line) {
         return Status::Stopped(22, n, 0);
     }
-    fields_status(sort, line, kind, n)
+    fields_status(sort, line, kind, n, values)
 }
 
 impl Seen {

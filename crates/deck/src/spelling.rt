@@ -45,7 +45,7 @@ fn digits_value(from: u64, s: &[u8]) -> u64
 }
 
 // up - down.
-fn difference(up: u32, down: u32) -> i32
+pub(crate) fn difference(up: u32, down: u32) -> i32
     requires { ⌜ (up < 1000) × (down < 1000) ⌝ }
     ensures { λ r. ⌜ r ≡ subℕ up down ⌝ }
 {
