@@ -1,13 +1,13 @@
 -- Laws of `leading`, the number of bytes at the front that lie in a range: one for each turn and each end of the loop that counts them.
 -- Assumes nothing.
-use Prim.Native.Nat.{ℕ, suc, _+_, _≤_, _<_}
+use Prim.Native.Nat.{ℕ, zero, suc, _+_, _≤_, _<_}
 use native.Mathlib.Numerals.{add-one}
 use native.Mathlib.Omega.{arith}
 use mathlib.Core.Path.{_≡_, refl, ap, _∙_}
 use mathlib.Core.Bool.{Bool, true, false, cond, _&&_}
-use mathlib.Core.List.{List}
+use mathlib.Core.List.{List, [], _∷_}
 use borrow.Author.Tests.{le-leb, lt-leb}
-use lib.ListN.{length, drop, getD, drop-of-length-le}
+use lib.ListN.{length, take, drop, getD, drop-of-length-le}
 use lib.Seq.{drop-cons}
 use Rattle.deck.specs.Parts.{within, leading}
 
@@ -48,3 +48,22 @@ module _ (lo hi : ℕ) (s : List ℕ) where
   whole i h e =
       let none : leading lo hi (drop i s) ≡ 0 = ap (leading lo hi) (drop-of-length-le s h) in
       omega (arith, none)
+
+-- ---- among the first bytes only
+module _ (lo hi : ℕ) where
+  front-cons : (t : Bool) (a b m : ℕ) → (a ≤ b) × (a < m → a ≡ b) → (cond t (suc a) 0 ≤ cond t (suc b) 0) × (cond t (suc a) 0 < suc m → cond t (suc a) 0 ≡ cond t (suc b) 0)
+  front-cons true a b m h = (omega arith, λ l. ap suc (h .1 (omega arith)))
+  front-cons false a b m h = (omega arith, λ l. refl)
+
+  front-facts : (m : ℕ) (s : List ℕ) → (leading lo hi (take m s) ≤ leading lo hi s) × (leading lo hi (take m s) < m → leading lo hi (take m s) ≡ leading lo hi s)
+  unfolding leading
+  front-facts zero s = (omega arith, λ l. absurd (omega arith))
+  front-facts (suc m) [] = (omega arith, λ l. refl)
+  front-facts (suc m) (b ∷ bs) = front-cons (within lo hi b) (leading lo hi (take m bs)) (leading lo hi bs) m (front-facts m bs)
+
+  pub front-le : (m : ℕ) (s : List ℕ) → leading lo hi (take m s) ≤ leading lo hi s
+  front-le m s = front-facts m s .0
+
+  -- where fewer than all of them count, the rest adds nothing
+  pub front-all : (m : ℕ) (s : List ℕ) → leading lo hi (take m s) < m → leading lo hi (take m s) ≡ leading lo hi s
+  front-all m s = front-facts m s .1
