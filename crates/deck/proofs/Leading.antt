@@ -67,3 +67,25 @@ module _ (lo hi : ℕ) where
   -- where fewer than all of them count, the rest adds nothing
   pub front-all : (m : ℕ) (s : List ℕ) → leading lo hi (take m s) < m → leading lo hi (take m s) ≡ leading lo hi s
   front-all m s = front-facts m s .1
+
+-- ---- one byte more, where those before it count
+module _ (lo hi : ℕ) where
+  on-cons : (t : Bool) (n i : ℕ) → suc i ≤ cond t (suc n) 0 → (i ≤ n → i + 1 ≤ n) → suc i + 1 ≤ cond t (suc n) 0
+  on-cons true n i h next = omega (arith, next (omega arith))
+  on-cons false n i h next = absurd (omega arith)
+
+  pub leads-on : (s : List ℕ) (i : ℕ) → i < length s → i ≤ leading lo hi s → within lo hi (getD s i 0) ≡ true → i + 1 ≤ leading lo hi s
+  unfolding leading
+  leads-on [] i l h e = absurd (omega arith)
+  leads-on (b ∷ bs) zero l h e = simp e (omega arith)
+  leads-on (b ∷ bs) (suc i) l h e = on-cons (within lo hi b) (leading lo hi bs) i h (λ g. leads-on bs i (omega arith) g e)
+
+  off-cons : (t : Bool) (n i : ℕ) → suc i ≤ cond t (suc n) 0 → (i ≤ n → n ≤ i) → cond t (suc n) 0 ≤ suc i
+  off-cons true n i h next = omega (arith, next (omega arith))
+  off-cons false n i h next = omega arith
+
+  pub leads-off : (s : List ℕ) (i : ℕ) → i < length s → i ≤ leading lo hi s → within lo hi (getD s i 0) ≡ false → leading lo hi s ≤ i
+  unfolding leading
+  leads-off [] i l h e = absurd (omega arith)
+  leads-off (b ∷ bs) zero l h e = simp e (omega arith)
+  leads-off (b ∷ bs) (suc i) l h e = off-cons (within lo hi b) (leading lo hi bs) i h (λ g. leads-off bs i (omega arith) g e)

@@ -1,11 +1,13 @@
--- For the contracts of this crate's inner functions only: the values of a deck's fields as they are kept while it is scanned, each as one number.
+-- For the contracts of this crate's inner functions only: what is counted of a line's bytes, and the values of a deck's fields as they are kept
+-- while it is scanned, each as one number.
 -- Assumes nothing.
-use Prim.Native.Nat.{ℕ, _+_, _*_, _-_, _/_, _%_}
+use mathlib.Core.Path.{_≡_}
+use Prim.Native.Nat.{ℕ, _+_, _*_, _-_, _/_, _%_, _≤_, _<_}
 use mathlib.Core.Bool.{cond}
 use mathlib.Core.List.{List}
 use lib.Dec.{eqb}
 use lib.IntN.{ℤ, subℕ}
-use Rattle.deck.specs.Parts.{fieldIn, fieldOf}
+use Rattle.deck.specs.Parts.{leading, fieldIn, fieldOf}
 use Rattle.deck.specs.Numbers.{wordOf}
 use Rattle.deck.specs.Kinds.{maxChemicals, mostReceptors, siteLines, recordLines}
 use Rattle.deck.specs.Ranges.{above, below}
@@ -16,6 +18,12 @@ use Rattle.deck.specs.declared.Word.{Word}
 use Rattle.deck.specs.declared.Word.the-variants.{Blank, Dash, Number, Other}
 use Rattle.deck.specs.declared.Value.{Value}
 use Rattle.deck.specs.declared.Value.the-variants.{Absent, Printed}
+
+-- of the first n bytes of a line, count print: all of them, or one of them does not
+pub record Printable (line : List ℕ) (n count : ℕ) : Type 0 where
+  pub few : count ≤ n
+  pub all : count ≡ n → n ≤ leading 32 126 line
+  pub some : count < n → leading 32 126 line < n
 
 -- a word that is a number is one that a field may spell
 abbrev pub Small : Word → Type 0
