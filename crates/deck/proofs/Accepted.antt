@@ -10,7 +10,7 @@ use mathlib.Core.List.{List, [], _∷_, _++_}
 use borrow.Author.Tests.{eqb-false, eqb-true, leb-true, ltb-true, not-false}
 use lib.Dec.{leb, ltb, eqb, lit<}
 use lib.IntN.{ℤ, pos, negsuc, subℕ}
-use lib.ListN.{length, getD, take, drop, replicate, List·getD-append}
+use lib.ListN.{length, getD, take, drop, replicate, length-take, List·getD-append}
 use lib.Seq.{getD-at}
 use Rattle.deck.specs.Parts.{leading, linesOf, lineOf, fieldIn, fieldOf}
 use Rattle.deck.specs.Numbers.{digitsValue, unspaced, exponentSpelled, powerOf, digitsRead, maxDigits, endedOf, pointedOf, spelledOf, loneDash, wordOf}
@@ -24,6 +24,7 @@ use Rattle.slots.proofs.Laws.{places, place-rule, inside}
 use Rattle.deck.specs.Conditions.{at, first, upTo, fieldConditions, fieldAt, misspelled, misplaced, outOfRange, countOf, conditions}
 use Rattle.deck.specs.Cases.{tabulate, valueOf, noSlot, slotSpelled, noRecord, recordOf, recordsOf, caseWith, caseOf, valueAt, chemicalAt, receptorAt, ownersRecord, printed}
 use Rattle.deck.specs.Ranged.{Spelled, Fits, Ranged}
+use Rattle.deck.specs.Inner.{Small}
 use Rattle.slots.specs.declared.Rule.{Rule}
 use Rattle.deck.specs.declared.Filled.{Filled}
 use Rattle.deck.specs.declared.Record.{Record}
@@ -33,18 +34,12 @@ use Rattle.deck.specs.declared.Word.{Word}
 use Rattle.deck.specs.declared.Word.the-variants.{Blank, Dash, Number, Other}
 use Rattle.deck.specs.declared.Status.the-variants.{Read}
 use Rattle.deck.proofs.Digits.{both, leading-take, digits-value-append, digits-value-below}
-use Rattle.deck.proofs.Words.{digits-next, exponent-small, tail-part}
+use Rattle.deck.proofs.Words.{digits-room, exponent-four, exponent-small}
 use Rattle.deck.proofs.Scan.{first-read}
 use Rattle.deck.proofs.CaseLaws.{length-tabulate}
 use Rattle.deck.proofs.Places.{upTo-each, line-facts, counts, lines-are, kind-site, kind-chemical, kind-receptor}
 
 -- ---- every word that is a number is one that a field may spell
-abbrev Small : Word → Type 0
-Small Blank = Unit {0}
-Small Dash = Unit {0}
-Small (Number digits power) = Spelled digits power
-Small Other = Unit {0}
-
 choose : (t : Bool) (v w : Word) → (t ≡ true → Small v) → (t ≡ false → Small w) → Small (cond t v w)
 choose true v w p q = p refl
 choose false v w p q = q refl
@@ -63,8 +58,7 @@ exponent-at-most : (tail : List ℕ) (t : Bool) → exponentSpelled tail ≡ tru
 unfolding digitsValue
 exponent-at-most [] t s e = omega arith
 exponent-at-most (x ∷ xs) t s e =
-    let l = exponent-small (x ∷ xs) s (λ z. omega arith) (digitsValue 0 (drop 2 (x ∷ xs))) (ap (digitsValue 0) (sym (tail-part (x ∷ xs) 2))) in
-    omega arith
+    omega (arith, exponent-small (x ∷ xs) s (exponent-four (x ∷ xs) s (λ z. omega arith)))
 
 power-small : (t : Bool) (tail : List ℕ) (places : ℕ) → exponentSpelled tail ≡ true → places ≤ maxDigits
     → (above (cond t (subℕ 0 (places + digitsValue 0 (drop 2 tail))) (subℕ (digitsValue 0 (drop 2 tail)) places)) ≤ 99)
@@ -85,9 +79,7 @@ module _ (text : List ℕ) (whole places : ℕ) (before : leading 48 57 (take wh
   digits-small few =
       let n = digitsValue 0 (take whole text) in
       let rest = take places (drop (whole + 1) text) in
-      let cut : whole + 1 + places - (whole + 1) ≡ places = omega arith in
-      let room : (n + 1) * 10 ^ length rest ≤ 1000000000000 =
-      subst (λ (k : ℕ). (n + 1) * 10 ^ length (take k (drop (whole + 1) text)) ≤ 1000000000000) cut (digits-next text whole places before few after n refl .1) in
+      let room = digits-room (take whole text) before n refl (length rest) maxDigits (omega (arith, length-take whole text, length-take places (drop (whole + 1) text))) in
       omega (arith, digits-value-append 0 (take whole text) rest, digits-value-below rest after n (n + 1) (le-refl (n + 1)), room)
 
   ended-small : (end : ℕ) → Small (endedOf text whole places end)
@@ -115,7 +107,7 @@ spelled-small text =
     choose (eqb whole 0) Other _ (λ t. tt)
     (λ t. choose (eqb (getD text whole 0) 46) _ _ (λ u. pointed-small text whole b) (λ u. ended-small text whole 0 b refl whole))
 
-word-small : (part : List ℕ) → Small (wordOf part)
+pub word-small : (part : List ℕ) → Small (wordOf part)
 unfolding wordOf
 word-small part =
     choose (eqb (length (unspaced part)) 0) Blank _ (λ t. tt) (λ t. choose (loneDash (unspaced part)) Dash _ (λ u. tt) (λ u. spelled-small (unspaced part)))

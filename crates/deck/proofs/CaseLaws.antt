@@ -1,23 +1,18 @@
 -- Laws of the case that is read off a deck by position: lines and fields that the deck lacks, and arrays that a loop fills.
 -- Assumes nothing.
-use Prim.Native.Nat.{ℕ, zero, suc, _+_, _*_, _-_, _/_, _%_, _≤_, _<_}
+use Prim.Native.Nat.{ℕ, zero, suc, _+_, _*_, _-_, _/_, _≤_, _<_}
 use native.Mathlib.Nat.{le-antisymm}
 use native.Mathlib.Numerals.{add-one}
 use native.Mathlib.Omega.{arith}
 use mathlib.Core.Path.{_≡_, refl, sym, ap, _∙_}
 use mathlib.Core.Bool.{Bool, true, false, cond}
 use mathlib.Core.List.{List, [], _∷_, _++_}
-use lib.IntN.{ℤ}
 use lib.ListN.{length, take, drop, set, replicate, length-append, length-take, length-drop, drop-of-length-le}
 use lib.Seq.{set-at, append-snoc}
 use Rattle.deck.specs.Parts.{within, leading, linesOf, lineOf, fieldIn, fieldOf}
-use Rattle.deck.specs.Numbers.{idIn, idSpelled, wordOf}
+use Rattle.deck.specs.Numbers.{idIn, idSpelled}
 use Rattle.deck.specs.Conditions.{idOf}
-use Rattle.deck.specs.Cases.{tabulate, valueOf, noSlot, slotSpelled, noRecord, recordOf, recordsOf, caseWith, noCase}
-use Rattle.deck.specs.declared.Word.{Word}
-use Rattle.deck.specs.declared.Word.the-variants.{Number}
-use Rattle.deck.specs.declared.Value.{Value}
-use Rattle.deck.specs.declared.Value.the-variants.{Absent, Printed}
+use Rattle.deck.specs.Cases.{tabulate, noSlot, slotSpelled, noRecord, recordOf, recordsOf, caseWith, noCase}
 use Rattle.deck.specs.declared.Filled.{Filled}
 use Rattle.deck.specs.declared.Record.{Record}
 use Rattle.deck.specs.declared.Case.{Case}
@@ -59,19 +54,6 @@ module _ (deck : List ℕ) (n : ℕ) where
 
   pub id-lacking : (l : List ℕ) → l ≡ lineOf deck n → length l ≡ 0 → 0 ≡ idOf (lineOf deck n)
   id-lacking l e h = sym id-nil ∙ ap idOf (sym (none l h) ∙ e)
-
--- ---- a value
-pub value-none : (w v : Word) → w ≡ v → Absent ≡ valueOf v → Absent ≡ valueOf w
-value-none w v e h = h ∙ sym (ap valueOf e)
-
-pub value-number : (w : Word) (d : ℕ) (p q : ℤ) → w ≡ Number d p → q ≡ p → Printed q d ≡ valueOf w
-unfolding valueOf
-value-number w d p q e h = ap (λ (z : ℤ). Printed z d) h ∙ sym (ap valueOf e)
-
-pub slot-is : (deck part : List ℕ) (n k : ℕ) (w : Word) (v : Value) → v ≡ valueOf w → w ≡ wordOf part
-    → part ≡ fieldOf deck (n + k / 6) (k % 6 + 1) → _≡_ {A = Filled} (record { value = v }) (slotSpelled deck n k)
-unfolding slotSpelled
-slot-is deck part n k w v e f g = ap (λ (x : Value). record { value = x }) (e ∙ ap valueOf (f ∙ ap wordOf g))
 
 -- ---- an array that a loop fills
 module _ {A : Type 0} (f : ℕ → A) (none : A) (room : ℕ) where

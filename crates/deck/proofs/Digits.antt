@@ -1,7 +1,7 @@
--- Laws of digits: each byte that was counted as one is one, the number they spell, and room for those that follow.
+-- Laws of digits: how many are counted, the number they spell, and room for those that follow.
 -- Assumes nothing.
-use Prim.Native.Nat.{ℕ, zero, suc, _+_, _*_, _-_, _^_, _≤_, _<_}
-use native.Mathlib.Nat.{not-suc-le-zero, le-of-suc-le-suc, le-trans, mul-le-mul-left, mul-le-mul-right, mul-comm, mul-assoc, pow-suc, one-le-pow, mul-one, pow-zero}
+use Prim.Native.Nat.{ℕ, suc, _+_, _*_, _-_, _^_, _≤_, _<_}
+use native.Mathlib.Nat.{le-trans, mul-le-mul-left, mul-le-mul-right, mul-comm, mul-assoc, pow-suc, one-le-pow, mul-one, pow-zero}
 use native.Mathlib.Numerals.{add-one}
 use native.Mathlib.Omega.{arith}
 use mathlib.Core.Path.{_≡_, refl, sym, ap, _∙_, subst}
@@ -9,8 +9,8 @@ use mathlib.Core.Bool.{Bool, true, false, cond, _&&_, false≢true}
 use mathlib.Core.List.{List, [], _∷_, _++_}
 use borrow.Author.Tests.{leb-true}
 use lib.Dec.{leb, lit≤}
-use lib.ListN.{length, take, drop, getD, drop-of-length-le}
-use lib.Seq.{drop-cons}
+use lib.ListN.{length, take, getD}
+use lib.Seq.{take-suc}
 use Rattle.deck.specs.Parts.{within, leading}
 use Rattle.deck.specs.Numbers.{digitsValue}
 
@@ -25,20 +25,6 @@ within-bounds lo hi b h =
     (leb-true lo b (p .0), leb-true b hi (p .1))
 
 -- ---- the bytes that `leading` counts
-counted : (t : Bool) (n i : ℕ) → i < cond t (suc n) 0 → t ≡ true
-counted true n i h = refl
-counted false n i h = absurd (not-suc-le-zero h)
-
-rest : (t : Bool) (n i : ℕ) → suc i < cond t (suc n) 0 → i < n
-rest true n i h = le-of-suc-le-suc h
-rest false n i h = absurd (not-suc-le-zero h)
-
-pub in-leading : (lo hi : ℕ) (s : List ℕ) (i : ℕ) → i < leading lo hi s → within lo hi (getD s i 0) ≡ true
-unfolding leading
-in-leading lo hi [] i h = absurd (not-suc-le-zero h)
-in-leading lo hi (b ∷ bs) zero h = counted (within lo hi b) (leading lo hi bs) 0 h
-in-leading lo hi (b ∷ bs) (suc i) h = in-leading lo hi bs i (rest (within lo hi b) (leading lo hi bs) i h)
-
 leading-cons-le : (t : Bool) (n m : ℕ) → n ≤ m → cond t (suc n) 0 ≤ suc m
 leading-cons-le true n m h = omega arith
 leading-cons-le false n m h = omega arith
@@ -61,23 +47,22 @@ unfolding leading
 leading-take lo hi [] = refl
 leading-take lo hi (b ∷ bs) = take-cons lo hi b bs (within lo hi b) refl (leading-take lo hi bs)
 
-pub digit-at : (s : List ℕ) → leading 48 57 s ≡ length s → (i : ℕ) → i < length s → (48 ≤ getD s i 0) × (getD s i 0 ≤ 57)
-digit-at s e i h = within-bounds 48 57 (getD s i 0) (in-leading 48 57 s i (subst (λ (n : ℕ). i < n) (sym e) h))
-
 -- ---- the number that digits spell
-pub digits-value-turn : (s : List ℕ) (from v i : ℕ) → i < length s → digitsValue v (drop i s) ≡ digitsValue from s
-    → digitsValue (v * 10 + (getD s i 0 - 48)) (drop (i + 1) s) ≡ digitsValue from s
-unfolding digitsValue
-digits-value-turn s from v i h e = rw add-one (sym (ap (digitsValue v) (drop-cons s i 0 h)) ∙ e)
-
-pub digits-value-end : (s : List ℕ) (from v i : ℕ) → length s ≤ i → digitsValue v (drop i s) ≡ digitsValue from s → v ≡ digitsValue from s
-unfolding digitsValue
-digits-value-end s from v i h e = sym (ap (digitsValue v) (drop-of-length-le s h)) ∙ e
-
 pub digits-value-append : (n : ℕ) (xs ys : List ℕ) → digitsValue n (xs ++ ys) ≡ digitsValue (digitsValue n xs) ys
 unfolding digitsValue
 digits-value-append n [] ys = refl
 digits-value-append n (x ∷ xs) ys = digits-value-append (n * 10 + (x - 48)) xs ys
+
+-- one digit more
+pub digits-value-turn : (s : List ℕ) (from v i : ℕ) → i < length s → digitsValue from (take i s) ≡ v
+    → digitsValue from (take (i + 1) s) ≡ v * 10 + (getD s i 0 - 48)
+unfolding digitsValue
+digits-value-turn s from v i h e =
+    rw (add-one, take-suc s i 0)
+    (digits-value-append from (take i s) (getD s i 0 ∷ []) ∙ ap (λ (n : ℕ). n * 10 + (getD s i 0 - 48)) e)
+
+pub digits-value-stop : (s : List ℕ) (from v i n : ℕ) → i ≡ n → digitsValue from (take i s) ≡ v → v ≡ digitsValue from (take n s)
+digits-value-stop s from v i n h e = sym e ∙ ap (λ (k : ℕ). digitsValue from (take k s)) h
 
 -- room for k digits more
 pub room-turn : (v d k M : ℕ) → d ≤ 9 → (v + 1) * 10 ^ suc k ≤ M → (v * 10 + d + 1) * 10 ^ k ≤ M

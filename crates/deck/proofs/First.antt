@@ -102,11 +102,11 @@ module _ (rule : Rule) (w : Word) (n f : ℕ) where
 unfoldable pub fieldBy : List Rule → List ℕ → ℕ → ℕ → List Condition
 fieldBy rules line n f = fieldConditions (getD rules (f - 1) unused) (wordOf (fieldIn line f)) n f
 
--- the field that the code reads is the one that the list has
-pub field-turn : (n f : ℕ) (line part : List ℕ) (rules : List Rule) (s : Status) → part ≡ fieldIn line (f + 1)
-    → s ≡ first (fieldConditions (getD rules f unused) (wordOf part) n (f + 1)) → s ≡ first (fieldBy rules line n (f + 1))
+-- the word that the code reads is the one that the list has
+pub field-turn : (n f : ℕ) (line : List ℕ) (w : Word) (rules : List Rule) (s : Status) → w ≡ wordOf (fieldIn line (f + 1))
+    → s ≡ first (fieldConditions (getD rules f unused) w n (f + 1)) → s ≡ first (fieldBy rules line n (f + 1))
 unfolding fieldBy
-field-turn n f line part rules s p e = rw (← p, add-sub-cancel f 1) e
+field-turn n f line w rules s p e = rw (← p, add-sub-cancel f 1) e
 
 pub fields-by : (sort : Sort) (kind n : ℕ) (line : List ℕ) (rules : List Rule) → rules ≡ rulesOf sort kind
     → (k : ℕ) → first (upTo (fieldBy rules line n) k) ≡ first (upTo (fieldAt sort kind line n) k)

@@ -6,6 +6,7 @@ pub mod Exactly
 pub mod First
 pub mod Leading
 pub mod LineLaws
+pub mod Packed
 pub mod Parts
 pub mod Places
 pub mod Ranges

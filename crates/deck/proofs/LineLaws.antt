@@ -1,20 +1,24 @@
 -- Laws of a line's conditions: one for each way out of the functions that test them.
 -- Assumes nothing.
-use Prim.Native.Nat.{ℕ, suc, _+_, _-_, _/_}
+use Prim.Native.Nat.{ℕ, suc, _+_, _-_, _/_, _≤_, _<_}
+use native.Mathlib.Nat.{eq-or-lt-of-le}
 use native.Mathlib.Omega.{arith}
-use mathlib.Core.Path.{_≡_, refl, sym, ap, _∙_}
-use mathlib.Core.Bool.{Bool, true, false, cond, not, or-false}
+use mathlib.Core.Path.{_≡_, refl, sym, ap, _∙_, subst}
+use mathlib.Core.Logic.{⊎-elim}
+use mathlib.Core.Bool.{Bool, true, false, cond, not, _&&_, or-false}
 use mathlib.Core.List.{List, [], _∷_}
-use borrow.Author.Tests.{eq-eqb, ne-eqb, not-true, not-false}
+use borrow.Author.Tests.{eq-eqb, ne-eqb, eqb-true, not-true, not-false}
 use lib.Dec.{leb, eqb}
 use lib.ListN.{length, getD, take, drop}
-use Rattle.deck.specs.Parts.{leading}
+use Rattle.deck.specs.Parts.{within, leading}
 use Rattle.deck.specs.Kinds.{kindOf, maxReceptors, S1, S2, C1, C2, C3, C4, R1, R2, R3, R4, EN, kindOrder, befores, among}
 use Rattle.slots.specs.Slots.{fieldsPerLine}
 use Rattle.slots.specs.declared.Sort.{Sort}
 use Rattle.deck.specs.Conditions.{first, upTo, fieldAt, badBytes, badKind, begins, idOf, sameLetter, wrongId, badId, lineConditionsAfter}
+use Rattle.deck.specs.Inner.{Printable}
 use Rattle.deck.specs.declared.Status.{Status}
 use Rattle.deck.specs.declared.Status.the-variants.{Stopped}
+use Rattle.deck.proofs.Leading.{and-false, within-low, leads-on, leads-off}
 use Rattle.deck.proofs.Words.{tail-part}
 
 -- ---- one of a few kinds
@@ -41,13 +45,44 @@ follows-none before k a b c d e f g h i j l =
     simp (ne-eqb k S1 a, ne-eqb k S2 b, ne-eqb k C1 c, ne-eqb k C2 d, ne-eqb k C3 e, ne-eqb k C4 f, ne-eqb k R1 g, ne-eqb k R2 h, ne-eqb k R3 i, ne-eqb k R4 j, ne-eqb k EN l)
 
 -- ---- 12
-pub bytes-count : (line : List ℕ) (n : ℕ) → n ≡ leading 32 126 line → (n ≡ 80 → ⊥) → true ≡ badBytes line
-unfolding badBytes
-bytes-count line n e h = simp (ne-eqb (leading 32 126 line) 80 (λ q. h (e ∙ q)))
+module _ (line : List ℕ) where
+  pub printable-none : Printable line 0 0
+  printable-none = record { few = omega arith; all = λ e. omega arith; some = λ l. absurd (omega arith) }
 
-pub bytes-feed : (line : List ℕ) (n : ℕ) → n ≡ leading 32 126 line → n ≡ 80 → not (eqb (getD line 80 0) 10) ≡ badBytes line
-unfolding badBytes
-bytes-feed line n e h = simp (sym e ∙ h)
+  more : (i count : ℕ) → i < length line → Printable line i count → (t : Bool) → within 32 126 (getD line i 0) ≡ t → Printable line (i + 1) (count + cond t 1 0)
+  more i count h p true e = record {
+    few = omega (arith, p .few);
+    all = λ q. leads-on 32 126 line i h (p .all (omega arith)) e;
+    some = λ l. omega (arith, p .some (omega arith));
+  }
+  more i count h p false e = record {
+    few = omega (arith, p .few);
+    all = λ q. absurd (omega (arith, p .few));
+    some = λ l.
+        ⊎-elim
+        (λ q. omega (arith, leads-off 32 126 line i h (p .all q) e))
+        (λ k. omega (arith, p .some k))
+        (eq-or-lt-of-le (p .few));
+  }
+
+  pub printable-more : (i count n : ℕ) → i < length line → Printable line i count → n ≡ cond (within 32 126 (getD line i 0)) 1 0 → Printable line (i + 1) (count + n)
+  printable-more i count n h p e = subst (λ (k : ℕ). Printable line (i + 1) (count + k)) (sym e) (more i count h p (within 32 126 (getD line i 0)) refl)
+
+  module _ (long : length line ≡ 81) (n : ℕ) (p : Printable line 80 n) where
+    pub bytes-count : (n ≡ 80 → ⊥) → true ≡ badBytes line
+    unfolding badBytes
+    bytes-count h = simp (ne-eqb (leading 32 126 line) 80 (λ q. omega (arith, p .few, p .some (omega (arith, p .few)))))
+
+    feed : (t : Bool) → eqb (getD line 80 0) 10 ≡ t → 80 ≤ leading 32 126 line → not t ≡ not (eqb (leading 32 126 line) 80 && t)
+    feed true e h =
+        let b : getD line 80 0 ≡ 10 = eqb-true (getD line 80 0) 10 e in
+        let u : leading 32 126 line ≤ 80 = leads-off 32 126 line 80 (omega arith) h (within-low 32 126 (getD line 80 0) (omega arith)) in
+        simp (eq-eqb (leading 32 126 line) 80 (omega arith))
+    feed false e h = simp and-false
+
+    pub bytes-feed : n ≡ 80 → not (eqb (getD line 80 0) 10) ≡ badBytes line
+    unfolding badBytes
+    bytes-feed h = feed (eqb (getD line 80 0) 10) refl (p .all h)
 
 -- ---- 21
 module _ (sort : Sort) (before kind chemicals receptors : ℕ) (r : Bool) (e : r ≡ among before (befores kindOrder kind)) where

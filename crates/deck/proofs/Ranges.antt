@@ -1,8 +1,7 @@
 -- Laws of the exact comparisons, by multiplying across where the product fits, else by division: from 10 ^ 10 on, against 32 bits, and from 10 ^ 20 on, against 64, a power of ten decides alone.
 -- Assumes nothing.
 use Prim.Native.Nat.{ℕ, suc, _+_, _*_, _-_, _/_, _^_, _≤_, _<_}
-use native.Mathlib.Nat.{le-trans, le-of-lt, lt-of-lt-of-le, lt-of-le-of-lt, mul-one, one-mul, zero-mul, mul-le-mul, mul-le-mul-right, pow-le-pow-right, pow-suc, one-le-pow, le-of-mul-le-mul-right, eq-zero-or-pos, mul-lt-mul-of-pos-right, le-div-iff-mul-le, div-lt-iff-lt-mul}
-use native.Mathlib.Numerals.{add-one}
+use native.Mathlib.Nat.{le-trans, le-of-lt, lt-of-lt-of-le, lt-of-le-of-lt, mul-one, one-mul, zero-mul, mul-le-mul, mul-le-mul-right, pow-le-pow-right, one-le-pow, le-of-mul-le-mul-right, eq-zero-or-pos, mul-lt-mul-of-pos-right, le-div-iff-mul-le, div-lt-iff-lt-mul}
 use native.Mathlib.Omega.{arith}
 use lib.Pow.{pow-add}
 use mathlib.Core.Path.{_≡_, refl, sym, ap, subst, _∙_}
@@ -15,9 +14,6 @@ use mir.Syntax.{w64}
 use mir.Val.{Fits}
 use Rattle.deck.specs.Ranges.{above, below, valueAtMost, valueAtLeast, inRange}
 use Rattle.slots.specs.declared.Rule.{Rule}
-
-pub ten-more : (i v : ℕ) → v ≡ 10 ^ i → v * 10 ≡ 10 ^ (i + 1)
-ten-more i v e = rw add-one (ap (λ (n : ℕ). n * 10) e ∙ sym (pow-suc 10 i))
 
 pub ten-some : (n v : ℕ) → v ≡ 10 ^ n → 0 < v
 ten-some n v e = rw e (one-le-pow n 10 (lit≤ tt))

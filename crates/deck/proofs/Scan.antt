@@ -7,7 +7,7 @@ use native.Mathlib.Omega.{arith}
 use mathlib.Core.Path.{_≡_, refl, sym, ap, _∙_, subst}
 use mathlib.Core.Bool.{Bool, true, false, cond, not, _&&_, _||_, true≢false}
 use mathlib.Core.List.{List, [], _∷_, _++_}
-use borrow.Author.Tests.{eq-eqb, ne-eqb, lt-ltb, le-ltb, leb-false}
+use borrow.Author.Tests.{eq-eqb, ne-eqb, lt-ltb, le-ltb, leb-false, ltb-false}
 use lib.Dec.{leb, ltb, eqb}
 use lib.ListN.{length, take, drop, length-take, length-drop}
 use Rattle.deck.specs.Parts.{leading, within, linesOf, lineOf}
@@ -144,7 +144,7 @@ ending true s = refl
 ending false s = refl
 
 module _ (sort : Sort) (deck : List ℕ) (n kind id chemicals receptors : ℕ) (s : Scanned sort deck n kind id chemicals receptors) (h : length deck / 81 ≤ n) where
-  all : n ≡ linesOf deck
+  pub all : n ≡ linesOf deck
   unfolding linesOf
   all = le-antisymm (s .bound) h
 
@@ -177,6 +177,17 @@ module _ (sort : Sort) (deck : List ℕ) (h : length deck ≡ 0 → ⊥) (m : �
   pub length-rest : length deck ≤ m → not (eqb (length deck % 81) 0) ≡ badLength sort deck
   unfolding badLength
   length-rest k = simp (ne-eqb (length deck) 0 h, ap (λ (x : ℕ). ltb x (length deck)) (sym e) ∙ le-ltb m (length deck) k)
+
+longest : (sort : Sort) → maxLength sort ≤ 8019
+longest Ordinary = omega arith
+longest Composite = omega arith
+
+pub length-held : (sort : Sort) (deck : List ℕ) (b : Bool) → b ≡ badLength sort deck → b ≡ false → length deck ≤ 8019
+unfolding badLength
+length-held sort deck b e h =
+    let none = neither (eqb (length deck) 0 || ltb (maxLength sort) (length deck)) (not (eqb (length deck % 81) 0)) (sym e ∙ h) .0 in
+    let long = ltb-false (maxLength sort) (length deck) (neither (eqb (length deck) 0) (ltb (maxLength sort) (length deck)) none .1) in
+    omega (arith, longest sort)
 
 -- a line that the deck has is not empty
 pub line-some : (deck : List ℕ) (n : ℕ) → n < length deck / 81 → (l : List ℕ) → l ≡ lineOf deck (n + 1) → length l ≡ 0 → ⊥

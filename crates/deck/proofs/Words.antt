@@ -1,23 +1,23 @@
 -- Laws of ids and numbers as they are spelled: one for each way out of the functions that read them.
 -- Assumes nothing.
-use Prim.Native.Nat.{ℕ, _+_, _*_, _-_, _^_, _≤_, _<_}
-use native.Mathlib.Nat.{le-refl, le-trans, one-mul, pow-le-pow-right, mul-le-mul, add-sub-cancel-left}
+use Prim.Native.Nat.{ℕ, suc, _+_, _*_, _-_, _^_, _≤_, _<_}
+use native.Mathlib.Nat.{le-refl, le-trans, one-mul, pow-le-pow-right, mul-le-mul-right}
 use native.Mathlib.Omega.{arith}
 use lib.Pow.{pow-add}
 use mathlib.Core.Path.{_≡_, refl, sym, ap, _∙_, subst}
-use mathlib.Core.Bool.{Bool, true, false, not, _&&_}
-use mathlib.Core.List.{List, [], _∷_, _++_}
+use mathlib.Core.Bool.{Bool, true, false, cond, not, _&&_}
+use mathlib.Core.List.{List, [], _∷_, append-nil}
 use borrow.Author.Tests.{eq-eqb, ne-eqb, eqb-true, le-leb, lt-leb, lt-ltb, le-ltb, not-true, not-false, ltb-true, ltb-false}
 use lib.Dec.{ltb, eqb, lit≤}
 use lib.IntN.{ℤ, subℕ}
 use lib.ListN.{length, take, drop, getD, length-drop, length-take, List·getD-eq-default}
-use lib.Seq.{take-all}
-use Rattle.deck.specs.Parts.{leading}
+use lib.Seq.{take-all, take-take}
+use Rattle.deck.specs.Parts.{within, leading}
 use Rattle.deck.specs.Numbers.{digitsValue, unspaced, idSpelled, idIn, signSpelled, exponentSpelled, powerOf, digitsRead, maxDigits, endedOf, pointedOf, spelledOf, loneDash, wordOf}
 use Rattle.deck.specs.declared.Word.{Word}
 use Rattle.deck.specs.declared.Word.the-variants.{Blank, Dash, Number, Other}
-use Rattle.deck.proofs.Leading.{and-false}
-use Rattle.deck.proofs.Digits.{both, leading-le, leading-take, digits-value-below, digits-value-append}
+use Rattle.deck.proofs.Leading.{and-false, front-le, front-all}
+use Rattle.deck.proofs.Digits.{both, within-bounds, leading-le, leading-take, digits-value-below, digits-value-append}
 
 -- ---- the part from k to the end
 pub tail-part : (s : List ℕ) (k : ℕ) → take (length s - k) (drop k s) ≡ drop k s
@@ -38,6 +38,29 @@ pub sign-minus : (tail : List ℕ) (r q : Bool) → r ≡ eqb (getD tail 1 0) 43
 unfolding signSpelled
 sign-minus tail r q e h f = simp (sym e ∙ h) f
 
+both-digits : (a b : Bool) → eqb (cond a (suc (cond b 1 0)) 0) 2 ≡ (a && b)
+both-digits true true = refl
+both-digits true false = refl
+both-digits false b = refl
+
+two-leading : (tail : List ℕ) → length tail ≡ 4 → leading 48 57 (drop 2 tail) ≡ cond (within 48 57 (getD tail 2 0)) (suc (cond (within 48 57 (getD tail 3 0)) 1 0)) 0
+unfolding leading
+two-leading (a ∷ b ∷ x ∷ y ∷ []) h = refl
+two-leading [] h = absurd (omega arith)
+two-leading (a ∷ []) h = absurd (omega arith)
+two-leading (a ∷ b ∷ []) h = absurd (omega arith)
+two-leading (a ∷ b ∷ x ∷ []) h = absurd (omega arith)
+two-leading (a ∷ b ∷ x ∷ y ∷ z ∷ zs) h = absurd (omega arith)
+
+pub exponent-value : (tail : List ℕ) → length tail ≡ 4 → digitsValue 0 (drop 2 tail) ≡ (getD tail 2 0 - 48) * 10 + (getD tail 3 0 - 48)
+unfolding digitsValue
+exponent-value (a ∷ b ∷ x ∷ y ∷ []) h = omega arith
+exponent-value [] h = absurd (omega arith)
+exponent-value (a ∷ []) h = absurd (omega arith)
+exponent-value (a ∷ b ∷ []) h = absurd (omega arith)
+exponent-value (a ∷ b ∷ x ∷ []) h = absurd (omega arith)
+exponent-value (a ∷ b ∷ x ∷ y ∷ z ∷ zs) h = absurd (omega arith)
+
 module _ (tail : List ℕ) where
   pub exponent-none : length tail ≡ 0 → true ≡ exponentSpelled tail
   unfolding exponentSpelled
@@ -56,41 +79,43 @@ module _ (tail : List ℕ) where
   unfolding exponentSpelled
   exponent-sign h r q e f g k = simp (h, sym e ∙ not-false r f, sym g ∙ not-true q k)
 
-  pub exponent-digits : length tail ≡ 4 → (r q : Bool) → r ≡ eqb (getD tail 0 0) 69 → not r ≡ false → q ≡ signSpelled tail → not q ≡ false
-      → (n : ℕ) → n ≡ leading 48 57 (take (length tail - 2) (drop 2 tail)) → eqb n 2 ≡ exponentSpelled tail
-  unfolding exponentSpelled
-  exponent-digits h r q e f g k n d =
-      simp (h, sym e ∙ not-false r f, sym g ∙ not-false q k) (ap (λ (m : ℕ). eqb m 2) (d ∙ ap (leading 48 57) (tail-part tail 2)))
+  -- the last two bytes of four
+  two-digits : length tail ≡ 4 → eqb (leading 48 57 (drop 2 tail)) 2 ≡ (within 48 57 (getD tail 2 0) && within 48 57 (getD tail 3 0))
+  two-digits h = ap (λ (n : ℕ). eqb n 2) (two-leading tail h) ∙ both-digits (within 48 57 (getD tail 2 0)) (within 48 57 (getD tail 3 0))
 
-  -- what is known of an exponent that is spelled, and not left out
-  spelled-facts : exponentSpelled tail ≡ true → (length tail ≡ 0 → ⊥) → (length tail ≡ 4) × (leading 48 57 (drop 2 tail) ≡ 2)
-  unfolding exponentSpelled
-  spelled-facts s h =
-      let t : (eqb (length tail) 4 && eqb (getD tail 0 0) 69 && signSpelled tail && eqb (leading 48 57 (drop 2 tail)) 2) ≡ true =
-      simp (ne-eqb (length tail) 0 h) at s in
-      let p = both (eqb (length tail) 4 && eqb (getD tail 0 0) 69 && signSpelled tail) (eqb (leading 48 57 (drop 2 tail)) 2) t in
-      let q = both (eqb (length tail) 4 && eqb (getD tail 0 0) 69) (signSpelled tail) (p .0) in
-      let u = both (eqb (length tail) 4) (eqb (getD tail 0 0) 69) (q .0) in
-      (eqb-true (length tail) 4 (u .0), eqb-true (leading 48 57 (drop 2 tail)) 2 (p .1))
+  module _ (h : length tail ≡ 4) (r q : Bool) (e : r ≡ eqb (getD tail 0 0) 69) (f : not r ≡ false) (g : q ≡ signSpelled tail) (k : not q ≡ false) (t : Bool)
+      (d : t ≡ within 48 57 (getD tail 2 0)) where
+    pub exponent-first : not t ≡ true → false ≡ exponentSpelled tail
+    unfolding exponentSpelled
+    exponent-first l = simp (h, sym e ∙ not-false r f, sym g ∙ not-false q k, two-digits h, sym d ∙ not-true t l)
 
-  module _ (s : exponentSpelled tail ≡ true) (h : length tail ≡ 0 → ⊥) where
-    pub exponent-four : length tail ≡ 4
-    exponent-four = spelled-facts s h .0
+    pub exponent-second : not t ≡ false → (u : Bool) → u ≡ within 48 57 (getD tail 3 0) → u ≡ exponentSpelled tail
+    unfolding exponentSpelled
+    exponent-second l u v = simp (h, sym e ∙ not-false r f, sym g ∙ not-false q k, two-digits h, sym d ∙ not-false t l) v
 
-    two : length (drop 2 tail) ≡ 2
-    two = length-drop 2 tail ∙ ap (λ (n : ℕ). n - 2) exponent-four
+  -- what is known of an exponent that is spelled
+  module _ (s : exponentSpelled tail ≡ true) where
+    spelled-facts : (length tail ≡ 0 → ⊥) → (length tail ≡ 4) × (eqb (leading 48 57 (drop 2 tail)) 2 ≡ true)
+    unfolding exponentSpelled
+    spelled-facts h =
+        let t : (eqb (length tail) 4 && eqb (getD tail 0 0) 69 && signSpelled tail && eqb (leading 48 57 (drop 2 tail)) 2) ≡ true =
+        simp (ne-eqb (length tail) 0 h) at s in
+        let p = both (eqb (length tail) 4 && eqb (getD tail 0 0) 69 && signSpelled tail) (eqb (leading 48 57 (drop 2 tail)) 2) t in
+        let q = both (eqb (length tail) 4 && eqb (getD tail 0 0) 69) (signSpelled tail) (p .0) in
+        let u = both (eqb (length tail) 4) (eqb (getD tail 0 0) 69) (q .0) in
+        (eqb-true (length tail) 4 (u .0), p .1)
 
-    pub exponent-ask : (leading 48 57 (take (length tail - 2) (drop 2 tail)) ≡ length (take (length tail - 2) (drop 2 tail)))
-        × ((0 + 1) * 10 ^ length (take (length tail - 2) (drop 2 tail)) ≤ 1000000000000)
-    exponent-ask =
-        rw (tail-part tail 2) (spelled-facts s h .1 ∙ sym two, subst (λ (n : ℕ). (0 + 1) * 10 ^ n ≤ 1000000000000) (sym two) (lit≤ tt))
+    pub exponent-four : (length tail ≡ 0 → ⊥) → length tail ≡ 4
+    exponent-four h = spelled-facts h .0
 
-    pub exponent-small : (n : ℕ) → n ≡ digitsValue 0 (take (length tail - 2) (drop 2 tail)) → n < 100
-    exponent-small n e =
-        let b : digitsValue 0 (drop 2 tail) + 1 ≤ 1 * 10 ^ length (drop 2 tail) = digits-value-below (drop 2 tail) (spelled-facts s h .1 ∙ sym two) 0 1 (lit≤ tt) in
-        let l : 1 * 10 ^ length (drop 2 tail) ≡ 100 = ap (λ (n : ℕ). 1 * 10 ^ n) two in
-        let q : n ≡ digitsValue 0 (drop 2 tail) = e ∙ ap (digitsValue 0) (tail-part tail 2) in
-        omega arith
+    module _ (h : length tail ≡ 4) where
+      pub exponent-bytes : ((48 ≤ getD tail 2 0) × (getD tail 2 0 ≤ 57)) × ((48 ≤ getD tail 3 0) × (getD tail 3 0 ≤ 57))
+      exponent-bytes =
+          let b = both (within 48 57 (getD tail 2 0)) (within 48 57 (getD tail 3 0)) (sym (two-digits h) ∙ spelled-facts (λ z. omega arith) .1) in
+          (within-bounds 48 57 (getD tail 2 0) (b .0), within-bounds 48 57 (getD tail 3 0) (b .1))
+
+      pub exponent-small : digitsValue 0 (drop 2 tail) < 100
+      exponent-small = omega (arith, exponent-value tail h, exponent-bytes)
 
 getD-none : (s : List ℕ) (i : ℕ) → length s ≡ 0 → getD s i 0 ≡ 0
 getD-none s i h = List·getD-eq-default s 0 (omega arith)
@@ -105,15 +130,14 @@ module _ (tail : List ℕ) (places : ℕ) where
   unfolding powerOf
   power-plain h = simp (getD-none tail 1 h, drop-none tail 0 h)
 
-  pub power-minus : (r : Bool) → r ≡ eqb (getD tail 1 0) 45 → r ≡ true → (n : ℕ) → n ≡ digitsValue 0 (take (length tail - 2) (drop 2 tail))
-      → subℕ 0 (places + n) ≡ powerOf tail places
-  unfolding powerOf
-  power-minus r e h n d = simp (sym e ∙ h) (ap (λ (m : ℕ). subℕ 0 (places + m)) (d ∙ ap (digitsValue 0) (tail-part tail 2)))
+  module _ (r : Bool) (e : r ≡ eqb (getD tail 1 0) 45) (n : ℕ) (d : n ≡ digitsValue 0 (drop 2 tail)) where
+    pub power-minus : r ≡ true → subℕ 0 (places + n) ≡ powerOf tail places
+    unfolding powerOf
+    power-minus h = simp (sym e ∙ h) (ap (λ (m : ℕ). subℕ 0 (places + m)) d)
 
-  pub power-plus : (r : Bool) → r ≡ eqb (getD tail 1 0) 45 → r ≡ false → (n : ℕ) → n ≡ digitsValue 0 (take (length tail - 2) (drop 2 tail))
-      → subℕ n places ≡ powerOf tail places
-  unfolding powerOf
-  power-plus r e h n d = simp (sym e ∙ h) (ap (λ (m : ℕ). subℕ m places) (d ∙ ap (digitsValue 0) (tail-part tail 2)))
+    pub power-plus : r ≡ false → subℕ n places ≡ powerOf tail places
+    unfolding powerOf
+    power-plus h = simp (sym e ∙ h) (ap (λ (m : ℕ). subℕ m places) d)
 
 -- ---- a lone -
 pub dash-length : (text : List ℕ) → (length text ≡ 1 → ⊥) → false ≡ loneDash text
@@ -128,103 +152,127 @@ dash-byte text h r e = simp h e
 pub tens : (n k : ℕ) → n ≤ k → 10 ^ n ≤ 10 ^ k
 tens n k h = pow-le-pow-right (lit≤ tt) h
 
-append-none : (xs : List ℕ) → xs ++ [] ≡ xs
-append-none [] = refl
-append-none (x ∷ xs) = ap (λ (l : List ℕ). x ∷ l) (append-none xs)
-
 take-short : (n : ℕ) (s : List ℕ) → length (take n s) ≤ n
 take-short n s = omega (arith, length-take n s)
 
-module _ (text : List ℕ) (whole places : ℕ) (before : leading 48 57 (take whole text) ≡ length (take whole text)) (few : whole + places ≤ maxDigits) where
-  whole-part : List ℕ
-  whole-part = take whole text
+-- room for k digits more
+pub digits-room : (s : List ℕ) → leading 48 57 s ≡ length s → (n : ℕ) → n ≡ digitsValue 0 s → (k m : ℕ) → length s + k ≤ m → (n + 1) * 10 ^ k ≤ 10 ^ m
+digits-room s d n e k m h =
+    let b : digitsValue 0 s + 1 ≤ 1 * 10 ^ length s = digits-value-below s d 0 1 (lit≤ tt) in
+    let p : n + 1 ≤ 10 ^ length s = omega (arith, one-mul (10 ^ length s)) in
+    le-trans (mul-le-mul-right (10 ^ k) p) (subst (λ (x : ℕ). x ≤ 10 ^ m) (pow-add 10 (length s) k) (tens (length s + k) m h))
 
-  pub digits-first : (leading 48 57 (take whole text) ≡ length (take whole text)) × ((0 + 1) * 10 ^ length (take whole text) ≤ 1000000000000)
-  digits-first =
-      (before, subst (λ (n : ℕ). n ≤ 1000000000000) (sym (one-mul (10 ^ length (take whole text)))) (tens (length (take whole text)) maxDigits (omega (arith, take-short whole text))))
-
-  pub digits-next : leading 48 57 (take places (drop (whole + 1) text)) ≡ length (take places (drop (whole + 1) text))
-      → (n : ℕ) → n ≡ digitsValue 0 (take whole text)
-      → (leading 48 57 (take (whole + 1 + places - (whole + 1)) (drop (whole + 1) text)) ≡ length (take (whole + 1 + places - (whole + 1)) (drop (whole + 1) text)))
-      × ((n + 1) * 10 ^ length (take (whole + 1 + places - (whole + 1)) (drop (whole + 1) text)) ≤ 1000000000000)
-  digits-next after n e =
-      let b : digitsValue 0 (take whole text) + 1 ≤ 1 * 10 ^ length (take whole text) = digits-value-below (take whole text) before 0 1 (lit≤ tt) in
-      let w : 10 ^ length (take whole text) ≤ 10 ^ whole = pow-le-pow-right (lit≤ tt) (take-short whole text) in
-      let p : 10 ^ length (take places (drop (whole + 1) text)) ≤ 10 ^ places = pow-le-pow-right (lit≤ tt) (take-short places (drop (whole + 1) text)) in
-      let s : n + 1 ≤ 10 ^ whole = omega (arith, one-mul (10 ^ length (take whole text))) in
-      let t : (n + 1) * 10 ^ length (take places (drop (whole + 1) text)) ≤ 1000000000000 =
-      le-trans (mul-le-mul s p) (subst (λ (m : ℕ). m ≤ 1000000000000) (pow-add 10 whole places) (tens (whole + places) maxDigits few)) in
-      rw (add-sub-cancel-left (whole + 1) places) (after, t)
-
-pub digits-whole : (text : List ℕ) (whole places n : ℕ) → places ≡ 0 → n ≡ digitsValue 0 (take whole text) → n ≡ digitsRead text whole places
-unfolding digitsRead
-digits-whole text whole places n z e = rw z (e ∙ ap (digitsValue 0) (sym (append-none (take whole text))))
-
-pub digits-both : (text : List ℕ) (whole places n r : ℕ) → n ≡ digitsValue 0 (take whole text)
-    → r ≡ digitsValue n (take (whole + 1 + places - (whole + 1)) (drop (whole + 1) text)) → r ≡ digitsRead text whole places
-unfolding digitsRead
-digits-both text whole places n r e f =
-    f
-    ∙ ap (λ (k : ℕ). digitsValue n (take k (drop (whole + 1) text))) (add-sub-cancel-left (whole + 1) places)
-    ∙ ap (λ (k : ℕ). digitsValue k (take places (drop (whole + 1) text))) e
-    ∙ sym (digits-value-append 0 (take whole text) (take places (drop (whole + 1) text)))
+-- the first digits of a number, of which one more than it may have are looked at
+pub first-room : (text : List ℕ) → (0 + 1) * 10 ^ length (take 13 text) ≤ 10000000000000
+first-room text = rw one-mul (tens (length (take 13 text)) 13 (take-short 13 text))
 
 -- ---- a number
+module _ (text : List ℕ) (digits places end : ℕ) (r : Bool) (e : r ≡ exponentSpelled (take (length text - end) (drop end text))) where
+  exponent-is : r ≡ exponentSpelled (drop end text)
+  exponent-is = e ∙ ap exponentSpelled (tail-part text end)
+
+  abbrev Ended : Word
+  Ended = cond (exponentSpelled (drop end text)) (Number digits (powerOf (drop end text) places)) Other
+
+  pub ended-tail : not r ≡ true → Other ≡ Ended
+  ended-tail h = simp (sym exponent-is ∙ not-true r h)
+
+  pub ended-spelled : not r ≡ false → exponentSpelled (take (length text - end) (drop end text)) ≡ true
+  ended-spelled h = sym e ∙ not-false r h
+
+  pub ended-number : not r ≡ false → (p : ℤ) → p ≡ powerOf (take (length text - end) (drop end text)) places → Number digits p ≡ Ended
+  ended-number h p g =
+      simp (sym exponent-is ∙ not-false r h) (ap (Number digits) (g ∙ ap (λ (t : List ℕ). powerOf t places) (tail-part text end)))
+
 module _ (text : List ℕ) (whole places end : ℕ) where
-  pub ended-long : maxDigits < whole + places → Other ≡ endedOf text whole places end
+  ended-long : maxDigits < whole + places → endedOf text whole places end ≡ Other
   unfolding endedOf
   ended-long h = simp (lt-leb (whole + places) maxDigits h)
 
-  module _ (r : Bool) (e : r ≡ exponentSpelled (take (length text - end) (drop end text))) where
-    exponent-is : r ≡ exponentSpelled (drop end text)
-    exponent-is = e ∙ ap exponentSpelled (tail-part text end)
+  ended-few : whole + places ≤ maxDigits → (d : ℕ) → d ≡ digitsRead text whole places → (r : Word)
+      → r ≡ cond (exponentSpelled (drop end text)) (Number d (powerOf (drop end text) places)) Other → r ≡ endedOf text whole places end
+  unfolding endedOf
+  ended-few few d f r g =
+      simp (le-leb (whole + places) maxDigits few) (g ∙ ap (λ (n : ℕ). cond (exponentSpelled (drop end text)) (Number n (powerOf (drop end text) places)) Other) f)
 
-    pub ended-tail : not r ≡ true → Other ≡ endedOf text whole places end
-    unfolding endedOf
-    ended-tail h = simp (sym exponent-is ∙ not-true r h, and-false)
+either-other : (t : Bool) → Other ≡ cond t Other Other
+either-other true = refl
+either-other false = refl
 
-    pub ended-spelled : not r ≡ false → exponentSpelled (take (length text - end) (drop end text)) ≡ true
-    ended-spelled h = sym e ∙ not-false r h
+-- the digits after the point, of which as many are looked at
+module _ (text : List ℕ) (whole n : ℕ) (w : whole ≡ leading 48 57 text) (v : n ≡ digitsValue 0 (take (leading 48 57 text) text)) (few : whole ≤ maxDigits) where
+  abbrev rest : List ℕ
+  rest = take (length text - (whole + 1)) (drop (whole + 1) text)
 
-    pub ended-number : whole + places ≤ maxDigits → not r ≡ false → (d : ℕ) → d ≡ digitsRead text whole places
-        → (p : ℤ) → p ≡ powerOf (take (length text - end) (drop end text)) places → Number d p ≡ endedOf text whole places end
-    unfolding endedOf
-    ended-number few h d f p g =
-        let q : p ≡ powerOf (drop end text) places = g ∙ ap (λ (t : List ℕ). powerOf t places) (tail-part text end) in
-        simp (le-leb (whole + places) maxDigits few, sym exponent-is ∙ not-false r h) (cc)
+  abbrev looked : List ℕ
+  looked = take (13 - whole) rest
 
-module _ (text : List ℕ) (whole places : ℕ) (e : places ≡ leading 48 57 (take (length text - (whole + 1)) (drop (whole + 1) text))) where
-  places-is : places ≡ leading 48 57 (drop (whole + 1) text)
-  places-is = e ∙ ap (leading 48 57) (tail-part text (whole + 1))
+  rest-is : rest ≡ drop (whole + 1) text
+  rest-is = tail-part text (whole + 1)
 
-  pub pointed-none : places ≡ 0 → Other ≡ pointedOf text whole
-  unfolding pointedOf
-  pointed-none h = simp (sym places-is ∙ h)
+  pub places-room : (n + 1) * 10 ^ length looked ≤ 10000000000000
+  places-room =
+      digits-room (take (leading 48 57 text) text) (leading-take 48 57 text) n v (length looked) 13
+      (omega (arith, take-short (leading 48 57 text) text, take-short (13 - whole) rest))
 
-  pub pointed-ends : places ≤ length text - (whole + 1)
-  pointed-ends = omega (arith, places-is, leading-le 48 57 (drop (whole + 1) text), length-drop (whole + 1) text)
+  module _ (places : ℕ) (e : places ≡ leading 48 57 looked) where
+    seen : places ≤ leading 48 57 (drop (whole + 1) text)
+    seen = subst (λ (l : List ℕ). places ≤ leading 48 57 l) rest-is (subst (λ (k : ℕ). k ≤ leading 48 57 rest) (sym e) (front-le 48 57 (13 - whole) rest))
 
-  pub pointed-after : leading 48 57 (take places (drop (whole + 1) text)) ≡ length (take places (drop (whole + 1) text))
-  pointed-after =
-      subst (λ (n : ℕ). leading 48 57 (take n (drop (whole + 1) text)) ≡ length (take n (drop (whole + 1) text))) (sym places-is)
-      (leading-take 48 57 (drop (whole + 1) text))
+    places-are : places < 13 - whole → places ≡ leading 48 57 (drop (whole + 1) text)
+    places-are h = e ∙ front-all 48 57 (13 - whole) rest (subst (λ (k : ℕ). k < 13 - whole) e h) ∙ ap (leading 48 57) rest-is
 
-  pub pointed-number : (places ≡ 0 → ⊥) → (r : Word) → r ≡ endedOf text whole places (whole + 1 + places) → r ≡ pointedOf text whole
-  unfolding pointedOf
-  pointed-number h r f = rw (← places-is) (simp (ne-eqb places 0 h) f)
+    pub pointed-none : places ≡ 0 → Other ≡ pointedOf text whole
+    unfolding pointedOf
+    pointed-none z = simp (sym (places-are (omega arith)) ∙ z)
 
-pub whole-digits : (text : List ℕ) (whole : ℕ) → whole ≡ leading 48 57 text → leading 48 57 (take whole text) ≡ length (take whole text)
-whole-digits text whole e = subst (λ (n : ℕ). leading 48 57 (take n text) ≡ length (take n text)) (sym e) (leading-take 48 57 text)
+    pub pointed-long : maxDigits < whole + places → Other ≡ pointedOf text whole
+    unfolding pointedOf
+    pointed-long h =
+        let p = leading 48 57 (drop (whole + 1) text) in
+        rw (ended-long text whole p (whole + 1 + p) (omega (arith, seen))) (either-other (eqb p 0))
 
-pub whole-within : (text : List ℕ) (whole : ℕ) → whole ≡ leading 48 57 text → whole ≤ length text
-whole-within text whole e = omega (arith, leading-le 48 57 text)
+    pub pointed-ends : whole < length text → places ≤ length text - (whole + 1)
+    pointed-ends h = omega (arith, seen, leading-le 48 57 (drop (whole + 1) text), length-drop (whole + 1) text)
 
-module _ (text : List ℕ) (whole : ℕ) (e : whole ≡ leading 48 57 text) where
+    pub pointed-number : (places ≡ 0 → ⊥) → whole + places ≤ maxDigits → (d : ℕ) → d ≡ digitsValue n (take (leading 48 57 looked) looked) → (r : Word)
+        → r ≡ cond (exponentSpelled (drop (whole + 1 + places) text)) (Number d (powerOf (drop (whole + 1 + places) text) places)) Other → r ≡ pointedOf text whole
+    unfolding pointedOf digitsRead
+    pointed-number z h d f r g =
+        let after : take (leading 48 57 looked) looked ≡ take places (drop (whole + 1) text) =
+        ap (λ (k : ℕ). take k looked) (sym e) ∙ take-take places (13 - whole) rest (omega arith) ∙ ap (take places) rest-is in
+        let read : d ≡ digitsRead text whole places =
+        f
+        ∙ ap (digitsValue n) after
+        ∙ ap (λ (k : ℕ). digitsValue k (take places (drop (whole + 1) text))) (v ∙ ap (λ (k : ℕ). digitsValue 0 (take k text)) (sym w))
+        ∙ sym (digits-value-append 0 (take whole text) (take places (drop (whole + 1) text))) in
+        rw (← places-are (omega arith)) (simp (ne-eqb places 0 z) (ended-few text whole places (whole + 1 + places) h d read r g))
+
+-- the digits before it
+module _ (text : List ℕ) (whole n : ℕ) (e : whole ≡ leading 48 57 (take 13 text)) (v : n ≡ digitsValue 0 (take (leading 48 57 (take 13 text)) (take 13 text))) where
+  pub whole-is : whole < 13 → whole ≡ leading 48 57 text
+  whole-is h = e ∙ front-all 48 57 13 text (subst (λ (k : ℕ). k < 13) e h)
+
+  pub whole-value : whole < 13 → n ≡ digitsValue 0 (take (leading 48 57 text) text)
+  whole-value h =
+      v
+      ∙ ap (digitsValue 0) (take-take (leading 48 57 (take 13 text)) 13 text (omega (arith, e)))
+      ∙ ap (λ (k : ℕ). digitsValue 0 (take k text)) (sym e ∙ whole-is h)
+
   pub spelled-none : whole ≡ 0 → Other ≡ spelledOf text
   unfolding spelledOf
-  spelled-none h = simp (sym e ∙ h)
+  spelled-none h = simp (sym (whole-is (omega arith)) ∙ h)
 
-  module _ (r : Bool) (f : r ≡ eqb (getD text whole 0) 46) where
+  pub spelled-long : maxDigits < whole → Other ≡ spelledOf text
+  unfolding spelledOf pointedOf
+  spelled-long h =
+      let w = leading 48 57 text in
+      let p = leading 48 57 (drop (w + 1) text) in
+      let many : maxDigits < w = omega (arith, e, front-le 48 57 13 text) in
+      rw (ended-long text w p (w + 1 + p) (omega arith), ended-long text w 0 w (omega arith), ← either-other (eqb p 0), ← either-other (eqb (getD text w 0) 46))
+      (either-other (eqb w 0))
+
+  module _ (few : whole ≤ maxDigits) (z : whole ≡ 0 → ⊥) (r : Bool) (f : r ≡ eqb (getD text whole 0) 46) where
     inside : (t : Bool) → ltb whole (length text) ≡ t → getD text whole 0 ≡ 46 → whole < length text
     inside true l q = ltb-true whole (length text) l
     inside false l q = absurd (let n : getD text whole 0 ≡ 0 = List·getD-eq-default text 0 (ltb-false whole (length text) l) in omega arith)
@@ -234,13 +282,22 @@ module _ (text : List ℕ) (whole : ℕ) (e : whole ≡ leading 48 57 text) wher
         let q : getD text whole 0 ≡ 46 = eqb-true (getD text whole 0) 46 (sym f ∙ h) in
         inside (ltb whole (length text)) refl q
 
-    pub spelled-pointed : (whole ≡ 0 → ⊥) → r ≡ true → (w : Word) → w ≡ pointedOf text whole → w ≡ spelledOf text
+    pub spelled-pointed : r ≡ true → (w : Word) → w ≡ pointedOf text whole → w ≡ spelledOf text
     unfolding spelledOf
-    spelled-pointed z h w g = rw (← e) (simp (ne-eqb whole 0 z, sym f ∙ h) g)
+    spelled-pointed h w g = rw (← whole-is (omega arith)) (simp (ne-eqb whole 0 z, sym f ∙ h) g)
 
-    pub spelled-whole : (whole ≡ 0 → ⊥) → r ≡ false → (w : Word) → w ≡ endedOf text whole 0 whole → w ≡ spelledOf text
-    unfolding spelledOf
-    spelled-whole z h w g = rw (← e) (simp (ne-eqb whole 0 z, sym f ∙ h) g)
+    pub spelled-whole : r ≡ false → (w : Word)
+        → w ≡ cond (exponentSpelled (drop whole text)) (Number n (powerOf (drop whole text) 0)) Other → w ≡ spelledOf text
+    unfolding spelledOf digitsRead
+    spelled-whole h w g =
+        let read : n ≡ digitsRead text whole 0 =
+        whole-value (omega arith)
+        ∙ ap (λ (k : ℕ). digitsValue 0 (take k text)) (sym (whole-is (omega arith)))
+        ∙ ap (digitsValue 0) (sym (append-nil (take whole text))) in
+        rw (← whole-is (omega arith)) (simp (ne-eqb whole 0 z, sym f ∙ h) (ended-few text whole 0 whole (omega arith) n read w g))
+
+pub whole-within : (text : List ℕ) (whole : ℕ) → whole ≡ leading 48 57 text → whole ≤ length text
+whole-within text whole e = omega (arith, leading-le 48 57 text)
 
 -- ---- a part, and an id
 module _ (part : List ℕ) (k : ℕ) (e : k ≡ leading 32 32 part) where
@@ -279,6 +336,11 @@ module _ (part : List ℕ) (k : ℕ) (e : k ≡ leading 32 32 part) where
   unfolding idIn idSpelled
   id-first h = simp (le-ltb 48 (getD (unspaced part) 0 0) (subst (λ (l : List ℕ). getD l 0 0 ≤ 48) text-is h))
 
+  pub id-ask : length part ≤ 9 → (0 + 1) * 10 ^ length (take (length part - k) (drop k part)) ≤ 10000000000000
+  id-ask short =
+      let s = take (length part - k) (drop k part) in
+      rw one-mul (tens (length s) 13 (omega (arith, take-short (length part - k) (drop k part))))
+
   module _ (n : ℕ) (f : n ≡ leading 48 57 (take (length part - k) (drop k part))) where
     pub id-other : (n ≡ length (take (length part - k) (drop k part)) → ⊥) → 0 ≡ idIn part
     unfolding idIn idSpelled
@@ -287,28 +349,24 @@ module _ (part : List ℕ) (k : ℕ) (e : k ≡ leading 32 32 part) where
         subst (λ (l : List ℕ). eqb (leading 48 57 l) (length l) ≡ false) text-is (ne-eqb _ _ (λ w. h (f ∙ w))) in
         simp (q, and-false)
 
-    pub id-ask : length part ≤ 9 → n ≡ length (take (length part - k) (drop k part))
-        → (leading 48 57 (take (length part - k) (drop k part)) ≡ length (take (length part - k) (drop k part)))
-        × ((0 + 1) * 10 ^ length (take (length part - k) (drop k part)) ≤ 1000000000000)
-    id-ask short h = (
-      sym f ∙ h,
-      subst (λ (m : ℕ). m ≤ 1000000000000) (sym (one-mul (10 ^ length (take (length part - k) (drop k part)))))
-          (tens (length (take (length part - k) (drop k part))) maxDigits (omega (arith, take-short (length part - k) (drop k part)))),
-    )
+    module _ (h : n ≡ length (take (length part - k) (drop k part))) (v : ℕ)
+        (g : v ≡ digitsValue 0 (take (leading 48 57 (take (length part - k) (drop k part))) (take (length part - k) (drop k part)))) where
+      all-digits : v ≡ digitsValue 0 (take (length part - k) (drop k part))
+      all-digits =
+          let s = take (length part - k) (drop k part) in
+          g ∙ ap (digitsValue 0) (take-all (leading 48 57 s) s (omega (arith, f)))
 
-    pub id-fits : length part ≤ 9 → n ≡ length (take (length part - k) (drop k part))
-        → (v : ℕ) → v ≡ digitsValue 0 (take (length part - k) (drop k part)) → v < 1000000000
-    id-fits short h v g =
-        let s = take (length part - k) (drop k part) in
-        let b : digitsValue 0 s + 1 ≤ 1 * 10 ^ length s = digits-value-below s (sym f ∙ h) 0 1 (lit≤ tt) in
-        let t : 10 ^ length s ≤ 10 ^ 9 = tens (length s) 9 (omega (arith, take-short (length part - k) (drop k part))) in
-        omega (arith, one-mul (10 ^ length s))
+      pub id-fits : length part ≤ 9 → v < 1000000000
+      id-fits short =
+          let s = take (length part - k) (drop k part) in
+          let b : digitsValue 0 s + 1 ≤ 1 * 10 ^ length s = digits-value-below s (sym f ∙ h) 0 1 (lit≤ tt) in
+          let t : 10 ^ length s ≤ 10 ^ 9 = tens (length s) 9 (omega (arith, take-short (length part - k) (drop k part))) in
+          omega (arith, one-mul (10 ^ length s), all-digits)
 
-    pub id-digits : 48 < getD (take (length part - k) (drop k part)) 0 0 → n ≡ length (take (length part - k) (drop k part))
-        → (v : ℕ) → v ≡ digitsValue 0 (take (length part - k) (drop k part)) → v ≡ idIn part
-    unfolding idIn idSpelled
-    id-digits first h v g =
-        let a : ltb 48 (getD (unspaced part) 0 0) ≡ true = lt-ltb _ _ (subst (λ (l : List ℕ). 48 < getD l 0 0) text-is first) in
-        let b : eqb (leading 48 57 (unspaced part)) (length (unspaced part)) ≡ true =
-        subst (λ (l : List ℕ). eqb (leading 48 57 l) (length l) ≡ true) text-is (eq-eqb _ _ (sym f ∙ h)) in
-        simp (a, b) (g ∙ ap (digitsValue 0) text-is)
+      pub id-digits : 48 < getD (take (length part - k) (drop k part)) 0 0 → v ≡ idIn part
+      unfolding idIn idSpelled
+      id-digits first =
+          let a : ltb 48 (getD (unspaced part) 0 0) ≡ true = lt-ltb _ _ (subst (λ (l : List ℕ). 48 < getD l 0 0) text-is first) in
+          let b : eqb (leading 48 57 (unspaced part)) (length (unspaced part)) ≡ true =
+          subst (λ (l : List ℕ). eqb (leading 48 57 l) (length l) ≡ true) text-is (eq-eqb _ _ (sym f ∙ h)) in
+          simp (a, b) (all-digits ∙ ap (digitsValue 0) text-is)

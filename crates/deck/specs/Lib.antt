@@ -5,3 +5,4 @@ pub mod Ranges
 pub mod Conditions
 pub mod Cases
 pub mod Ranged
+pub mod Inner

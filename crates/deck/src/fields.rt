@@ -2,13 +2,14 @@
 ghost use mathlib.Core.Path.{_≡_};
 ghost use mathlib.Core.Bool.{cond};
 ghost use Prim.Native.Nat.{_+_, _*_, _-_, _^_, _<_, _≤_};
-ghost use lib.ListN.{length, getD};
+ghost use lib.ListN.{length};
 ghost use Rattle.deck.specs.Parts.{fieldIn};
-ghost use Rattle.deck.specs.Numbers.{wordOf};
 ghost use Rattle.deck.specs.Kinds.{rulesOf};
 ghost use Rattle.deck.specs.Ranges.{valueAtMost, valueAtLeast, inRange};
-ghost use Rattle.slots.specs.Slots.{fieldsPerLine, unused};
+ghost use Rattle.slots.specs.Slots.{fieldsPerLine};
 ghost use Rattle.deck.specs.Conditions.{first, upTo, fieldConditions, fieldAt};
+ghost use Rattle.deck.specs.Cases.{tabulate};
+ghost use Rattle.deck.specs.Inner.{packedIn};
 use crate::FIELD_WIDTH;
 use crate::FIELDS_START;
 use crate::Status;
@@ -23,6 +24,7 @@ use crate::lines::R3;
 use crate::lines::R4;
 use crate::lines::S1;
 use crate::lines::S2;
+use crate::packing::packed;
 use crate::spelling::lowered;
 use crate::spelling::raised;
 use crate::spelling::word;
@@ -56,13 +58,28 @@ fn ten_to(n: u32) -> u64
     requires { ⌜ n ≤ 19 ⌝ }
     ensures { λ r. ⌜ r ≡ 10 ^ n ⌝ }
 {
-    let mut power: u64 = 1;
-    let mut i: u32 = 0;
-    while i < n {
-        power = power * 10;
-        i += 1;
+    match n {
+        0 => 1,
+        1 => 10,
+        2 => 100,
+        3 => 1_000,
+        4 => 10_000,
+        5 => 100_000,
+        6 => 1_000_000,
+        7 => 10_000_000,
+        8 => 100_000_000,
+        9 => 1_000_000_000,
+        10 => 10_000_000_000,
+        11 => 100_000_000_000,
+        12 => 1_000_000_000_000,
+        13 => 10_000_000_000_000,
+        14 => 100_000_000_000_000,
+        15 => 1_000_000_000_000_000,
+        16 => 10_000_000_000_000_000,
+        17 => 100_000_000_000_000_000,
+        18 => 1_000_000_000_000_000_000,
+        _ => 10_000_000_000_000_000_000,
     }
-    power
 }
 
 // digits × 10 ^ power is at most `most`, which has at most ten figures; the digits have at most twenty. Where a product may not fit, a power
@@ -131,11 +148,10 @@ pub(crate) fn field_part(line: &[u8], f: usize) -> &[u8]
     &line[at..at + FIELD_WIDTH]
 }
 
-// The conditions of field f of line n.
-fn field_status(rule: Rule, part: &[u8], n: usize, f: usize) -> Status
-    ensures { λ r. ⌜ r ≡ first (fieldConditions rule (wordOf (now (part .entry))) n f) ⌝ }
+// The conditions of field f of line n, which holds this word.
+fn field_status(rule: Rule, w: Word, n: usize, f: usize) -> Status
+    ensures { λ r. ⌜ r ≡ first (fieldConditions rule w n f) ⌝ }
 {
-    let w = word(part);
     match w {
         Word::Other => Status::Stopped(31, n, f),
         Word::Blank => {
@@ -171,21 +187,30 @@ fn range_status(rule: Rule, digits: u64, power: i32, n: usize, f: usize) -> Stat
     Status::Stopped(33, n, f)
 }
 
-// The conditions of the six fields of line n, from the left.
-pub(crate) fn fields_status(sort: Sort, line: &[u8], kind: u32, n: usize) -> Status
-    requires { ⌜ length (now line) ≡ 81 ⌝ }
+// The conditions of the six fields of line n, from the left. Where none holds, their values are kept.
+pub(crate) fn fields_status(
+    sort: Sort,
+    line: &[u8],
+    kind: u32,
+    n: usize,
+    values: &mut [u64],
+) -> Status
+    requires { ⌜ (length (now line) ≡ 81) × (length (now values) ≡ 6) ⌝ }
     ensures { λ r. ⌜ r ≡ first (upTo (fieldAt sort kind (now (line .entry)) n) fieldsPerLine) ⌝ }
+    ensures { λ r. ⌜ (r ≡ Status.Read → now (values .exit) ≡ tabulate fieldsPerLine (packedIn (now (line .entry)))) ⌝ }
 {
     let rules = rules(sort, kind);
     let mut f: usize = 0;
     while f < FIELDS {
         let rule = rules[f];
-        let part = field_part(line, f + 1);
-        let status = field_status(rule, part, n, f + 1);
+        let next = f + 1;
+        let w = word(field_part(line, next));
+        let status = field_status(rule, w, n, next);
         let Status::Read = status else {
             return status;
         };
-        f += 1;
+        values[f] = packed(w);
+        f = next;
     }
     Status::Read
 }

@@ -2,6 +2,7 @@
 // `read` answers the case that a deck spells, or the first condition that stops it.
 mod fields;
 mod lines;
+mod packing;
 mod records;
 mod scanning;
 mod spelling;
@@ -11,6 +12,7 @@ use records::case_with;
 use records::no_case;
 use scanning::bad_length;
 use scanning::scan_lines;
+use slots::FIELDS;
 use slots::SLOTS;
 use slots::Sort;
 pub use spelling::lowered;
@@ -48,6 +50,9 @@ pub const MAX_LENGTH: usize = LINE_WIDTH
 
 pub const MAX_COMPOSITE_LENGTH: usize = LINE_WIDTH
     * (SITE_LINES + RECORD_LINES * (MAX_CHEMICALS + MAX_STAGES) + 1);
+
+// The fields of the longest deck.
+const MAX_VALUES: usize = FIELDS * (MAX_COMPOSITE_LENGTH / LINE_WIDTH);
 
 // Digits of a number before and after its point, zeros counted: as many as the columns of a field hold.
 pub const MAX_DIGITS: usize = FIELD_WIDTH;
@@ -164,12 +169,13 @@ pub fn read(deck: &[u8], sort: Sort) -> Reading
     if bad_length(deck, sort) {
         return stopped(Status::Stopped(11, 0, 0));
     }
-    let scan = scan_lines(deck, sort);
+    let mut values = [0u64; MAX_VALUES];
+    let scan = scan_lines(deck, sort, &mut values);
     let status = scan.status;
     let Status::Read = status else {
         return stopped(status);
     };
-    let case = case_with(deck, scan.chemicals, scan.receptors);
+    let case = case_with(deck, &values, scan.chemicals, scan.receptors);
     Reading { status, case }
 }
 

@@ -2,11 +2,16 @@
 ghost use mathlib.Core.Path.{_≡_};
 ghost use mathlib.Core.Bool.{cond};
 ghost use mathlib.Core.List.{[], _∷_};
-ghost use Prim.Native.Nat.{suc, _+_, _<_, _≤_};
+ghost use Prim.Native.Nat.{suc, _+_, _<_};
 ghost use lib.Dec.{eqb};
-ghost use lib.ListN.{length, drop};
+ghost use lib.ListN.{length};
+ghost use Rattle.deck.specs.Parts.{within};
 ghost use Rattle.deck.specs.Kinds.{kindOf, maxReceptors, kindOrder, befores, among, C1, R1, EN};
 ghost use Rattle.deck.specs.Conditions.{first, badBytes, badKind, begins, idOf, wrongId, badId, lineConditionsAfter};
+ghost use Rattle.slots.specs.Slots.{fieldsPerLine};
+ghost use Rattle.deck.specs.Cases.{tabulate};
+ghost use Rattle.deck.specs.Inner.{Printable, packedIn};
+use crate::LINE_WIDTH;
 use crate::MAX_CHEMICALS;
 use crate::MAX_RECEPTORS;
 use crate::MAX_STAGES;
@@ -41,6 +46,9 @@ pub(crate) const R4: u32 = 0x5234;
 
 pub(crate) const EN: u32 = 0x454e;
 
+// The columns of a line, without its line feed.
+const COLUMNS: usize = LINE_WIDTH - 1;
+
 // What the lines before tell: the kind and id of the last, and how many chemicals and receptors began.
 pub(crate) struct Seen {
     pub(crate) kind: u32,
@@ -73,14 +81,41 @@ pub(crate) fn id_of(line: &[u8]) -> u32
     id_in(&line[2..8])
 }
 
+// 1 where the byte prints, 0 where it does not.
+fn prints(b: u8) -> u8
+    ensures { λ r. ⌜ r ≡ cond (within 32 126 b) 1 0 ⌝ }
+{
+    if b < b' ' {
+        return 0;
+    }
+    if b'~' < b {
+        return 0;
+    }
+    1
+}
+
+// How many of the columns hold a byte that prints. All are counted, for a loop that stops at none takes many bytes at once.
+fn printable(line: &[u8]) -> u8
+    requires { ⌜ length (now line) ≡ 81 ⌝ }
+    ensures { λ r. ⌜ Printable (now (line .entry)) 80 r ⌝ }
+{
+    let mut count: u8 = 0;
+    let mut i: usize = 0;
+    while i < COLUMNS {
+        count += prints(line[i]);
+        i += 1;
+    }
+    count
+}
+
 fn bad_bytes(line: &[u8]) -> bool
     requires { ⌜ length (now line) ≡ 81 ⌝ }
     ensures { λ r. ⌜ r ≡ badBytes (now (line .entry)) ⌝ }
 {
-    if leading_bytes(line, b' ', b'~') != 80 {
+    if printable(line) as usize != COLUMNS {
         return true;
     }
-    line[80] != b'\n'
+    line[COLUMNS] != b'\n'
 }
 
 // The kind may stand after the kind before.
@@ -172,7 +207,7 @@ fn bad_id(seen: Seen, kind: u32, id: u32, line: &[u8]) -> bool
     wrong_id(seen, kind, id)
 }
 
-// The conditions of line n, of this kind and id.
+// The conditions of line n, of this kind and id. Where none holds, the values of its fields are kept.
 pub(crate) fn line_status(
     sort: Sort,
     line: &[u8],
@@ -180,10 +215,12 @@ pub(crate) fn line_status(
     seen: Seen,
     kind: u32,
     id: u32,
+    values: &mut [u64],
 ) -> Status
-    requires { ⌜ length (now line) ≡ 81 ⌝ }
+    requires { ⌜ (length (now line) ≡ 81) × (length (now values) ≡ 6) ⌝ }
     requires { ⌜ (kind ≡ kindOf (now line)) × (id ≡ idOf (now line)) ⌝ }
     ensures { λ r. ⌜ r ≡ first (lineConditionsAfter sort (seen .kind) (seen .id) (seen .chemicals) (seen .receptors) (now (line .entry)) n) ⌝ }
+    ensures { λ r. ⌜ (r ≡ Status.Read → now (values .exit) ≡ tabulate fieldsPerLine (packedIn (now (line .entry)))) ⌝ }
 {
     if bad_bytes(line) {
         return Status::Stopped(12, n, 0);
@@ -194,7 +231,7 @@ pub(crate) fn line_status(
     if bad_id(seen, kind, id, line) {
         return Status::Stopped(22, n, 0);
     }
-    fields_status(sort, line, kind, n)
+    fields_status(sort, line, kind, n, values)
 }
 
 impl Seen {

@@ -1,10 +1,11 @@
-// The case that a deck spells, read off its bytes by position.
+// The case that a deck spells, from the values of its fields by position.
 ghost use mathlib.Core.Path.{_≡_};
-ghost use Prim.Native.Nat.{_<_, _≤_};
+ghost use Prim.Native.Nat.{_≤_};
 ghost use Rattle.deck.specs.Parts.{lineOf};
 ghost use Rattle.deck.specs.Kinds.{maxChemicals, mostReceptors};
 ghost use Rattle.deck.specs.Conditions.{idOf};
-ghost use Rattle.deck.specs.Cases.{valueOf, slotSpelled, recordOf, recordsOf, caseWith, noRecord, noCase, chemicalsStart};
+ghost use Rattle.deck.specs.Inner.{packedFields};
+ghost use Rattle.deck.specs.Cases.{recordOf, recordsOf, caseWith, noRecord, noCase, chemicalsStart};
 use crate::Case;
 use crate::Chemicals;
 use crate::Filled;
@@ -15,37 +16,14 @@ use crate::Receptors;
 use crate::Record;
 use crate::SITE_LINES;
 use crate::Value;
-use crate::Word;
-use crate::field;
 use crate::line;
 use crate::lines::id_of;
-use crate::number;
+use crate::packing::unpacked;
 use slots::FIELDS;
 use slots::SLOTS;
 
 // The line after the site's.
 const CHEMICALS_START: usize = SITE_LINES + 1;
-
-fn value_of(w: Word) -> Value
-    ensures { λ r. ⌜ r ≡ valueOf w ⌝ }
-{
-    match w {
-        Word::Blank => Value::Absent,
-        Word::Dash => Value::Absent,
-        Word::Number { digits, power } => Value::Printed { digits, power },
-        Word::Other => Value::Absent,
-    }
-}
-
-// Slot k, from 0, of the record that begins at line n.
-fn slot_at(deck: &[u8], n: usize, k: usize) -> Filled
-    requires { ⌜ (n < 1000) × (k < 1000) ⌝ }
-    ensures { λ r. ⌜ r ≡ slotSpelled (now (deck .entry)) n k ⌝ }
-{
-    let part = field(deck, n + k / FIELDS, k % FIELDS + 1);
-    let value = value_of(number(part));
-    Filled { value }
-}
 
 fn id_at(deck: &[u8], n: usize) -> u32
     ensures { λ r. ⌜ r ≡ idOf (lineOf (now (deck .entry)) n) ⌝ }
@@ -58,17 +36,20 @@ fn id_at(deck: &[u8], n: usize) -> u32
 }
 
 // The record that begins at line n and has so many lines.
-fn record_at(deck: &[u8], n: usize, lines: usize) -> Record
-    requires { ⌜ (n < 1000) × (lines ≤ 4) ⌝ }
+fn record_at(deck: &[u8], values: &[u64], n: usize, lines: usize) -> Record
+    requires { ⌜ now values ≡ packedFields (now deck) ⌝ }
+    requires { ⌜ ((1 ≤ n) × (n ≤ 96)) × (lines ≤ 4) ⌝ }
     ensures { λ r. ⌜ r ≡ recordOf (now (deck .entry)) n lines ⌝ }
 {
     let mut slots = [Filled {
         value: Value::Absent,
     }; SLOTS];
+    let at = FIELDS * (n - 1);
     let count = lines * FIELDS;
     let mut k: usize = 0;
     while k < count {
-        slots[k] = slot_at(deck, n, k);
+        let value = unpacked(values[at + k]);
+        slots[k] = Filled { value };
         k += 1;
     }
     let id = id_at(deck, n);
@@ -84,7 +65,8 @@ fn no_record() -> Record
     Record { id: 0, slots }
 }
 
-fn chemicals(deck: &[u8], count: usize) -> [Record; MAX_CHEMICALS]
+fn chemicals(deck: &[u8], values: &[u64], count: usize) -> [Record; MAX_CHEMICALS]
+    requires { ⌜ now values ≡ packedFields (now deck) ⌝ }
     requires { ⌜ count ≤ 16 ⌝ }
     ensures { λ r. ⌜ r ≡ recordsOf (now (deck .entry)) chemicalsStart count maxChemicals ⌝ }
 {
@@ -92,35 +74,48 @@ fn chemicals(deck: &[u8], count: usize) -> [Record; MAX_CHEMICALS]
     let mut records = [none; MAX_CHEMICALS];
     let mut i: usize = 0;
     while i < count {
-        records[i] = record_at(deck, CHEMICALS_START + RECORD_LINES * i, RECORD_LINES);
+        records[i] = record_at(
+            deck,
+            values,
+            CHEMICALS_START + RECORD_LINES * i,
+            RECORD_LINES,
+        );
         i += 1;
     }
     records
 }
 
-fn receptors(deck: &[u8], n: usize, count: usize) -> [Record; MAX_STAGES]
-    requires { ⌜ (n < 500) × (count ≤ 8) ⌝ }
+fn receptors(deck: &[u8], values: &[u64], n: usize, count: usize) -> [Record; MAX_STAGES]
+    requires { ⌜ now values ≡ packedFields (now deck) ⌝ }
+    requires { ⌜ ((1 ≤ n) × (n ≤ 67)) × (count ≤ 8) ⌝ }
     ensures { λ r. ⌜ r ≡ recordsOf (now (deck .entry)) n count mostReceptors ⌝ }
 {
     let none = no_record();
     let mut records = [none; MAX_STAGES];
     let mut i: usize = 0;
     while i < count {
-        records[i] = record_at(deck, n + RECORD_LINES * i, RECORD_LINES);
+        records[i] = record_at(deck, values, n + RECORD_LINES * i, RECORD_LINES);
         i += 1;
     }
     records
 }
 
 // The case with so many chemicals and receptors.
-pub(crate) fn case_with(deck: &[u8], chemical_count: usize, receptor_count: usize) -> Case
+pub(crate) fn case_with(
+    deck: &[u8],
+    values: &[u64],
+    chemical_count: usize,
+    receptor_count: usize,
+) -> Case
+    requires { ⌜ now values ≡ packedFields (now deck) ⌝ }
     requires { ⌜ («chemical_count» ≤ 16) × («receptor_count» ≤ 8) ⌝ }
     ensures { λ r. ⌜ r ≡ caseWith (now (deck .entry)) «chemical_count» «receptor_count» ⌝ }
 {
-    let site = record_at(deck, 1, SITE_LINES);
-    let chemical_records = chemicals(deck, chemical_count);
+    let site = record_at(deck, values, 1, SITE_LINES);
+    let chemical_records = chemicals(deck, values, chemical_count);
     let receptor_records = receptors(
         deck,
+        values,
         CHEMICALS_START + RECORD_LINES * chemical_count,
         receptor_count,
     );

@@ -7,6 +7,8 @@ ghost use Prim.Native.Nat.{_+_, _≤_, _<_};
 ghost use Rattle.deck.specs.Parts.{linesOf};
 ghost use Rattle.deck.specs.Kinds.{C1, R1, EN};
 ghost use Rattle.deck.specs.Conditions.{at, first, upTo, lineConditions, noEnd, countOf, maxLength, badLength};
+ghost use lib.ListN.{length, replicate};
+ghost use Rattle.deck.specs.Inner.{maxFields, packedFields};
 use crate::LINE_WIDTH;
 use crate::MAX_COMPOSITE_LENGTH;
 use crate::MAX_LENGTH;
@@ -18,6 +20,7 @@ use crate::lines::Seen;
 use crate::lines::id_of;
 use crate::lines::kind_of;
 use crate::lines::line_status;
+use slots::FIELDS;
 use slots::Sort;
 
 // The first condition of the lines and the deck's end that holds; where none does, how many chemicals and receptors there are.
@@ -48,7 +51,9 @@ pub(crate) fn bad_length(deck: &[u8], sort: Sort) -> bool
     deck.len() % LINE_WIDTH != 0
 }
 
-pub(crate) fn scan_lines(deck: &[u8], sort: Sort) -> Scan
+// Where the lines are read, the values of their fields are kept, so that each field is read once.
+pub(crate) fn scan_lines(deck: &[u8], sort: Sort, values: &mut [u64]) -> Scan
+    requires { ⌜ (length (now deck) ≤ 8019) × (now values ≡ replicate maxFields 0) ⌝ }
     ensures { λ r. ⌜
         r .status
         ≡ first
@@ -61,6 +66,7 @@ pub(crate) fn scan_lines(deck: &[u8], sort: Sort) -> Scan
         × (r .receptors ≡ countOf (now (deck .entry)) R1 (linesOf (now (deck .entry)))))
         ⌝ }
     ensures { λ r. ⌜ (r .chemicals ≤ 16) × (r .receptors ≤ 8) ⌝ }
+    ensures { λ r. ⌜ (r .status ≡ Status.Read → now (values .exit) ≡ packedFields (now (deck .entry))) ⌝ }
 {
     let lines = deck.len() / LINE_WIDTH;
     let mut seen = Seen {
@@ -74,7 +80,8 @@ pub(crate) fn scan_lines(deck: &[u8], sort: Sort) -> Scan
         let l = line(deck, n + 1);
         let kind = kind_of(l);
         let id = id_of(l);
-        let status = line_status(sort, l, n + 1, seen, kind, id);
+        let at = FIELDS * n;
+        let status = line_status(sort, l, n + 1, seen, kind, id, &mut values[at..at + FIELDS]);
         let Status::Read = status else {
             return Scan {
                 status,

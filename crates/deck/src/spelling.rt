@@ -1,15 +1,34 @@
 // How ids and numbers are spelled.
 ghost use mathlib.Core.Path.{_≡_};
-ghost use mathlib.Core.Bool.{true};
+ghost use mathlib.Core.Bool.{true, cond};
 ghost use Prim.Native.Nat.{_+_, _-_, _*_, _^_, _<_, _≤_};
 ghost use lib.IntN.{subℕ};
 ghost use lib.Dec.{eqb};
 ghost use lib.ListN.{length, take, drop, getD};
-ghost use Rattle.deck.specs.Parts.{leading};
-ghost use Rattle.deck.specs.Numbers.{digitsValue, idIn, signSpelled, exponentSpelled, powerOf, digitsRead, maxDigits, endedOf, pointedOf, spelledOf, loneDash, wordOf};
+ghost use Rattle.deck.specs.Parts.{within, leading};
+ghost use Rattle.deck.specs.Numbers.{digitsValue, idIn, signSpelled, exponentSpelled, powerOf, maxDigits, pointedOf, spelledOf, loneDash, wordOf};
 ghost use Rattle.deck.specs.Ranges.{above, below};
 use crate::MAX_DIGITS;
 use crate::Word;
+
+// Digits that stand together: how many, and the number that they spell.
+struct Digits {
+    count: usize,
+    value: u64,
+}
+
+// One digit more than a number may have shows that there are too many; no more are looked at, so that their number fits.
+const LOOKED_AT: usize = MAX_DIGITS + 1;
+
+const ZERO: u64 = 48;
+
+const NINE: u64 = 57;
+
+fn wide(b: u8) -> u64
+    ensures { λ r. ⌜ r ≡ b ⌝ }
+{
+    b as u64
+}
 
 // How many bytes at the front of s lie from lo to hi.
 pub(crate) fn leading_bytes(s: &[u8], lo: u8, hi: u8) -> usize
@@ -29,23 +48,40 @@ pub(crate) fn leading_bytes(s: &[u8], lo: u8, hi: u8) -> usize
     i
 }
 
-// The number that the digits of s spell after `from`.
-fn digits_value(from: u64, s: &[u8]) -> u64
-    requires { ⌜ (leading 48 57 (now s) ≡ length (now s)) × ((from + 1) * 10 ^ length (now s) ≤ 1000000000000) ⌝ }
-    ensures { λ r. ⌜ r ≡ digitsValue from (now (s .entry)) ⌝ }
+// The digits at the front of s, whose number goes on after `from`. One pass counts them and adds them up.
+fn leading_digits(from: u64, s: &[u8]) -> Digits
+    requires { ⌜ (from + 1) * 10 ^ length (now s) ≤ 10000000000000 ⌝ }
+    ensures { λ r. ⌜ r .count ≡ leading 48 57 (now (s .entry)) ⌝ }
+    ensures { λ r. ⌜ r .value ≡ digitsValue from (take (leading 48 57 (now (s .entry))) (now (s .entry))) ⌝ }
 {
     let mut value = from;
     let mut i: usize = 0;
     while i < s.len() {
-        let digit = s[i] - b'0';
-        value = value * 10 + digit as u64;
+        let b = wide(s[i]);
+        if b < ZERO {
+            return Digits { count: i, value };
+        }
+        if NINE < b {
+            return Digits { count: i, value };
+        }
+        value = value * 10 + (b - ZERO);
         i += 1;
     }
-    value
+    Digits { count: i, value }
+}
+
+// The first bytes of s, at most so many.
+fn front(s: &[u8], most: usize) -> &[u8]
+    ensures { λ r. ⌜ now r ≡ take most (now (s .entry)) ⌝ }
+{
+    if most < s.len() {
+        return &s[..most];
+    }
+    s
 }
 
 // up - down.
-fn difference(up: u32, down: u32) -> i32
+pub(crate) fn difference(up: u32, down: u32) -> i32
     requires { ⌜ (up < 1000) × (down < 1000) ⌝ }
     ensures { λ r. ⌜ r ≡ subℕ up down ⌝ }
 {
@@ -83,10 +119,20 @@ pub(crate) fn id_in(columns: &[u8]) -> u32
     if text[0] <= b'0' {
         return 0;
     }
-    if leading_bytes(text, b'0', b'9') != text.len() {
+    let id = leading_digits(0, text);
+    if id.count != text.len() {
         return 0;
     }
-    digits_value(0, text) as u32
+    id.value as u32
+}
+
+fn is_digit(b: u8) -> bool
+    ensures { λ r. ⌜ r ≡ within 48 57 b ⌝ }
+{
+    if b < b'0' {
+        return false;
+    }
+    b <= b'9'
 }
 
 // Byte `at` of s is b. There is no byte 0 in a text, so one past the end is none.
@@ -123,7 +169,20 @@ fn exponent_spelled(tail: &[u8]) -> bool
     if !signed(tail) {
         return false;
     }
-    leading_bytes(&tail[2..], b'0', b'9') == 2
+    if !is_digit(tail[2]) {
+        return false;
+    }
+    is_digit(tail[3])
+}
+
+// The two digits of an exponent that is not left out.
+fn exponent(tail: &[u8]) -> u32
+    requires { ⌜ (exponentSpelled (now tail) ≡ true) × (length (now tail) ≡ 4) ⌝ }
+    ensures { λ r. ⌜ r ≡ digitsValue 0 (drop 2 (now (tail .entry))) ⌝ }
+{
+    let tens = wide(tail[2]) - ZERO;
+    let ones = wide(tail[3]) - ZERO;
+    (tens * 10 + ones) as u32
 }
 
 // The power of ten of a number with so many digits after its point, and this exponent.
@@ -134,75 +193,61 @@ fn power_of(tail: &[u8], places: u32) -> i32
     if tail.len() == 0 {
         return difference(0, places);
     }
-    let exponent = digits_value(0, &tail[2..]) as u32;
+    let exponent = exponent(tail);
     if byte_is(tail, 1, b'-') {
         return difference(0, places + exponent);
     }
     difference(exponent, places)
 }
 
-// The digits before and after the point, as one number.
-fn digits_read(text: &[u8], whole: usize, places: usize) -> u64
-    requires before { ⌜ (leading 48 57 (take whole (now text)) ≡ length (take whole (now text))) ⌝ }
-    requires after { ⌜ (leading 48 57 (take places (drop (whole + 1) (now text))) ≡ length (take places (drop (whole + 1) (now text)))) ⌝ }
-    requires within { ⌜ (whole ≤ length (now text)) × (places ≤ length (now text) - (whole + 1)) ⌝ }
-    requires few { ⌜ whole + places ≤ maxDigits ⌝ }
-    ensures { λ r. ⌜ r ≡ digitsRead (now (text .entry)) whole places ⌝ }
+// The number with these digits, so many of them after its point, whose exponent starts at `end`.
+fn ended(text: &[u8], digits: u64, places: usize, end: usize) -> Word
+    requires { ⌜ (places < 100) × (end ≤ length (now text)) ⌝ }
+    ensures { λ r. ⌜ r ≡ cond (exponentSpelled (drop end (now (text .entry)))) (Word.Number digits (powerOf (drop end (now (text .entry))) places)) Word.Other ⌝ }
 {
-    let before = digits_value(0, &text[..whole]);
-    if places == 0 {
-        return before;
-    }
-    let at = whole + 1;
-    digits_value(before, &text[at..at + places])
-}
-
-// The number whose digits are counted, and whose exponent starts at `end`.
-fn ended(text: &[u8], whole: usize, places: usize, end: usize) -> Word
-    requires before { ⌜ (leading 48 57 (take whole (now text)) ≡ length (take whole (now text))) ⌝ }
-    requires after { ⌜ (leading 48 57 (take places (drop (whole + 1) (now text))) ≡ length (take places (drop (whole + 1) (now text)))) ⌝ }
-    requires within { ⌜ (whole ≤ length (now text)) × (places ≤ length (now text) - (whole + 1)) ⌝ }
-    requires tail { ⌜ end ≤ length (now text) ⌝ }
-    ensures { λ r. ⌜ r ≡ endedOf (now (text .entry)) whole places end ⌝ }
-{
-    if MAX_DIGITS < whole + places {
-        return Word::Other;
-    }
     let tail = &text[end..];
     if !exponent_spelled(tail) {
         return Word::Other;
     }
     Word::Number {
-        digits: digits_read(text, whole, places),
+        digits,
         power: power_of(tail, places as u32),
     }
 }
 
 // The number with a point after its first digits.
-fn pointed(text: &[u8], whole: usize) -> Word
-    requires { ⌜ (whole ≡ leading 48 57 (now text)) × (whole < length (now text)) ⌝ }
-    ensures { λ r. ⌜ r ≡ pointedOf (now (text .entry)) whole ⌝ }
+fn pointed(text: &[u8], whole: Digits) -> Word
+    requires { ⌜ (whole .count ≡ leading 48 57 (now text)) × (whole .value ≡ digitsValue 0 (take (leading 48 57 (now text)) (now text))) ⌝ }
+    requires { ⌜ (whole .count ≤ maxDigits) × (whole .count < length (now text)) ⌝ }
+    ensures { λ r. ⌜ r ≡ pointedOf (now (text .entry)) (whole .count) ⌝ }
 {
-    let at = whole + 1;
-    let places = leading_bytes(&text[at..], b'0', b'9');
-    if places == 0 {
+    let at = whole.count + 1;
+    let rest = &text[at..];
+    let places = leading_digits(whole.value, front(rest, LOOKED_AT - whole.count));
+    if places.count == 0 {
         return Word::Other;
     }
-    ended(text, whole, places, at + places)
+    if MAX_DIGITS < whole.count + places.count {
+        return Word::Other;
+    }
+    ended(text, places.value, places.count, at + places.count)
 }
 
 // The number that the text spells, which is not blank.
 fn spelled(text: &[u8]) -> Word
     ensures { λ r. ⌜ r ≡ spelledOf (now (text .entry)) ⌝ }
 {
-    let whole = leading_bytes(text, b'0', b'9');
-    if whole == 0 {
+    let whole = leading_digits(0, front(text, LOOKED_AT));
+    if whole.count == 0 {
         return Word::Other;
     }
-    if byte_is(text, whole, b'.') {
+    if MAX_DIGITS < whole.count {
+        return Word::Other;
+    }
+    if byte_is(text, whole.count, b'.') {
         return pointed(text, whole);
     }
-    ended(text, whole, 0, whole)
+    ended(text, whole.value, 0, whole.count)
 }
 
 fn lone_dash(text: &[u8]) -> bool

@@ -1,29 +1,37 @@
--- `deck::fields::fields_status` meets its contract. The invariant: no condition of the fields passed holds.
+-- `deck::fields::fields_status` meets its contract. The invariant: no condition of the fields passed holds, and their values are kept.
 -- Assumes nothing.
 use Prim.Native.Nat.{ℕ, _-_, _≤_}
 use native.Mathlib.Nat.{le-antisymm}
 use native.Mathlib.Omega.{arith}
 use borrow.Author.Needs.{needs}
-use mathlib.Core.Path.{_≡_, refl, sym, _∙_, subst}
+use mathlib.Core.Path.{_≡_, refl, sym, ap, _∙_, subst}
+use lib.ListN.{length, take, length-set}
 use denote.Ref.{now}
+use Rattle.deck.specs.Numbers.{wordOf}
 use Rattle.deck.specs.Conditions.{first, upTo}
+use Rattle.deck.specs.Cases.{tabulate}
+use Rattle.deck.specs.Inner.{Small, packedIn}
 use Rattle.deck.specs.declared.Status.the-variants.{Read}
 use Rattle.deck.proofs.First.{turn-on, turn-out, fieldBy, field-turn, fields-by}
+use Rattle.deck.proofs.Scan.{never}
+use Rattle.deck.proofs.Accepted.{word-small}
+use Rattle.deck.proofs.Packed.{fields-more, fields-all}
 use Rattle.deck.proofs.fields.fields_status.Statement.{statement}
 use Rattle.deck.proofs.fields.fields_status.Tie as tie
 
 abbrev Inv-loop : tie.InvT-loop
-Inv-loop line kind n rules f₀ f = (f ≤ 6) × (first (upTo (fieldBy rules line n) f) ≡ Read)
+Inv-loop line kind n values₀ rules f₀ values f =
+    (f ≤ 6) × (first (upTo (fieldBy rules line n) f) ≡ Read) × (length values ≡ length values₀) × (take f values ≡ tabulate f (packedIn line))
 
 abbrev μ-loop : tie.MeasureT-loop
-μ-loop line kind n rules f₀ f = 6 - f
+μ-loop line kind n values₀ rules f₀ values f = 6 - f
 
 rules-requires : tie.Need-rules-requires Inv-loop μ-loop
 rules-requires c κs = search needs
 
 loop-holds : tie.Need-loop-holds Inv-loop μ-loop
-unfolding first upTo
-loop-holds c = (search needs, refl)
+unfolding first upTo tabulate
+loop-holds c = (search needs, refl, refl, refl)
 
 mul-rule : tie.Need-mul-rule Inv-loop μ-loop
 mul-rule c = omega arith
@@ -31,14 +39,14 @@ mul-rule c = omega arith
 array-copy-out-rule : tie.Need-array-copy-out-rule Inv-loop μ-loop
 array-copy-out-rule c = omega arith
 
-add-field-part : tie.Need-add-field-part Inv-loop μ-loop
-add-field-part c = omega arith
+add-next : tie.Need-add-next Inv-loop μ-loop
+add-next c = omega arith
 
 field-part-requires : tie.Need-field-part-requires Inv-loop μ-loop
-field-part-requires c κs = c .before .before .before .before .before .pre
+field-part-requires c κs = c .before .before .before .before .before .before .pre .0
 
-add-field-status : tie.Need-add-field-status Inv-loop μ-loop
-add-field-status c = omega arith
+word-requires : tie.Need-word-requires Inv-loop μ-loop
+word-requires c κs = search needs
 
 field-status-requires : tie.Need-field-status-requires Inv-loop μ-loop
 field-status-requires c κs = search needs
@@ -49,24 +57,58 @@ enum-told c = search needs
 enum-told-2 : tie.Need-enum-told-2 Inv-loop μ-loop
 enum-told-2 c = search needs
 
+same-length : tie.Need-same-length Inv-loop μ-loop
+same-length c = c .before .before .before .before .before .before .before .loop .inv .2
+
 returns : tie.Need-returns Inv-loop μ-loop
 returns c =
-    turn-out (fieldBy _ (now (c .before .before .before .before .before .before .before .before .before .args .line)) (c .before .before .before .before .before .before .before .before .before .args .n)) (c .before .before .before .before .before .before .loop .f) 6 (c .before .before .before .before .before .loop-test .taken) (c .before .before .before .before .before .before .loop .inv .1) _ (field-turn (c .before .before .before .before .before .before .before .before .before .args .n) (c .before .before .before .before .before .before .loop .f) (now (c .before .before .before .before .before .before .before .before .before .args .line)) _ _ _ (c .before .before .before .field-part .ensures) (c .before .before .field-status .ensures)) _ _ _ (c .enum-told2 .given .1)
-    ∙ fields-by (c .before .before .before .before .before .before .before .before .before .args .sort) (c .before .before .before .before .before .before .before .before .before .args .kind) (c .before .before .before .before .before .before .before .before .before .args .n) (now (c .before .before .before .before .before .before .before .before .before .args .line)) _ (c .before .before .before .before .before .before .before .rules .ensures) 6
+    let a = c .before .before .before .before .before .before .before .before .before .before .before .args in
+    let l = c .before .before .before .before .before .before .before .loop in
+    let rules = c .before .before .before .before .before .before .before .before .rules in
+    let w = c .before .before .before .word .ensures ∙ ap wordOf (c .before .before .before .before .field-part .ensures) in
+    let turn = field-turn (a .n) (l .f) (now (a .line)) _ (rules .result) _ w (c .before .before .field-status .ensures) in (
+      turn-out (fieldBy (rules .result) (now (a .line)) (a .n)) (l .f) 6 (c .before .before .before .before .before .before .loop-test .taken) (l .inv .1) _ turn _ _ _ (c .enum-told2 .given .1)
+          ∙ fields-by (a .sort) (a .kind) (a .n) (now (a .line)) _ (rules .ensures) 6,
+      λ q. absurd (never _ _ _ _ (c .enum-told2 .given .1) q),
+    )
 
-add-f : tie.Need-add-f Inv-loop μ-loop
-add-f c = omega arith
+packed-requires : tie.Need-packed-requires Inv-loop μ-loop
+packed-requires c κs = subst Small (sym (c .before .before .before .word .ensures)) (word-small _)
+
+mul-values : tie.Need-mul-values Inv-loop μ-loop
+mul-values c = omega arith
+
+slice-write-values : tie.Need-slice-write-values Inv-loop μ-loop
+slice-write-values c = omega arith
 
 loop-less : tie.Need-loop-less Inv-loop μ-loop
 loop-less c = omega arith
 
 loop-again : tie.Need-loop-again Inv-loop μ-loop
-loop-again c = (omega arith, turn-on (fieldBy _ (now (c .before .before .before .before .before .before .before .before .before .args .line)) (c .before .before .before .before .before .before .before .before .before .args .n)) (c .before .before .before .before .before .before .loop .f) (c .before .before .before .before .before .before .loop .inv .1) _ (field-turn (c .before .before .before .before .before .before .before .before .before .args .n) (c .before .before .before .before .before .before .loop .f) (now (c .before .before .before .before .before .before .before .before .before .args .line)) _ _ _ (c .before .before .before .field-part .ensures) (c .before .before .field-status .ensures)) (c .enum-told .given .1))
+loop-again c =
+    let a = c .before .before .before .before .before .before .before .before .before .before .before .before .args in
+    let l = c .before .before .before .before .before .before .before .before .loop in
+    let rules = c .before .before .before .before .before .before .before .before .before .rules in
+    let w = c .before .before .before .before .word .ensures ∙ ap wordOf (c .before .before .before .before .before .field-part .ensures) in
+    let turn = field-turn (a .n) (l .f) (now (a .line)) _ (rules .result) _ w (c .before .before .before .field-status .ensures) in (
+      omega arith,
+      turn-on (fieldBy (rules .result) (now (a .line)) (a .n)) (l .f) (l .inv .1) _ turn (c .before .enum-told .given .1),
+      length-set (l .values) (l .f) _ ∙ l .inv .2,
+      fields-more (now (a .line)) (l .values) (l .f) _ _ (omega (arith, c .before .before .before .before .before .before .before .before .before .before .before .before .pre .1)) (c .packed .ensures) w (l .inv .3),
+    )
+
+same-length-2 : tie.Need-same-length-2 Inv-loop μ-loop
+same-length-2 c = c .before .loop .inv .2
 
 returns-2 : tie.Need-returns-2 Inv-loop μ-loop
 returns-2 c =
-    sym (subst (λ (k : ℕ). first (upTo (fieldBy (c .before .before .rules .result) (now (c .before .before .before .before .args .line)) (c .before .before .before .before .args .n)) k) ≡ Read) (le-antisymm (c .before .loop .inv .0) (c .loop-test .left)) (c .before .loop .inv .1))
-    ∙ fields-by (c .before .before .before .before .args .sort) (c .before .before .before .before .args .kind) (c .before .before .before .before .args .n) (now (c .before .before .before .before .args .line)) _ (c .before .before .rules .ensures) 6
+    let a = c .before .before .before .before .before .args in
+    let l = c .before .loop in
+    let rules = c .before .before .rules in (
+      sym (subst (λ (k : ℕ). first (upTo (fieldBy (rules .result) (now (a .line)) (a .n)) k) ≡ Read) (le-antisymm (l .inv .0) (c .loop-test .left)) (l .inv .1))
+          ∙ fields-by (a .sort) (a .kind) (a .n) (now (a .line)) _ (rules .ensures) 6,
+      λ q. fields-all (now (a .line)) (l .values) (l .f) (l .inv .2 ∙ c .before .before .before .before .before .pre .1) (l .inv .0) (c .loop-test .left) (l .inv .3),
+    )
 
 pub fields-status-spec : {M : Type 1} → statement M
 fields-status-spec =
@@ -78,14 +120,18 @@ fields-status-spec =
     loop-holds
     mul-rule
     array-copy-out-rule
-    add-field-part
+    add-next
     field-part-requires
-    add-field-status
+    word-requires
     field-status-requires
     enum-told
     enum-told-2
+    same-length
     returns
-    add-f
+    packed-requires
+    mul-values
+    slice-write-values
     loop-less
     loop-again
+    same-length-2
     returns-2)

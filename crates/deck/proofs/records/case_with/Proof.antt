@@ -22,7 +22,7 @@ receptors-requires : tie.Need-receptors-requires
 receptors-requires c κs = search needs
 
 returns : tie.Need-returns
-returns c = case-is (now (c .before .before .before .before .args .deck)) _ _ _ _ _ (c .before .before .record-at .ensures) (c .before .chemicals .ensures) (c .receptors .ensures)
+returns c = case-is (now (c .before .before .before .before .before .args .deck)) _ _ _ _ _ (c .before .before .record-at .ensures) (c .before .chemicals .ensures) (c .receptors .ensures)
 
 pub case-with-spec : {M : Type 1} → statement M
 case-with-spec =

@@ -13,45 +13,45 @@ use Rattle.deck.proofs.records.chemicals.Statement.{statement}
 use Rattle.deck.proofs.records.chemicals.Tie as tie
 
 abbrev Inv-loop : tie.InvT-loop
-Inv-loop deck count records₀ i₀ records i =
+Inv-loop deck values count records₀ i₀ records i =
     (i ≤ count) × (records ≡ tabulate i (λ j. recordOf deck (3 + 4 * j) 4) ++ replicate (16 - i) noRecord)
 
 abbrev μ-loop : tie.MeasureT-loop
-μ-loop deck count records₀ i₀ records i = count - i
+μ-loop deck values count records₀ i₀ records i = count - i
 
 no-record-requires : tie.Need-no-record-requires Inv-loop μ-loop
 no-record-requires c κs = search needs
 
 loop-holds : tie.Need-loop-holds Inv-loop μ-loop
-loop-holds c = (search needs, ap (replicate 16) (c .no-record .ensures) ∙ filled-start (λ j. recordOf (now (c .before .before .args .deck)) (3 + 4 * j) 4) noRecord 16)
+loop-holds c = (search needs, ap (replicate 16) (c .no-record .ensures) ∙ filled-start (λ j. recordOf (now (c .before .before .before .args .deck)) (3 + 4 * j) 4) noRecord 16)
 
 mul-record-at : tie.Need-mul-record-at Inv-loop μ-loop
-mul-record-at c = omega (arith, c .before .before .before .before .pre)
+mul-record-at c = omega (arith, c .before .before .before .before .before .pre)
 
 add-record-at : tie.Need-add-record-at Inv-loop μ-loop
-add-record-at c = omega (arith, c .before .before .before .before .pre)
+add-record-at c = omega (arith, c .before .before .before .before .before .pre)
 
 record-at-requires : tie.Need-record-at-requires Inv-loop μ-loop
-record-at-requires c κs = omega (arith, c .before .before .before .before .pre)
+record-at-requires c κs = (c .before .before .before .before .before .pre .0, omega (arith, c .before .before .before .before .before .pre .1))
 
 mul-records : tie.Need-mul-records Inv-loop μ-loop
-mul-records c = omega (arith, c .before .before .before .before .before .pre)
+mul-records c = omega (arith, c .before .before .before .before .before .before .pre)
 
 array-set-from-records : tie.Need-array-set-from-records Inv-loop μ-loop
-array-set-from-records c = omega (arith, c .before .before .before .before .before .pre)
+array-set-from-records c = omega (arith, c .before .before .before .before .before .before .pre)
 
 add-i : tie.Need-add-i Inv-loop μ-loop
-add-i c = omega (arith, c .before .before .before .before .before .pre)
+add-i c = omega (arith, c .before .before .before .before .before .before .pre)
 
 loop-less : tie.Need-loop-less Inv-loop μ-loop
 loop-less c = omega arith
 
 loop-again : tie.Need-loop-again Inv-loop μ-loop
 loop-again c =
-    (omega arith, filled-more (λ j. recordOf (now (c .before .before .before .before .before .args .deck)) (3 + 4 * j) 4) noRecord 16 (c .before .before .loop .i) (omega (arith, c .before .before .before .before .before .pre)) _ (c .before .before .loop .inv .1) _ (c .record-at .ensures))
+    (omega arith, filled-more (λ j. recordOf (now (c .before .before .before .before .before .before .args .deck)) (3 + 4 * j) 4) noRecord 16 (c .before .before .loop .i) (omega (arith, c .before .before .before .before .before .before .pre)) _ (c .before .before .loop .inv .1) _ (c .record-at .ensures))
 
 returns : tie.Need-returns Inv-loop μ-loop
-returns c = records-are (now (c .before .before .before .before .args .deck)) 3 (c .before .before .before .before .args .count) 16 (c .before .loop .i) _ (c .before .loop .inv .0) (c .loop-test .left) (c .before .loop .inv .1)
+returns c = records-are (now (c .before .before .before .before .before .args .deck)) 3 (c .before .before .before .before .before .args .count) 16 (c .before .loop .i) _ (c .before .loop .inv .0) (c .loop-test .left) (c .before .loop .inv .1)
 
 pub chemicals-spec : {M : Type 1} → statement M
 chemicals-spec =

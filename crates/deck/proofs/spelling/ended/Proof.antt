@@ -1,19 +1,12 @@
 -- `deck::spelling::ended` meets its contract: one law for each way out.
 -- Assumes nothing.
 use borrow.Author.Needs.{needs}
-use Rattle.deck.proofs.Words.{ended-long, ended-tail, ended-spelled, ended-number}
-use native.Mathlib.Omega.{arith}
+use Rattle.deck.proofs.Words.{ended-tail, ended-spelled, ended-number}
 use mathlib.Core.Path.{_∙_}
 use mir.Facts.{toZ-ofZ}
 use denote.Ref.{now}
 use Rattle.deck.proofs.spelling.ended.Statement.{statement}
 use Rattle.deck.proofs.spelling.ended.Tie as tie
-
-add-if1 : tie.Need-add-if1
-add-if1 c = search needs
-
-returns : tie.Need-returns
-returns c = ended-long _ (c .before .before .args .whole) (c .before .before .args .places) (c .before .before .args .end) (c .if1 .taken)
 
 sub-tail : tie.Need-sub-tail
 sub-tail c = search needs
@@ -27,35 +20,27 @@ part-tail-end c = search needs
 exponent-spelled-requires : tie.Need-exponent-spelled-requires
 exponent-spelled-requires c κs = search needs
 
-returns-2 : tie.Need-returns-2
-returns-2 c = ended-tail _ (c .before .before .before .before .before .args .whole) (c .before .before .before .before .before .args .places) (c .before .before .before .before .before .args .end) _ (c .before .exponent-spelled .ensures) (c .if2 .taken)
-
-digits-read-requires : tie.Need-digits-read-requires
-digits-read-requires c κs = search needs
+returns : tie.Need-returns
+returns c = ended-tail (now (c .before .before .before .before .args .text)) (c .before .before .before .before .args .digits) (c .before .before .before .before .args .places) (c .before .before .before .before .args .end) _ (c .before .exponent-spelled .ensures) (c .if1 .taken)
 
 cast-power-of : tie.Need-cast-power-of
 cast-power-of c = search needs
 
 power-of-requires : tie.Need-power-of-requires
-power-of-requires c κs = (ended-spelled (now (c .before .before .before .before .before .before .args .text)) (c .before .before .before .before .before .before .args .whole) (c .before .before .before .before .before .before .args .places) (c .before .before .before .before .before .before .args .end) _ (c .before .before .exponent-spelled .ensures) (c .before .if2 .left), omega (arith, c .before .before .before .before .if1 .left))
+power-of-requires c κs = (ended-spelled (now (c .before .before .before .before .args .text)) (c .before .before .before .before .args .digits) (c .before .before .before .before .args .places) (c .before .before .before .before .args .end) _ (c .before .exponent-spelled .ensures) (c .if1 .left), c .before .before .before .before .pre .0)
 
-returns-3 : tie.Need-returns-3
-returns-3 c =
-    ended-number (now (c .before .before .before .before .before .before .before .args .text)) (c .before .before .before .before .before .before .before .args .whole) (c .before .before .before .before .before .before .before .args .places) (c .before .before .before .before .before .before .before .args .end) _ (c .before .before .before .exponent-spelled .ensures) (c .before .before .before .before .before .if1 .left) (c .before .before .if2 .left) _
-    (c .before .digits-read .ensures) _ (toZ-ofZ (record { sfits = c .power-of .ok }) ∙ c .power-of .ensures)
+returns-2 : tie.Need-returns-2
+returns-2 c = ended-number (now (c .before .before .before .before .before .args .text)) (c .before .before .before .before .before .args .digits) (c .before .before .before .before .before .args .places) (c .before .before .before .before .before .args .end) _ (c .before .before .exponent-spelled .ensures) (c .before .if1 .left) _ (toZ-ofZ (record { sfits = c .power-of .ok }) ∙ c .power-of .ensures)
 
 pub ended-spec : {M : Type 1} → statement M
 ended-spec =
     tie.close
     (tie.spec
-    add-if1
-    returns
     sub-tail
     part-tail-start
     part-tail-end
     exponent-spelled-requires
-    returns-2
-    digits-read-requires
+    returns
     cast-power-of
     power-of-requires
-    returns-3)
+    returns-2)

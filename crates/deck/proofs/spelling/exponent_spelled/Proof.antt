@@ -1,7 +1,7 @@
 -- `deck::spelling::exponent_spelled` meets its contract: one law for each way out.
 -- Assumes nothing.
 use borrow.Author.Needs.{needs}
-use Rattle.deck.proofs.Words.{exponent-none, exponent-length, exponent-e, exponent-sign, exponent-digits}
+use Rattle.deck.proofs.Words.{exponent-none, exponent-length, exponent-e, exponent-sign, exponent-first, exponent-second}
 use Rattle.deck.proofs.spelling.exponent_spelled.Statement.{statement}
 use Rattle.deck.proofs.spelling.exponent_spelled.Tie as tie
 
@@ -23,20 +23,23 @@ signed-requires c κs = search needs
 returns-4 : tie.Need-returns-4
 returns-4 c = exponent-sign _ (c .before .before .before .before .if2 .left) _ _ (c .before .before .before .byte-is .ensures) (c .before .before .if3 .left) (c .before .signed .ensures) (c .if4 .taken)
 
-sub-leading-bytes : tie.Need-sub-leading-bytes
-sub-leading-bytes c = search needs
+shared-slice-read-is-digit : tie.Need-shared-slice-read-is-digit
+shared-slice-read-is-digit c = search needs
 
-part-leading-bytes-start : tie.Need-part-leading-bytes-start
-part-leading-bytes-start c = search needs
-
-part-leading-bytes-end : tie.Need-part-leading-bytes-end
-part-leading-bytes-end c = search needs
-
-leading-bytes-requires : tie.Need-leading-bytes-requires
-leading-bytes-requires c κs = search needs
+is-digit-requires : tie.Need-is-digit-requires
+is-digit-requires c κs = search needs
 
 returns-5 : tie.Need-returns-5
-returns-5 c = exponent-digits _ (c .before .before .before .before .before .before .if2 .left) _ _ (c .before .before .before .before .before .byte-is .ensures) (c .before .before .before .before .if3 .left) (c .before .before .before .signed .ensures) (c .before .before .if4 .left) _ (c .leading-bytes .ensures)
+returns-5 c = exponent-first _ (c .before .before .before .before .before .before .before .if2 .left) _ _ (c .before .before .before .before .before .before .byte-is .ensures) (c .before .before .before .before .before .if3 .left) (c .before .before .before .before .signed .ensures) (c .before .before .before .if4 .left) _ (c .before .is-digit .ensures) (c .if5 .taken)
+
+shared-slice-read-is-digit-2 : tie.Need-shared-slice-read-is-digit-2
+shared-slice-read-is-digit-2 c = search needs
+
+is-digit-requires-2 : tie.Need-is-digit-requires-2
+is-digit-requires-2 c κs = search needs
+
+returns-6 : tie.Need-returns-6
+returns-6 c = exponent-second _ (c .before .before .before .before .before .before .before .before .before .if2 .left) _ _ (c .before .before .before .before .before .before .before .before .byte-is .ensures) (c .before .before .before .before .before .before .before .if3 .left) (c .before .before .before .before .before .before .signed .ensures) (c .before .before .before .before .before .if4 .left) _ (c .before .before .before .is-digit .ensures) (c .before .before .if5 .left) _ (c .is-digit2 .ensures)
 
 pub exponent-spelled-spec : {M : Type 1} → statement M
 exponent-spelled-spec =
@@ -48,8 +51,9 @@ exponent-spelled-spec =
     returns-3
     signed-requires
     returns-4
-    sub-leading-bytes
-    part-leading-bytes-start
-    part-leading-bytes-end
-    leading-bytes-requires
-    returns-5)
+    shared-slice-read-is-digit
+    is-digit-requires
+    returns-5
+    shared-slice-read-is-digit-2
+    is-digit-requires-2
+    returns-6)

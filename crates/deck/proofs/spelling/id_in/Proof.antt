@@ -28,20 +28,17 @@ shared-slice-read-if2 c = search needs
 returns-2 : tie.Need-returns-2
 returns-2 c = id-first (now (c .before .before .before .before .before .before .args .columns)) _ (c .before .before .before .before .leading-bytes .ensures) (c .if2 .taken)
 
-leading-bytes-requires-2 : tie.Need-leading-bytes-requires-2
-leading-bytes-requires-2 c κs = search needs
+leading-digits-requires : tie.Need-leading-digits-requires
+leading-digits-requires c κs = id-ask (now (c .before .before .before .before .before .before .args .columns)) _ (c .before .before .before .before .leading-bytes .ensures) (c .before .before .before .before .before .before .pre)
 
 returns-3 : tie.Need-returns-3
-returns-3 c = id-other (now (c .before .before .before .before .before .before .before .before .args .columns)) _ (c .before .before .before .before .before .before .leading-bytes .ensures) _ (c .before .leading-bytes2 .ensures) (c .if3 .taken)
-
-digits-value-requires : tie.Need-digits-value-requires
-digits-value-requires c κs = id-ask (now (c .before .before .before .before .before .before .before .before .args .columns)) _ (c .before .before .before .before .before .before .leading-bytes .ensures) _ (c .before .leading-bytes2 .ensures) (c .before .before .before .before .before .before .before .before .pre) (c .if3 .left)
+returns-3 c = id-other (now (c .before .before .before .before .before .before .before .before .before .args .columns)) _ (c .before .before .before .before .before .before .before .leading-bytes .ensures) _ (c .before .before .leading-digits .ensures .0) (c .if3 .taken)
 
 cast-result : tie.Need-cast-result
-cast-result c = omega (arith, id-fits (now (c .before .before .before .before .before .before .before .before .before .args .columns)) _ (c .before .before .before .before .before .before .before .leading-bytes .ensures) _ (c .before .before .leading-bytes2 .ensures) (c .before .before .before .before .before .before .before .before .before .pre) (c .before .if3 .left) _ (c .digits-value .ensures))
+cast-result c = omega (arith, id-fits (now (c .before .before .before .before .before .before .before .before .before .before .args .columns)) _ (c .before .before .before .before .before .before .before .before .leading-bytes .ensures) _ (c .before .before .before .leading-digits .ensures .0) (c .before .if3 .left) _ (c .before .before .before .leading-digits .ensures .1) (c .before .before .before .before .before .before .before .before .before .before .pre))
 
 returns-4 : tie.Need-returns-4
-returns-4 c = id-digits (now (c .before .before .before .before .before .before .before .before .before .args .columns)) _ (c .before .before .before .before .before .before .before .leading-bytes .ensures) _ (c .before .before .leading-bytes2 .ensures) (c .before .before .before .if2 .left) (c .before .if3 .left) _ (c .digits-value .ensures)
+returns-4 c = id-digits (now (c .before .before .before .before .before .before .before .before .before .before .args .columns)) _ (c .before .before .before .before .before .before .before .before .leading-bytes .ensures) _ (c .before .before .before .leading-digits .ensures .0) (c .before .if3 .left) _ (c .before .before .before .leading-digits .ensures .1) (c .before .before .before .before .if2 .left)
 
 pub id-in-spec : {M : Type 1} → statement M
 id-in-spec =
@@ -54,8 +51,7 @@ id-in-spec =
     returns
     shared-slice-read-if2
     returns-2
-    leading-bytes-requires-2
+    leading-digits-requires
     returns-3
-    digits-value-requires
     cast-result
     returns-4)

@@ -1,44 +1,81 @@
 -- `deck::spelling::spelled` meets its contract: one law for each way out.
 -- Assumes nothing.
 use borrow.Author.Needs.{needs}
-use Rattle.deck.proofs.Words.{spelled-none, point-within, spelled-pointed, spelled-whole, whole-digits, whole-within}
+use Rattle.deck.proofs.Words.{first-room, whole-is, whole-value, whole-within, spelled-none, spelled-long, point-within, spelled-pointed, spelled-whole}
 use native.Mathlib.Omega.{arith}
-use mathlib.Core.Path.{refl}
+use Prim.Native.Nat.{ℕ}
+use mathlib.Core.Path.{ap, _∙_}
+use mathlib.Core.List.{List}
+use lib.ListN.{take}
+use denote.Ref.{now}
 use Rattle.deck.specs.Parts.{leading}
+use Rattle.deck.specs.Numbers.{digitsValue}
 use Rattle.deck.proofs.spelling.spelled.Statement.{statement}
 use Rattle.deck.proofs.spelling.spelled.Tie as tie
 
-leading-bytes-requires : tie.Need-leading-bytes-requires
-leading-bytes-requires c κs = search needs
+front-requires : tie.Need-front-requires
+front-requires c κs = search needs
+
+leading-digits-requires : tie.Need-leading-digits-requires
+leading-digits-requires c κs = rw (c .front .ensures) (first-room (now (c .before .before .args .text)))
 
 returns : tie.Need-returns
-returns c = spelled-none _ _ (c .before .leading-bytes .ensures) (c .if1 .taken)
+returns c =
+    let text = now (c .before .before .before .before .before .args .text) in
+    let count = c .before .before .leading-digits .ensures .0 ∙ ap (leading 48 57) (c .before .before .before .front .ensures) in
+    let value = c .before .before .leading-digits .ensures .1 ∙ ap (λ (l : List ℕ). digitsValue 0 (take (leading 48 57 l) l)) (c .before .before .before .front .ensures) in
+    spelled-none text _ _ count value (c .if1 .taken)
+
+returns-2 : tie.Need-returns-2
+returns-2 c =
+    let text = now (c .before .before .before .before .before .before .before .args .text) in
+    let count = c .before .before .before .before .leading-digits .ensures .0 ∙ ap (leading 48 57) (c .before .before .before .before .before .front .ensures) in
+    let value = c .before .before .before .before .leading-digits .ensures .1 ∙ ap (λ (l : List ℕ). digitsValue 0 (take (leading 48 57 l) l)) (c .before .before .before .before .before .front .ensures) in
+    spelled-long text _ _ count value (c .if2 .taken)
 
 byte-is-requires : tie.Need-byte-is-requires
 byte-is-requires c κs = search needs
 
 pointed-requires : tie.Need-pointed-requires
-pointed-requires c κs = (c .before .before .before .leading-bytes .ensures, point-within _ _ (c .before .before .before .leading-bytes .ensures) _ (c .before .byte-is .ensures) (c .if2 .taken))
+pointed-requires c κs =
+    let text = now (c .before .before .before .before .before .before .before .before .before .args .text) in
+    let count = c .before .before .before .before .before .before .leading-digits .ensures .0 ∙ ap (leading 48 57) (c .before .before .before .before .before .before .before .front .ensures) in
+    let value = c .before .before .before .before .before .before .leading-digits .ensures .1 ∙ ap (λ (l : List ℕ). digitsValue 0 (take (leading 48 57 l) l)) (c .before .before .before .before .before .before .before .front .ensures) in
+    let few = c .before .before .if2 .left in
+    ((whole-is text _ _ count value (omega arith), whole-value text _ _ count value (omega arith)), (few, point-within text _ _ count value few (c .before .before .before .before .if1 .left) _ (c .before .byte-is .ensures) (c .if3 .taken)))
 
-returns-2 : tie.Need-returns-2
-returns-2 c = spelled-pointed _ _ (c .before .before .before .before .leading-bytes .ensures) _ (c .before .before .byte-is .ensures) (c .before .before .before .if1 .left) (c .before .if2 .taken) _ (c .pointed .ensures)
+returns-3 : tie.Need-returns-3
+returns-3 c =
+    let text = now (c .before .before .before .before .before .before .before .before .before .before .args .text) in
+    let count = c .before .before .before .before .before .before .before .leading-digits .ensures .0 ∙ ap (leading 48 57) (c .before .before .before .before .before .before .before .before .front .ensures) in
+    let value = c .before .before .before .before .before .before .before .leading-digits .ensures .1 ∙ ap (λ (l : List ℕ). digitsValue 0 (take (leading 48 57 l) l)) (c .before .before .before .before .before .before .before .before .front .ensures) in
+    spelled-pointed text _ _ count value (c .before .before .before .if2 .left) (c .before .before .before .before .before .if1 .left) _ (c .before .before .byte-is .ensures) (c .before .if3 .taken) _ (c .pointed .ensures)
 
 ended-requires : tie.Need-ended-requires
 ended-requires c κs =
-    let w = whole-within _ _ (c .before .before .before .leading-bytes .ensures) in
-    (whole-digits _ _ (c .before .before .before .leading-bytes .ensures), (unfold leading in refl, ((w, omega arith), w)))
+    let text = now (c .before .before .before .before .before .before .before .before .before .args .text) in
+    let count = c .before .before .before .before .before .before .leading-digits .ensures .0 ∙ ap (leading 48 57) (c .before .before .before .before .before .before .before .front .ensures) in
+    let value = c .before .before .before .before .before .before .leading-digits .ensures .1 ∙ ap (λ (l : List ℕ). digitsValue 0 (take (leading 48 57 l) l)) (c .before .before .before .before .before .before .before .front .ensures) in
+    let few = c .before .before .if2 .left in
+    (omega arith, whole-within text _ (whole-is text _ _ count value (omega arith)))
 
-returns-3 : tie.Need-returns-3
-returns-3 c = spelled-whole _ _ (c .before .before .before .before .leading-bytes .ensures) _ (c .before .before .byte-is .ensures) (c .before .before .before .if1 .left) (c .before .if2 .left) _ (c .ended .ensures)
+returns-4 : tie.Need-returns-4
+returns-4 c =
+    let text = now (c .before .before .before .before .before .before .before .before .before .before .args .text) in
+    let count = c .before .before .before .before .before .before .before .leading-digits .ensures .0 ∙ ap (leading 48 57) (c .before .before .before .before .before .before .before .before .front .ensures) in
+    let value = c .before .before .before .before .before .before .before .leading-digits .ensures .1 ∙ ap (λ (l : List ℕ). digitsValue 0 (take (leading 48 57 l) l)) (c .before .before .before .before .before .before .before .before .front .ensures) in
+    spelled-whole text _ _ count value (c .before .before .before .if2 .left) (c .before .before .before .before .before .if1 .left) _ (c .before .before .byte-is .ensures) (c .before .if3 .left) _ (c .ended .ensures)
 
 pub spelled-spec : {M : Type 1} → statement M
 spelled-spec =
     tie.close
     (tie.spec
-    leading-bytes-requires
+    front-requires
+    leading-digits-requires
     returns
+    returns-2
     byte-is-requires
     pointed-requires
-    returns-2
+    returns-3
     ended-requires
-    returns-3)
+    returns-4)

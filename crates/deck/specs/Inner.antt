@@ -1,0 +1,63 @@
+-- For the contracts of this crate's inner functions only: what is counted of a line's bytes, and the values of a deck's fields as they are kept
+-- while it is scanned, each as one number.
+-- Assumes nothing.
+use mathlib.Core.Path.{_≡_}
+use Prim.Native.Nat.{ℕ, _+_, _*_, _-_, _/_, _%_, _≤_, _<_}
+use mathlib.Core.Bool.{cond}
+use mathlib.Core.List.{List}
+use lib.Dec.{eqb}
+use lib.IntN.{ℤ, subℕ}
+use Rattle.deck.specs.Parts.{leading, fieldIn, fieldOf}
+use Rattle.deck.specs.Numbers.{wordOf}
+use Rattle.deck.specs.Kinds.{maxChemicals, mostReceptors, siteLines, recordLines}
+use Rattle.deck.specs.Ranges.{above, below}
+use Rattle.deck.specs.Ranged.{Spelled}
+use Rattle.deck.specs.Cases.{tabulate}
+use Rattle.slots.specs.Slots.{fieldsPerLine}
+use Rattle.deck.specs.declared.Word.{Word}
+use Rattle.deck.specs.declared.Word.the-variants.{Blank, Dash, Number, Other}
+use Rattle.deck.specs.declared.Value.{Value}
+use Rattle.deck.specs.declared.Value.the-variants.{Absent, Printed}
+
+-- of the first n bytes of a line, count print: all of them, or one of them does not
+pub record Printable (line : List ℕ) (n count : ℕ) : Type 0 where
+  pub few : count ≤ n
+  pub all : count ≡ n → n ≤ leading 32 126 line
+  pub some : count < n → leading 32 126 line < n
+
+-- a word that is a number is one that a field may spell
+abbrev pub Small : Word → Type 0
+Small Blank = Unit {0}
+Small Dash = Unit {0}
+Small (Number digits power) = Spelled digits power
+Small Other = Unit {0}
+
+-- 256 × the digits + 128 + the power, which lies from -111 to 99
+abbrev pub packedNumber : ℕ → ℤ → ℕ
+packedNumber digits power = 256 * digits + (128 + above power - below power)
+
+-- 0 where there is no value
+unfoldable pub packedOf : Word → ℕ
+packedOf Blank = 0
+packedOf Dash = 0
+packedOf (Number digits power) = packedNumber digits power
+packedOf Other = 0
+
+unfoldable pub unpackedOf : ℕ → Value
+unpackedOf v = cond (eqb v 0) Absent (Printed (subℕ (v % 256) 128) (v / 256))
+
+-- field f, from 0, of a line
+unfoldable pub packedIn : List ℕ → ℕ → ℕ
+packedIn line f = packedOf (wordOf (fieldIn line (f + 1)))
+
+-- field i, from 0, of a deck, its lines in turn
+unfoldable pub packedAt : List ℕ → ℕ → ℕ
+packedAt deck i = packedOf (wordOf (fieldOf deck (i / fieldsPerLine + 1) (i % fieldsPerLine + 1)))
+
+-- the fields of the longest deck
+abbrev pub maxFields : ℕ
+maxFields = fieldsPerLine * (siteLines + recordLines * (maxChemicals + mostReceptors) + 1)
+
+-- all of a deck's; those that it lacks have no value
+unfoldable pub packedFields : List ℕ → List ℕ
+packedFields deck = tabulate maxFields (packedAt deck)
