@@ -21,3 +21,4 @@ mod Answers
 mod Sizes
 pub mod Promises
 mod Worked
+mod Steps
