@@ -29,14 +29,20 @@ pub struct Values {
 }
 
 impl Values {
-    // The value at a place, to begin a chain of calls; a place that no slot has reads as 1, as a missing reference value does.
+    // The value at a place; a place that no slot has reads as 1, as a missing reference value does.
+    pub fn value(self, place: usize) -> Pair
+        ensures { λ r. ⌜ r ≡ valueIn self place ⌝ }
+    {
+        if SLOTS <= place {
+            return Pair::ONE;
+        }
+        self.list[place]
+    }
+
+    // The same, to begin a chain of calls.
     pub fn at(self, place: usize) -> Answer
         ensures { λ r. ⌜ answer r ≡ is (valueIn self place) ⌝ }
     {
-        if SLOTS <= place {
-            return Pair::ONE.answer();
-        }
-        let value = self.list[place];
-        value.answer()
+        self.value(place).answer()
     }
 }

@@ -21,4 +21,5 @@ mod Answers
 mod Sizes
 pub mod Promises
 mod Worked
+mod Steps
 pub mod Settling

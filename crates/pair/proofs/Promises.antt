@@ -445,13 +445,16 @@ entry-written m k e l h n =
     provided-true (ends (rounded false m 1 e) (rounded true m 1 e)) (both-from (le-leb m mostPrinted (digits-few m k h)) (size-reach e (omega arith)))
     ∙ ap₂ ends low high ∙ ends-from v v r r
 
--- 1, 64 and 0 as entries.
+-- 1, 64, 0.000001 and 0 as entries.
 pub one-entry : entry 1 (pos 0) ≡ is onePair
 unfolding onePair one
 one-entry = entry-written 1 8 (pos 0) (lit≤ tt) (lit≤ tt) (lit≤ tt)
 
 pub sixty-four-entry : entry 64 (pos 0) ≡ is (pair (number 640000000 (negsuc 6)) (number 640000000 (negsuc 6)))
 sixty-four-entry = entry-written 64 7 (pos 0) (lit≤ tt) (lit≤ tt) (lit≤ tt)
+
+pub per-million-entry : entry 1 (negsuc 5) ≡ is (pair (number 100000000 (negsuc 13)) (number 100000000 (negsuc 13)))
+per-million-entry = entry-written 1 8 (negsuc 5) (lit≤ tt) (lit≤ tt) (lit≤ tt)
 
 pub zero-entry : (e : ℤ) → inReach e ≡ true → entry 0 e ≡ is zeroPair
 unfolding entry rounded zeroPair

@@ -11,6 +11,8 @@ use Rattle.pair.specs.declared.Pair.{Pair}
 use Rattle.pair.specs.declared.Units.{Units}
 use Rattle.pair.specs.declared.Answer.{Answer}
 use Rattle.pair.specs.declared.Answer.the-variants as Answers
+use Rattle.pair.specs.declared.Step.{Step}
+use Rattle.pair.specs.declared.Step.the-variants as Steps
 use Rattle.pair.specs.declared.Order.{Order}
 use Rattle.pair.specs.declared.Order.the-variants as Orders
 use Rattle.pair.specs.declared.Count.{Count}
@@ -87,6 +89,11 @@ unfoldable pub quotient : Pair → Pair → Outcome Pair
 quotient p q =
     provided (isPair p && (isPair q && not (isZero (q .low))))
     (ends (quotientEnd false (p .low) (q .high)) (quotientEnd true (p .high) (q .low)))
+
+-- a step of a chain: × or /
+unfoldable pub stepped : Step → Pair → Pair → Outcome Pair
+stepped Steps.Times p q = product p q
+stepped Steps.Over p q = quotient p q
 
 -- 1 − f: the low end from f's high end, the high end from f's low end
 unfoldable pub oneMinus : Pair → Outcome Pair

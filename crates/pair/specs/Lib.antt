@@ -3,5 +3,6 @@ pub mod Fraction
 pub mod Number
 pub mod Rounding
 pub mod Calls
+pub mod Inner
 pub mod Promises
 pub mod Figures

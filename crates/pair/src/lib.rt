@@ -23,8 +23,9 @@ use crate::rounding::figured;
 use crate::rounding::normal;
 ghost use mathlib.Core.Path.{_≡_};
 ghost use mathlib.Core.Bool.{true};
-ghost use Rattle.pair.specs.Number.{isPair};
+ghost use Rattle.pair.specs.Number.{isNumber, isPair};
 ghost use Rattle.pair.specs.Calls as calls;
+ghost use Rattle.pair.specs.Inner.{isOperand, lowBy, highBy, bothInReach};
 
 // A working number: 0, held as 0 and 0, or significand × 10^exponent with nine figures and an exponent from −99,999 to 99,999.
 pub struct Number {
@@ -42,6 +43,12 @@ pub struct Pair {
 pub enum Answer {
     Is(Pair),
     Refused,
+}
+
+// A step of a chain of calls: × or /.
+pub enum Step {
+    Times,
+    Over,
 }
 
 // What a comparison answers. Refused is document 01's 53.
@@ -115,32 +122,78 @@ fn answered(low: Number, high: Number) -> Answer
     Answer::Is(Pair { low, high })
 }
 
-// p × q / d. The product is a pair if its exponents stayed in reach, so no more of it is looked at again.
-fn product_over(p: Pair, q: Pair, d: Pair) -> Answer
-    ensures { λ r. ⌜ calls.answer r ≡ calls.after calls.quotient (calls.product p q) (calls.is d) ⌝ }
+// Whether q can be a step's second operand: a pair, whose low end is not 0 where it divides.
+fn is_operand(step: Step, q: Pair) -> bool
+    ensures { λ r. ⌜ r ≡ isOperand step q ⌝ }
 {
-    if !is_pair(p) {
-        return Answer::Refused;
-    }
     if !is_pair(q) {
-        return Answer::Refused;
+        return false;
     }
-    let low = product(false, p.low, q.low);
-    let high = product(true, p.high, q.high);
+    match step {
+        Step::Times => true,
+        Step::Over => {
+            let least = q.low;
+            least.significand != 0
+        }
+    }
+}
+
+// The low end of a step from a pair with this low end: by the divisor's high end.
+fn low_by(step: Step, low: Number, q: Pair) -> Number
+    requires { ⌜ (isNumber low ≡ true) × (isOperand step q ≡ true) ⌝ }
+    ensures { λ r. ⌜ r ≡ lowBy step low q ⌝ }
+{
+    match step {
+        Step::Times => product(false, low, q.low),
+        Step::Over => quotient(false, low, q.high),
+    }
+}
+
+// The high end: by the divisor's low end.
+fn high_by(step: Step, high: Number, q: Pair) -> Number
+    requires { ⌜ (isNumber high ≡ true) × (isOperand step q ≡ true) ⌝ }
+    ensures { λ r. ⌜ r ≡ highBy step high q ⌝ }
+{
+    match step {
+        Step::Times => product(true, high, q.high),
+        Step::Over => quotient(true, high, q.low),
+    }
+}
+
+fn both_in_reach(low: Number, high: Number) -> bool
+    ensures { λ r. ⌜ r ≡ bothInReach low high ⌝ }
+{
     if !in_reach(low.exponent) {
+        return false;
+    }
+    in_reach(high.exponent)
+}
+
+// The last step of a chain, from the two ends of a pair.
+fn last(low: Number, high: Number, step: Step, q: Pair) -> Answer
+    requires { ⌜ isPair (record { low = low; high = high }) ≡ true ⌝ }
+    ensures { λ r. ⌜ calls.answer r ≡ calls.stepped step (record { low = low; high = high }) q ⌝ }
+{
+    if !is_operand(step, q) {
         return Answer::Refused;
     }
-    if !in_reach(high.exponent) {
+    answered(low_by(step, low, q), high_by(step, high, q))
+}
+
+// The last two. What the first of them gives is a pair if its exponents stayed in reach, so no more of it is looked at again.
+fn last_two(low: Number, high: Number, step: Step, q: Pair, next: Step, d: Pair) -> Answer
+    requires { ⌜ isPair (record { low = low; high = high }) ≡ true ⌝ }
+    ensures { λ r. ⌜ calls.answer r ≡ calls.after (calls.stepped next) (calls.stepped step (record { low = low; high = high }) q) (calls.is d) ⌝ }
+{
+    if !is_operand(step, q) {
         return Answer::Refused;
     }
-    if !is_pair(d) {
+    let lower = low_by(step, low, q);
+    let upper = high_by(step, high, q);
+    if !both_in_reach(lower, upper) {
         return Answer::Refused;
     }
-    let least = d.low;
-    if least.significand == 0 {
-        return Answer::Refused;
-    }
-    answered(quotient(false, low, d.high), quotient(true, high, least))
+    last(lower, upper, next, d)
 }
 
 impl Number {
@@ -415,7 +468,39 @@ impl Answer {
         let Answer::Is(d) = divisor else {
             return Answer::Refused;
         };
-        product_over(p, factor, d)
+        if !is_pair(p) {
+            return Answer::Refused;
+        }
+        last_two(p.low, p.high, Step::Times, factor, Step::Over, d)
+    }
+
+    // Three steps one after the other, worked on numbers: no answer passes from one to the next.
+    pub fn through(
+        self,
+        first: Step,
+        a: Pair,
+        second: Step,
+        b: Pair,
+        third: Step,
+        c: Pair,
+    ) -> Answer
+        ensures { λ r. ⌜ calls.answer r ≡ calls.after (calls.stepped third) (calls.after (calls.stepped second) (calls.after (calls.stepped first) (calls.answer self) (calls.is a)) (calls.is b)) (calls.is c) ⌝ }
+    {
+        let Answer::Is(p) = self else {
+            return Answer::Refused;
+        };
+        if !is_pair(p) {
+            return Answer::Refused;
+        }
+        if !is_operand(first, a) {
+            return Answer::Refused;
+        }
+        let low = low_by(first, p.low, a);
+        let high = high_by(first, p.high, a);
+        if !both_in_reach(low, high) {
+            return Answer::Refused;
+        }
+        last_two(low, high, second, b, third, c)
     }
 
     pub fn one_minus(self) -> Answer

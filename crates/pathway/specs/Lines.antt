@@ -1,14 +1,16 @@
 -- The six pathways of document 01 by the working rule. A concentration, an intake factor, a dose and a reference value are quantities of
 -- their own: factor × concentration is a dose, a dose by an RfD is a quotient, and a dose times a CSF is a risk.
 use Rattle.pair.specs.declared.Pair.{Pair}
-use Rattle.pair.specs.Calls.{Outcome, is, refused, mapped, checked, after, afterOne, product, quotient}
+use Rattle.pair.specs.Calls.{Outcome, is, refused, answer, mapped, checked, after, afterOne, product, quotient}
 use Rattle.equations.specs.declared.Pathway.{Pathway}
+use Rattle.equations.specs.declared.Pathway.the-variants.{Air, SoilSummer, SoilWinter, Skin, AboveGround, BelowGround}
 use Rattle.equations.specs.declared.Effect.{Effect}
 use Rattle.equations.specs.declared.Effect.the-variants.{Hazard, Cancer}
 use Rattle.equations.specs.declared.Values.{Values}
-use Rattle.equations.specs.Formula.{Formula, pairs}
-use Rattle.equations.specs.Page.{factor, byMedium, intakeBy, byRoute, figureBy}
-use Rattle.equations.specs.Readings.{plain, inputs}
+use Rattle.equations.specs.Formula.{Formula, _⊕_, _⊗_, pairs}
+use Rattle.equations.specs.Letters.{FRsnow, AFinh, AForal, AFderm, ED, IRinh, ETinh, EFinh, IRsoil, ETsoil, EFs, EFw, SAb, SAFb, SAh, SAFh, ETderm, IRag, Fag, IRbg, Fbg, WP, EFp}
+use Rattle.equations.specs.Page.{perMillion, B, factor, byMedium, intakeBy, byRoute, figureBy}
+use Rattle.equations.specs.Readings.{plain, inputs, noValues}
 use Rattle.media.specs.declared.Conc.{Conc}
 use Rattle.media.specs.declared.Media.{Media}
 use Rattle.pathway.specs.declared.Factor.{Factor}
@@ -27,6 +29,7 @@ use Rattle.pathway.specs.declared.Dosed.the-variants as Doses
 use Rattle.pathway.specs.declared.Figure.{Figure}
 use Rattle.pathway.specs.declared.Figure.the-variants as Figures
 use Rattle.pathway.specs.declared.Line.{Line}
+use Rattle.pathway.specs.declared.Habits.{Habits}
 
 -- a value, or none where the reference value is missing
 pub data Optional (A : Type 0) : Type 0 where
@@ -107,4 +110,89 @@ figuresOf p s c r m refs =
     record {
       hazard = quotientOf (doseOf (factorOf Hazard p s c r) medium) (byRoute p (refs .«rfd_i») (refs .«rfd_o»));
       cancer = riskOf (doseOf (factorOf Cancer p s c r) medium) (byRoute p (refs .«csf_i») (refs .«csf_o»));
+    }
+
+-- ---- what a receptor's lines share
+-- a formula with a receptor's letters alone
+unfoldable pub workedOf : Values → Formula → Outcome Pair
+workedOf r f = workedFor noValues noValues r f
+
+-- what an exposure begins with, before the chemical's letter
+unfoldable pub begins : Pathway → Formula
+begins Air = IRinh
+begins SoilSummer = IRsoil
+begins SoilWinter = IRsoil
+begins Skin = SAb ⊗ SAFb ⊕ SAh ⊗ SAFh
+begins AboveGround = IRag ⊗ Fag ⊗ WP
+begins BelowGround = IRbg ⊗ Fbg ⊗ WP
+
+-- and what it goes on with, in any reading of × and of the letters
+unfoldable pub onward : {A : Type 0} → (A → A → A) → (Formula → A) → Pathway → A → A
+onward times v Air x = times (times (times (times x (v AFinh)) (v ETinh)) (v EFinh)) (v ED)
+onward times v SoilSummer x = times (times (times (times (times x (v AForal)) (v ETsoil)) (v EFs)) (v ED)) (v perMillion)
+onward times v SoilWinter x = times (times (times (times (times (times x (v AForal)) (v FRsnow)) (v ETsoil)) (v EFw)) (v ED)) (v perMillion)
+onward times v Skin x = times (times (times (times (times x (v AFderm)) (v ETderm)) (v EFs)) (v ED)) (v perMillion)
+onward times v AboveGround x = times (times (times x (v AForal)) (v EFp)) (v ED)
+onward times v BelowGround x = times (times (times x (v AForal)) (v EFp)) (v ED)
+
+-- B of each effect, the soil held on the skin and the produce eaten
+pub record Shared : Type 0 where
+  pub hazard : Outcome Pair
+  pub cancer : Outcome Pair
+  pub skin : Outcome Pair
+  pub «above_ground» : Outcome Pair
+  pub «below_ground» : Outcome Pair
+
+unfoldable pub shared : Habits → Shared
+shared h =
+    record {
+      hazard = answer (h .hazard);
+      cancer = answer (h .cancer);
+      skin = answer (h .skin);
+      «above_ground» = answer (h .«above_ground»);
+      «below_ground» = answer (h .«below_ground»);
+    }
+
+unfoldable pub habitsOf : Values → Shared
+habitsOf r =
+    record {
+      hazard = workedOf r (B Hazard);
+      cancer = workedOf r (B Cancer);
+      skin = workedOf r (begins Skin);
+      «above_ground» = workedOf r (begins AboveGround);
+      «below_ground» = workedOf r (begins BelowGround);
+    }
+
+unfoldable pub baseIn : Shared → Effect → Outcome Pair
+baseIn h Hazard = h .hazard
+baseIn h Cancer = h .cancer
+
+unfoldable pub begunIn : Shared → Values → Pathway → Outcome Pair
+begunIn h r Air = workedOf r (begins Air)
+begunIn h r SoilSummer = workedOf r (begins SoilSummer)
+begunIn h r SoilWinter = workedOf r (begins SoilWinter)
+begunIn h r Skin = h .skin
+begunIn h r AboveGround = h .«above_ground»
+begunIn h r BelowGround = h .«below_ground»
+
+unfoldable pub exposureWith : Shared → Pathway → Values → Values → Values → Outcome Pair
+exposureWith h p s c r = onward (after product) (workedFor s c r) p (begunIn h r p)
+
+-- exposure / B
+unfoldable pub factorWith : Outcome Pair → Outcome Pair → Outcome Factor
+factorWith exposure base = mapped (λ (q : Pair). record { 0 = q }) (after quotient exposure base)
+
+-- the figure of a dose that is worked only where it has a reference value: none without one, whatever the dose
+unfoldable pub figureIfGiven : Effect → Outcome Dose → Optional Pair → Outcome (Optional Pair)
+figureIfGiven e d (some v) = figureOf e d (some v)
+figureIfGiven e d none = is none
+
+-- a line's two figures, from what its receptor's lines share
+unfoldable pub figuresWith : Shared → Pathway → Values → Values → Values → Media → References → Figured
+figuresWith h p s c r m refs =
+    let medium : Conc = concentrationFor p m in
+    let exposure : Outcome Pair = exposureWith h p s c r in
+    record {
+      hazard = figureIfGiven Hazard (doseOf (factorWith exposure (baseIn h Hazard)) medium) (rfdValue (rfdGiven (byRoute p (refs .«rfd_i») (refs .«rfd_o»))));
+      cancer = figureIfGiven Cancer (doseOf (factorWith exposure (baseIn h Cancer)) medium) (csfValue (csfGiven (byRoute p (refs .«csf_i») (refs .«csf_o»))));
     }

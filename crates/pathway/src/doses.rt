@@ -8,10 +8,12 @@ use crate::GivenCsf;
 use crate::GivenRfd;
 use media::Conc;
 use pair::Answer;
+use pair::Step;
 ghost use mathlib.Core.Path.{_≡_};
+ghost use Rattle.equations.specs.declared.Effect.the-variants.{Hazard, Cancer};
 ghost use Rattle.pair.specs.declared.Pair.{Pair};
 ghost use Rattle.pair.specs.Calls.{answer, after, quotient, mapped};
-ghost use Rattle.pathway.specs.Lines.{factored, dosed, figure, some, doseOf, quotientOf, riskOf};
+ghost use Rattle.pathway.specs.Lines.{factored, dosed, figure, some, rfdGiven, rfdValue, csfGiven, csfValue, factorWith, doseOf, quotientOf, riskOf, figureIfGiven};
 ghost use Rattle.pathway.specs.Inner.{absentFor};
 
 // exposure / B.
@@ -81,4 +83,44 @@ pub(crate) fn risk_of(dose: Dosed, csf: GivenCsf) -> Figure
         return absent_figure(d);
     };
     worked_figure(d.0.product(slope.0))
+}
+
+// exposure / B × concentration / RfD; no figure without the reference value, whatever the dose.
+pub(crate) fn hazard_from(exposure: Answer, base: Answer, medium: Conc, rfd: GivenRfd) -> Figure
+    ensures { λ r. ⌜ figure r ≡ figureIfGiven Hazard (doseOf (factorWith (answer exposure) (answer base)) medium) (rfdValue (rfdGiven rfd)) ⌝ }
+{
+    let GivenRfd::Is(least) = rfd else {
+        return Figure::Absent;
+    };
+    let Answer::Is(b) = base else {
+        return Figure::Refused;
+    };
+    worked_figure(exposure.through(
+        Step::Over,
+        b,
+        Step::Times,
+        medium.pair(),
+        Step::Over,
+        least.0,
+    ))
+}
+
+// exposure / B × concentration × CSF, likewise.
+pub(crate) fn cancer_from(exposure: Answer, base: Answer, medium: Conc, csf: GivenCsf) -> Figure
+    ensures { λ r. ⌜ figure r ≡ figureIfGiven Cancer (doseOf (factorWith (answer exposure) (answer base)) medium) (csfValue (csfGiven csf)) ⌝ }
+{
+    let GivenCsf::Is(slope) = csf else {
+        return Figure::Absent;
+    };
+    let Answer::Is(b) = base else {
+        return Figure::Refused;
+    };
+    worked_figure(exposure.through(
+        Step::Over,
+        b,
+        Step::Times,
+        medium.pair(),
+        Step::Times,
+        slope.0,
+    ))
 }

@@ -3,7 +3,9 @@ use equations::Effect;
 use equations::Pathway;
 use equations::Values;
 use pair::Answer;
+use pair::Number;
 use pair::Pair;
+use pair::Step;
 use slots::AF_DERM;
 use slots::AF_INH;
 use slots::AF_ORAL;
@@ -30,14 +32,26 @@ use slots::SAF_B;
 use slots::SAF_H;
 use slots::WP;
 ghost use mathlib.Core.Path.{_≡_};
-ghost use Rattle.pair.specs.Calls.{answer};
+ghost use Rattle.pair.specs.Calls.{answer, is, after, product};
 ghost use Rattle.equations.specs.Page as page;
-ghost use Rattle.equations.specs.declared.Pathway.the-variants.{Air, SoilSummer, SoilWinter, Skin, AboveGround, BelowGround};
-ghost use Rattle.pathway.specs.Lines.{workedFor};
+ghost use Rattle.equations.specs.declared.Pathway.the-variants.{Air, SoilSummer, SoilWinter, Skin, AboveGround};
+ghost use Rattle.pathway.specs.Lines.{workedFor, workedOf, begins, onward};
+
+// 0.000001, kg/mg.
+const PER_MILLION: Pair = Pair {
+    low: Number {
+        significand: 100_000_000,
+        exponent: -14,
+    },
+    high: Number {
+        significand: 100_000_000,
+        exponent: -14,
+    },
+};
 
 // B = BW × AT.
-pub(crate) fn base_of(s: Values, c: Values, r: Values, effect: Effect) -> Answer
-    ensures { λ a. ⌜ answer a ≡ workedFor s c r (page.B effect) ⌝ }
+pub(crate) fn base_of(r: Values, effect: Effect) -> Answer
+    ensures { λ a. ⌜ answer a ≡ workedOf r (page.B effect) ⌝ }
 {
     match effect {
         Effect::Hazard => r.at(BW).times(Pair::entry(365, 0).times(r.at(ED))),
@@ -45,71 +59,85 @@ pub(crate) fn base_of(s: Values, c: Values, r: Values, effect: Effect) -> Answer
     }
 }
 
-fn air(s: Values, c: Values, r: Values) -> Answer
-    ensures { λ a. ⌜ answer a ≡ workedFor s c r (page.exposure Air) ⌝ }
-{
-    let inhaled = r.at(IR_INH).times(c.at(AF_INH));
-    inhaled
-        .times(r.at(ET_INH))
-        .times(r.at(EF_INH))
-        .times(r.at(ED))
-}
-
-fn soil_summer(s: Values, c: Values, r: Values) -> Answer
-    ensures { λ a. ⌜ answer a ≡ workedFor s c r (page.exposure SoilSummer) ⌝ }
-{
-    let eaten = r.at(IR_SOIL).times(c.at(AF_ORAL)).times(r.at(ET_SOIL));
-    eaten
-        .times(r.at(EF_S))
-        .times(r.at(ED))
-        .times(Pair::entry(1, -6))
-}
-
-fn soil_winter(s: Values, c: Values, r: Values) -> Answer
-    ensures { λ a. ⌜ answer a ≡ workedFor s c r (page.exposure SoilWinter) ⌝ }
-{
-    let bare = r.at(IR_SOIL).times(c.at(AF_ORAL)).times(s.at(FR_SNOW));
-    let eaten = bare.times(r.at(ET_SOIL));
-    eaten
-        .times(r.at(EF_W))
-        .times(r.at(ED))
-        .times(Pair::entry(1, -6))
-}
-
-fn skin(s: Values, c: Values, r: Values) -> Answer
-    ensures { λ a. ⌜ answer a ≡ workedFor s c r (page.exposure Skin) ⌝ }
+// Soil held on the skin.
+fn held(r: Values) -> Answer
+    ensures { λ a. ⌜ answer a ≡ workedOf r (begins Skin) ⌝ }
 {
     let body = r.at(SA_B).times(r.at(SAF_B));
     let hands = r.at(SA_H).times(r.at(SAF_H));
-    let held = body.plus(hands).times(c.at(AF_DERM)).times(r.at(ET_DERM));
-    held.times(r.at(EF_S))
-        .times(r.at(ED))
-        .times(Pair::entry(1, -6))
+    body.plus(hands)
 }
 
-fn above_ground(s: Values, c: Values, r: Values) -> Answer
-    ensures { λ a. ⌜ answer a ≡ workedFor s c r (page.exposure AboveGround) ⌝ }
+// What an exposure begins with, before the chemical's letter.
+pub(crate) fn begun_of(r: Values, pathway: Pathway) -> Answer
+    ensures { λ a. ⌜ answer a ≡ workedOf r (begins pathway) ⌝ }
 {
-    let eaten = r.at(IR_AG).times(r.at(F_AG)).times(r.at(WP));
-    eaten.times(c.at(AF_ORAL)).times(r.at(EF_P)).times(r.at(ED))
+    match pathway {
+        Pathway::Air => r.at(IR_INH),
+        Pathway::SoilSummer => r.at(IR_SOIL),
+        Pathway::SoilWinter => r.at(IR_SOIL),
+        Pathway::Skin => held(r),
+        Pathway::AboveGround => r.at(IR_AG).times(r.at(F_AG)).times(r.at(WP)),
+        Pathway::BelowGround => r.at(IR_BG).times(r.at(F_BG)).times(r.at(WP)),
+    }
 }
 
-fn below_ground(s: Values, c: Values, r: Values) -> Answer
-    ensures { λ a. ⌜ answer a ≡ workedFor s c r (page.exposure BelowGround) ⌝ }
+fn times_three(x: Answer, a: Pair, b: Pair, c: Pair) -> Answer
+    ensures { λ r. ⌜ answer r ≡ after product (after product (after product (answer x) (is a)) (is b)) (is c) ⌝ }
 {
-    let eaten = r.at(IR_BG).times(r.at(F_BG)).times(r.at(WP));
-    eaten.times(c.at(AF_ORAL)).times(r.at(EF_P)).times(r.at(ED))
+    x.through(Step::Times, a, Step::Times, b, Step::Times, c)
+}
+
+fn air(s: Values, c: Values, r: Values, begun: Answer) -> Answer
+    ensures { λ a. ⌜ answer a ≡ onward (after product) (workedFor s c r) Air (answer begun) ⌝ }
+{
+    let inhaled = times_three(begun, c.value(AF_INH), r.value(ET_INH), r.value(EF_INH));
+    inhaled.times(r.at(ED))
+}
+
+fn soil_summer(s: Values, c: Values, r: Values, begun: Answer) -> Answer
+    ensures { λ a. ⌜ answer a ≡ onward (after product) (workedFor s c r) SoilSummer (answer begun) ⌝ }
+{
+    let eaten = begun.times(c.at(AF_ORAL)).times(r.at(ET_SOIL));
+    times_three(eaten, r.value(EF_S), r.value(ED), PER_MILLION)
+}
+
+fn soil_winter(s: Values, c: Values, r: Values, begun: Answer) -> Answer
+    ensures { λ a. ⌜ answer a ≡ onward (after product) (workedFor s c r) SoilWinter (answer begun) ⌝ }
+{
+    let eaten = times_three(begun, c.value(AF_ORAL), s.value(FR_SNOW), r.value(ET_SOIL));
+    times_three(eaten, r.value(EF_W), r.value(ED), PER_MILLION)
+}
+
+fn skin(s: Values, c: Values, r: Values, begun: Answer) -> Answer
+    ensures { λ a. ⌜ answer a ≡ onward (after product) (workedFor s c r) Skin (answer begun) ⌝ }
+{
+    let taken = begun.times(c.at(AF_DERM)).times(r.at(ET_DERM));
+    times_three(taken, r.value(EF_S), r.value(ED), PER_MILLION)
+}
+
+fn produce(s: Values, c: Values, r: Values, begun: Answer) -> Answer
+    ensures { λ a. ⌜ answer a ≡ onward (after product) (workedFor s c r) AboveGround (answer begun) ⌝ }
+{
+    times_three(begun, c.value(AF_ORAL), r.value(EF_P), r.value(ED))
+}
+
+// An exposure from what it begins with.
+pub(crate) fn gone_on(s: Values, c: Values, r: Values, pathway: Pathway, begun: Answer) -> Answer
+    ensures { λ a. ⌜ answer a ≡ onward (after product) (workedFor s c r) pathway (answer begun) ⌝ }
+{
+    match pathway {
+        Pathway::Air => air(s, c, r, begun),
+        Pathway::SoilSummer => soil_summer(s, c, r, begun),
+        Pathway::SoilWinter => soil_winter(s, c, r, begun),
+        Pathway::Skin => skin(s, c, r, begun),
+        Pathway::AboveGround => produce(s, c, r, begun),
+        Pathway::BelowGround => produce(s, c, r, begun),
+    }
 }
 
 pub(crate) fn exposure_of(s: Values, c: Values, r: Values, pathway: Pathway) -> Answer
     ensures { λ a. ⌜ answer a ≡ workedFor s c r (page.exposure pathway) ⌝ }
 {
-    match pathway {
-        Pathway::Air => air(s, c, r),
-        Pathway::SoilSummer => soil_summer(s, c, r),
-        Pathway::SoilWinter => soil_winter(s, c, r),
-        Pathway::Skin => skin(s, c, r),
-        Pathway::AboveGround => above_ground(s, c, r),
-        Pathway::BelowGround => below_ground(s, c, r),
-    }
+    gone_on(s, c, r, pathway, begun_of(r, pathway))
 }

@@ -2,17 +2,22 @@
 mod doses;
 mod exposure;
 
+use crate::doses::cancer_from;
 use crate::doses::dose_of;
 use crate::doses::factor_of;
+use crate::doses::hazard_from;
 use crate::doses::quotient_of;
 use crate::doses::risk_of;
 use crate::exposure::base_of;
+use crate::exposure::begun_of;
 use crate::exposure::exposure_of;
+use crate::exposure::gone_on;
 use equations::Effect;
 use equations::Pathway;
 use equations::Values;
 use media::Conc;
 use media::Media;
+use pair::Answer;
 use pair::Pair;
 ghost use mathlib.Core.Path.{_≡_};
 ghost use mathlib.Core.Bool.{true, false};
@@ -75,6 +80,15 @@ pub struct Line {
     pub cancer: Figure,
 }
 
+// What a receptor's lines share, whatever the chemical: B of each effect, the soil held on the skin and the produce eaten.
+pub struct Habits {
+    pub hazard: Answer,
+    pub cancer: Answer,
+    pub skin: Answer,
+    pub above_ground: Answer,
+    pub below_ground: Answer,
+}
+
 // The concentration of a pathway's medium.
 fn medium_of(pathway: Pathway, media: Media) -> Conc
     ensures { λ r. ⌜ r ≡ specs.concentrationFor pathway media ⌝ }
@@ -133,7 +147,7 @@ pub fn intake_factor(
 {
     factor_of(
         exposure_of(site, chemical, receptor, pathway),
-        base_of(site, chemical, receptor, effect),
+        base_of(receptor, effect),
     )
 }
 
@@ -170,11 +184,66 @@ pub fn figures(
     ensures { λ r. ⌜ specs.figured r ≡ specs.figuresOf pathway site chemical receptor media references ⌝ }
 {
     let exposure = exposure_of(site, chemical, receptor, pathway);
-    let noncancer = factor_of(exposure, base_of(site, chemical, receptor, Effect::Hazard));
-    let lifetime = factor_of(exposure, base_of(site, chemical, receptor, Effect::Cancer));
+    let noncancer = factor_of(exposure, base_of(receptor, Effect::Hazard));
+    let lifetime = factor_of(exposure, base_of(receptor, Effect::Cancer));
     let medium = medium_of(pathway, media);
     Line {
         hazard: quotient_of(dose_of(noncancer, medium), rfd_of(pathway, references)),
         cancer: risk_of(dose_of(lifetime, medium), csf_of(pathway, references)),
+    }
+}
+
+// What the lines of a receptor share.
+pub fn habits_of(receptor: Values) -> Habits
+    ensures { λ r. ⌜ specs.shared r ≡ specs.habitsOf receptor ⌝ }
+{
+    Habits {
+        hazard: base_of(receptor, Effect::Hazard),
+        cancer: base_of(receptor, Effect::Cancer),
+        skin: begun_of(receptor, Pathway::Skin),
+        above_ground: begun_of(receptor, Pathway::AboveGround),
+        below_ground: begun_of(receptor, Pathway::BelowGround),
+    }
+}
+
+// What an exposure begins with.
+fn begun_in(habits: Habits, receptor: Values, pathway: Pathway) -> Answer
+    ensures { λ r. ⌜ calls.answer r ≡ specs.begunIn (specs.shared habits) receptor pathway ⌝ }
+{
+    match pathway {
+        Pathway::Air => begun_of(receptor, Pathway::Air),
+        Pathway::SoilSummer => begun_of(receptor, Pathway::SoilSummer),
+        Pathway::SoilWinter => begun_of(receptor, Pathway::SoilWinter),
+        Pathway::Skin => habits.skin,
+        Pathway::AboveGround => habits.above_ground,
+        Pathway::BelowGround => habits.below_ground,
+    }
+}
+
+// Both figures of a line, from what the receptor's lines share; where a reference value is missing, no dose is worked.
+pub fn figures_with(
+    habits: Habits,
+    pathway: Pathway,
+    site: Values,
+    chemical: Values,
+    receptor: Values,
+    media: Media,
+    references: References,
+) -> Line
+    ensures { λ r. ⌜ specs.figured r ≡ specs.figuresWith (specs.shared habits) pathway site chemical receptor media references ⌝ }
+{
+    let exposure = gone_on(
+        site,
+        chemical,
+        receptor,
+        pathway,
+        begun_in(habits, receptor, pathway),
+    );
+    let noncancer = habits.hazard;
+    let lifetime = habits.cancer;
+    let medium = medium_of(pathway, media);
+    Line {
+        hazard: hazard_from(exposure, noncancer, medium, rfd_of(pathway, references)),
+        cancer: cancer_from(exposure, lifetime, medium, csf_of(pathway, references)),
     }
 }

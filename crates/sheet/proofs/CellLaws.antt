@@ -1,12 +1,14 @@
 -- Cells: what a store of a line's counts changes, and what the cells hold after the lines of a receptor, and of every receptor, are stored.
 -- Assumes nothing.
 use mathlib.Core.Path.{_≡_, refl, sym, ap, _∙_}
+use mathlib.Core.Bool.{Bool, true, false}
 use mathlib.Core.List.{List}
 use mathlib.Core.Logic.{⊎-elim, _≢_}
-use Prim.Native.Nat.{ℕ, zero, suc, _+_, _*_, _≤_, _<_}
+use Prim.Native.Nat.{ℕ, zero, suc, _+_, _*_, _-_, _≤_, _<_}
 use native.Mathlib.Nat.{eq-or-lt-of-le}
 use native.Mathlib.Omega.{arith}
-use lib.Dec.{lit<}
+use borrow.Author.Tests.{ltb-true, ltb-false}
+use lib.Dec.{ltb, lit<}
 use lib.ListN.{length, getD, set, replicate, length-set}
 use lib.Seq.{ext-getD, getD-set-same, getD-set-other}
 use Rattle.equations.specs.declared.Effect.{Effect}
@@ -19,7 +21,7 @@ use Rattle.sheet.specs.declared.Receptor.{Receptor}
 use Rattle.sheet.specs.declared.Sources.{Sources}
 use Rattle.sheet.specs.Values.{noReceptor}
 use Rattle.sheet.specs.Counts.{Part, Mark, Low, High, cellOf, sideOf, noCells}
-use Rattle.sheet.specs.Inner.{withCounts, columnsWorked, partOf, CellsHold, CellsEmpty, CellsFilled, SameBelow, ZeroFrom}
+use Rattle.sheet.specs.Inner.{withCounts, columnsWorked, partOf, CellsHold, CellsEmpty, CellsFilled, SameBelow, SameBut, ZeroFrom}
 
 pub side-small : (e : Effect) → sideOf e < 2
 unfolding sideOf
@@ -98,9 +100,14 @@ module _ (cells : List ℕ) (base q : ℕ) (u v : Columns) where
   line-other k a b c d e f =
       counts-other (withCounts cells (base + q) u) (base + q + 288) v k d (λ z. e (omega arith)) (λ z. f (omega arith)) ∙ counts-other cells (base + q) u k a b c
 
-  pub line-below : (entry : List ℕ) → SameBelow base entry cells → SameBelow base entry lineStored
-  line-below entry same k h =
-      line-other k (λ z. omega arith) (λ z. omega arith) (λ z. omega arith) (λ z. omega arith) (λ z. omega arith) (λ z. omega arith) ∙ same k h
+  -- the cells of other lines stay
+  pub line-others : (n : ℕ) (entry : List ℕ) → q < n → SameBut n base entry cells → SameBut n base entry lineStored
+  unfolding sideOf partOf
+  line-others n entry l same k other =
+      line-other k
+      (λ z. other Hazard Mark q l (omega arith)) (λ z. other Hazard Low q l (omega arith)) (λ z. other Hazard High q l (omega arith))
+      (λ z. other Cancer Mark q l (omega arith)) (λ z. other Cancer Low q l (omega arith)) (λ z. other Cancer High q l (omega arith))
+      ∙ same k other
 
   module _ (small : q < 96) where
     -- another line's cell
@@ -111,14 +118,7 @@ module _ (cells : List ℕ) (base q : ℕ) (u v : Columns) where
         line-other (base + 288 * sideOf e + 96 * partOf w + k)
         (λ z. n (omega arith)) (λ z. n (omega arith)) (λ z. n (omega arith)) (λ z. n (omega arith)) (λ z. n (omega arith)) (λ z. n (omega arith))
 
-    pub line-empty : CellsEmpty q cells base → CellsEmpty (q + 1) lineStored base
-    line-empty empty e w k h l = line-apart e w k (λ z. omega arith) l ∙ empty e w k (omega arith) l
-
-    pub line-zero : ZeroFrom (base + 576) cells → ZeroFrom (base + 576) lineStored
-    line-zero empty k h =
-        line-other k (λ z. omega arith) (λ z. omega arith) (λ z. omega arith) (λ z. omega arith) (λ z. omega arith) (λ z. omega arith) ∙ empty k h
-
-    module _ (columns : ℕ → Effect → Columns) (fits : base + 576 ≤ length cells) (hazard′ : u ≡ columns q Hazard) (cancer′ : v ≡ columns q Cancer) where
+    module _ (columns : ℕ → Effect → Columns) (fits : base + q + 480 < length cells) (hazard′ : u ≡ columns q Hazard) (cancer′ : v ≡ columns q Cancer) where
       line-here : (e : Effect) (w : Part) → getD lineStored (base + 288 * sideOf e + 96 * partOf w + q) 0 ≡ cellOf w (columns q e)
       unfolding sideOf
       line-here Hazard w =
@@ -133,6 +133,49 @@ module _ (cells : List ℕ) (base q : ℕ) (u v : Columns) where
       line-held held e w k h =
           let most : k ≤ q = omega arith in
           ⊎-elim (λ z. rw z (line-here e w)) (λ l. line-apart e w k (λ z. omega arith) (omega arith) ∙ held e w k l) (eq-or-lt-of-le most)
+
+-- ---- the cells of chemical i's lines filled after those of the chemicals before it
+module _ (base i : ℕ) (before after : List ℕ) (few : i < 16) (same : SameBut 6 (base + i * 6) before after) where
+  -- a cell of another chemical's line
+  chemical-apart : (e : Effect) (w : Part) (q : ℕ) → q < 96 → ((p : ℕ) → p < 6 → q ≢ i * 6 + p)
+      → getD after (base + 288 * sideOf e + 96 * partOf w + q) 0 ≡ getD before (base + 288 * sideOf e + 96 * partOf w + q) 0
+  chemical-apart e w q l n =
+      let s : sideOf e < 2 = side-small e in
+      let t : partOf w < 3 = part-small w in
+      same (base + 288 * sideOf e + 96 * partOf w + q)
+      (λ e′ w′ p h z.
+      let s′ : sideOf e′ < 2 = side-small e′ in
+      let t′ : partOf w′ < 3 = part-small w′ in
+      n p h (omega arith))
+
+  pub chemical-below : (entry : List ℕ) → SameBelow base entry before → SameBelow base entry after
+  chemical-below entry below k h = same k (λ e w p l z. omega arith) ∙ below k h
+
+  pub chemical-empty : (n : ℕ) → (i + 1) * 6 ≤ n → CellsEmpty (i * 6) before base → CellsEmpty n after base
+  chemical-empty n l empty e w q h m = chemical-apart e w q m (λ p t z. omega arith) ∙ empty e w q (omega arith) m
+
+  pub chemical-zero : ZeroFrom (base + 576) before → ZeroFrom (base + 576) after
+  chemical-zero empty k h =
+      same k
+      (λ e w p l z.
+      let s : sideOf e < 2 = side-small e in
+      let t : partOf w < 3 = part-small w in
+      omega arith)
+      ∙ empty k h
+
+  module _ (columns : ℕ → Effect → Columns) (held : CellsHold columns (i * 6) before base) (here : CellsHold (λ p. columns (i * 6 + p)) 6 after (base + i * 6)) where
+    chemical-cell : (e : Effect) (w : Part) (q : ℕ) → q < (i + 1) * 6 → (t : Bool) → ltb q (i * 6) ≡ t → getD after (base + 288 * sideOf e + 96 * partOf w + q) 0 ≡ cellOf w (columns q e)
+    chemical-cell e w q h true t =
+        let m : q < i * 6 = ltb-true q (i * 6) t in
+        chemical-apart e w q (omega arith) (λ p l z. omega arith) ∙ held e w q m
+    chemical-cell e w q h false t =
+        let m : i * 6 ≤ q = ltb-false q (i * 6) t in
+        let place : base + 288 * sideOf e + 96 * partOf w + q ≡ base + i * 6 + 288 * sideOf e + 96 * partOf w + (q - i * 6) = omega arith in
+        let line : i * 6 + (q - i * 6) ≡ q = omega arith in
+        ap (λ (k : ℕ). getD after k 0) place ∙ here e w (q - i * 6) (omega arith) ∙ ap (λ (k : ℕ). cellOf w (columns k e)) line
+
+    pub chemical-held : CellsHold columns ((i + 1) * 6) after base
+    chemical-held e w q h = chemical-cell e w q h (ltb q (i * 6)) refl
 
 -- ---- a receptor's cells filled after those of the receptors before it
 module _ (site′ : Values) (sources : Sources) (list : List Receptor) (j : ℕ) (before after : List ℕ) (few : sources .count ≤ 16) where

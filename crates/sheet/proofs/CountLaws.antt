@@ -26,8 +26,8 @@ use Rattle.sheet.specs.declared.Source.{Source}
 use Rattle.sheet.specs.declared.Sources.{Sources}
 use Rattle.sheet.specs.Sheet.{chained, pathwayAt, columnsAt, overCap, linesPerReceptor, lineTooLarge, largeLines}
 use Rattle.sheet.specs.Counts.{tooMany, isRefused, mediaFor, noMediaAt, sheetConditions, Part, cellOf, sideOf, effectAt, partAt, lineColumns, cellAt, cellsOf, noCells, cellsFor, sheetStatus, sheetCells}
-use Rattle.sheet.specs.Inner.{columnsOf, aboveCap, mediaWith, sourceOf, sourcesOf, sourceAt, refusedSource, figuresFrom, figureFor, figuresWorked, columnsWorked, isLarge, largeLine, largeWorked, perReceptor, allLarge, partOf, CellsFilled, ZeroFrom}
-use Rattle.sheet.proofs.Chains.{chained-same, flat, chained-each}
+use Rattle.sheet.specs.Inner.{columnsOf, aboveCap, mediaWith, sourceOf, sourcesOf, sourceAt, refusedSource, figuresFrom, figureFor, figuresWorked, columnsWorked, isLarge, largeLine, largeChemical, largeWorked, perReceptor, allLarge, partOf, CellsFilled, ZeroFrom}
+use Rattle.sheet.proofs.Chains.{chained-same, chained-each}
 use Rattle.sheet.proofs.ChemicalLaws.{source-at}
 use Rattle.sheet.proofs.SourceLaws.{line-figures}
 
@@ -82,46 +82,42 @@ module _ (scenario : Scenario) (site′ : Values) (sources : Sources) (at-site :
   unfolding noMediaAt
   media-found i h = first-read (at 41 (suc i) 0 (isRefused (mediaFor scenario i))) [] (chained-each (noMediaAt scenario) (scenario .chemicals .count) none i h) .0
 
-  module _ (j q : ℕ) (h : q < scenario .chemicals .count * 6) where
-    figures-are : figuresWorked site′ sources (receptorIn scenario j .values) q
-        ≡ figuresFrom (valuesOf (scenario .site)) (receptorIn scenario j .values) (sourceOf (valuesOf (scenario .site)) (chemicalIn scenario (q / 6))) (pathwayAt (q % 6))
-    unfolding figuresWorked chemicalIn
+  -- the line of chemical i by pathway p
+  module _ (j i p : ℕ) (h : i < scenario .chemicals .count) where
+    figures-are : figuresFrom site′ (receptorIn scenario j .values) (sourceAt sources i) (pathwayAt p)
+        ≡ figuresFrom (valuesOf (scenario .site)) (receptorIn scenario j .values) (sourceOf (valuesOf (scenario .site)) (chemicalIn scenario i)) (pathwayAt p)
+    unfolding chemicalIn
     figures-are =
         let r : Values = receptorIn scenario j .values in
-        ap (λ (x : Sources). figuresFrom site′ r (sourceAt x (q / 6)) (pathwayAt (q % 6))) sources-are
-        ∙ ap (λ (s : Source). figuresFrom site′ r s (pathwayAt (q % 6))) (source-at site′ (scenario .chemicals) (q / 6) (omega arith))
-        ∙ ap (λ (v : Values). figuresFrom v r (sourceOf v (chemicalIn scenario (q / 6))) (pathwayAt (q % 6))) at-site
+        ap (λ (x : Sources). figuresFrom site′ r (sourceAt x i) (pathwayAt p)) sources-are
+        ∙ ap (λ (s : Source). figuresFrom site′ r s (pathwayAt p)) (source-at site′ (scenario .chemicals) i h)
+        ∙ ap (λ (v : Values). figuresFrom v r (sourceOf v (chemicalIn scenario i)) (pathwayAt p)) at-site
 
-    columns-agree : (e : Effect) → columnsWorked site′ sources (receptorIn scenario j .values) q e ≡ columnsAt e scenario j (q / 6) (pathwayAt (q % 6))
-    unfolding columnsWorked
-    columns-agree e =
-        ap (λ (f : Figured). columnsOf e (figureFor e f)) figures-are
-        ∙ line-figures scenario j (q / 6) (pathwayAt (q % 6)) (omega arith) (media-found (q / 6) (omega arith)) e .0
+    figure-columns : (e : Effect) → columnsOf e (figureFor e (figuresFrom site′ (receptorIn scenario j .values) (sourceAt sources i) (pathwayAt p))) ≡ columnsAt e scenario j i (pathwayAt p)
+    figure-columns e = ap (λ (f : Figured). columnsOf e (figureFor e f)) figures-are ∙ line-figures scenario j i (pathwayAt p) h (media-found i h) e .0
 
-    cap-agrees : (e : Effect) → aboveCap e (figureFor e (figuresWorked site′ sources (receptorIn scenario j .values) q)) ≡ overCap e scenario j (q / 6) (pathwayAt (q % 6))
-    cap-agrees e =
-        ap (λ (f : Figured). aboveCap e (figureFor e f)) figures-are
-        ∙ line-figures scenario j (q / 6) (pathwayAt (q % 6)) (omega arith) (media-found (q / 6) (omega arith)) e .1
+    cap-agrees : (e : Effect) → aboveCap e (figureFor e (figuresFrom site′ (receptorIn scenario j .values) (sourceAt sources i) (pathwayAt p))) ≡ overCap e scenario j i (pathwayAt p)
+    cap-agrees e = ap (λ (f : Figured). aboveCap e (figureFor e f)) figures-are ∙ line-figures scenario j i (pathwayAt p) h (media-found i h) e .1
 
-    large-agrees : isLarge (figuresWorked site′ sources (receptorIn scenario j .values) q)
-        ≡ (overCap Hazard scenario j (q / 6) (pathwayAt (q % 6)) || overCap Cancer scenario j (q / 6) (pathwayAt (q % 6)))
-    unfolding isLarge figureFor
-    large-agrees = ap₂ _||_ (cap-agrees Hazard) (cap-agrees Cancer)
-
-    line-agrees : largeLine site′ sources (receptorIn scenario j .values) (j * perReceptor (sources .count)) q ≡ lineTooLarge scenario j (q / 6) (q % 6)
-    unfolding largeLine lineTooLarge linesPerReceptor
+    line-agrees : largeLine site′ (receptorIn scenario j .values) (sourceAt sources i) (j * perReceptor (sources .count) + i * 6) p ≡ lineTooLarge scenario j i p
+    unfolding largeLine lineTooLarge linesPerReceptor isLarge figureFor
     line-agrees =
-        let place : j * perReceptor (sources .count) + suc q ≡ j * perReceptor (scenario .chemicals .count) + q / 6 * 6 + suc (q % 6) = rw count-is (omega arith) in
-        ap₂ (λ (n : ℕ) (b : Bool). at 42 n 0 b ∷ []) place large-agrees
+        let place : j * perReceptor (sources .count) + i * 6 + suc p ≡ j * perReceptor (scenario .chemicals .count) + i * 6 + suc p = rw count-is refl in
+        ap₂ (λ (n : ℕ) (b : Bool). at 42 n 0 b ∷ []) place (ap₂ _||_ (cap-agrees Hazard) (cap-agrees Cancer))
+
+  columns-agree : (j q : ℕ) → q < scenario .chemicals .count * 6 → (e : Effect) → columnsWorked site′ sources (receptorIn scenario j .values) q e ≡ columnsAt e scenario j (q / 6) (pathwayAt (q % 6))
+  unfolding columnsWorked figuresWorked
+  columns-agree j q h e = figure-columns j (q / 6) (q % 6) (omega arith) e
 
   receptor-agrees : (j : ℕ) → largeWorked site′ sources (receptorIn scenario j .values) (j * perReceptor (sources .count))
       ≡ chained (λ i. chained (lineTooLarge scenario j i) 6) (scenario .chemicals .count)
-  unfolding largeWorked
+  unfolding largeWorked largeChemical
   receptor-agrees j =
-      ap (λ (n : ℕ). chained (largeLine site′ sources (receptorIn scenario j .values) (j * perReceptor (sources .count))) (n * 6)) count-is
-      ∙ chained-same (largeLine site′ sources (receptorIn scenario j .values) (j * perReceptor (sources .count))) (λ q. lineTooLarge scenario j (q / 6) (q % 6)) (scenario .chemicals .count * 6)
-      (λ q h. line-agrees j q h)
-      ∙ sym (flat (lineTooLarge scenario j) (scenario .chemicals .count))
+      let r : Values = receptorIn scenario j .values in
+      let before : ℕ = j * perReceptor (sources .count) in
+      ap (chained (λ i. chained (largeLine site′ r (sourceAt sources i) (before + i * 6)) 6)) count-is
+      ∙ chained-same (λ i. chained (largeLine site′ r (sourceAt sources i) (before + i * 6)) 6) (λ i. chained (lineTooLarge scenario j i) 6) (scenario .chemicals .count)
+      (λ i h. chained-same (largeLine site′ r (sourceAt sources i) (before + i * 6)) (lineTooLarge scenario j i) 6 (λ p l. line-agrees j i p h))
 
   lines-agree : allLarge site′ sources (scenario .receptors .list) (scenario .receptors .count) ≡ largeLines scenario
   unfolding allLarge largeLines receptorIn

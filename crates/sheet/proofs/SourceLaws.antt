@@ -4,7 +4,7 @@ use mathlib.Core.Path.{_≡_, refl, sym, _∙_, ap, ap₂}
 use mathlib.Core.Bool.{false, cond, _&&_, true≢false}
 use Prim.Native.Nat.{ℕ, _<_}
 use Rattle.pair.specs.declared.Pair.{Pair}
-use Rattle.pair.specs.Calls.{Outcome, is, refused, mapped, checked, after, afterOne, product, quotient}
+use Rattle.pair.specs.Calls.{Outcome, is, refused, mapped, after, product, quotient}
 use Rattle.slots.specs.Slots.{Slot, table, same, isIn, placeIn, ownerOf, placeOf}
 use Rattle.equations.specs.declared.Pathway.{Pathway}
 use Rattle.equations.specs.declared.Pathway.the-variants.{Air, SoilSummer, SoilWinter, Skin, AboveGround, BelowGround}
@@ -20,7 +20,8 @@ use Rattle.media.specs.declared.Media.{Media}
 use Rattle.media.specs.Media.{mediaInputs, exponentOf, four, given, mediaOf}
 use Rattle.pathway.specs.declared.Factor.{Factor}
 use Rattle.pathway.specs.declared.Dose.{Dose}
-use Rattle.pathway.specs.Lines.{Optional, some, none, workedFor, factorOf, concentrationFor, doseOf, figureOf, rfdGiven, csfGiven, rfdValue, csfValue, quotientOf, riskOf, figuresOf}
+use Rattle.pathway.specs.Lines.{Optional, some, none, workedFor, factorOf, concentrationFor, doseOf, figureOf, rfdGiven, csfGiven, rfdValue, csfValue, habitsOf, figureIfGiven, figuresWith}
+use Rattle.pathway.proofs.HabitLaws.{own-factor}
 use Rattle.deck.specs.declared.Record.{Record}
 use Rattle.deck.specs.declared.Value.{Value}
 use Rattle.deck.specs.declared.Value.the-variants.{Absent, Printed}
@@ -181,13 +182,13 @@ reference-source Cancer p = by-route (λ (s : Slot). OfSource (ownerOf s)) p "CS
 
 -- a line's figure from its dose and what is printed for its reference value
 figure-for : (e : Effect) (p : Pathway) (s c r : Values) (m : Media) (chemical : Record) →
-    figureFor e (figuresOf p s c r m (referencesOf chemical)) ≡ figureOf e (doseOf (factorOf e p s c r) (concentrationFor p m)) (optional (referenceAt e p chemical))
-unfolding figureFor figuresOf quotientOf riskOf referencesOf referenceAt
+    figureFor e (figuresWith (habitsOf r) p s c r m (referencesOf chemical)) ≡ figureIfGiven e (doseOf (factorOf e p s c r) (concentrationFor p m)) (optional (referenceAt e p chemical))
+unfolding figureFor figuresWith referencesOf referenceAt
 figure-for Hazard p s c r m chemical =
-    ap (figureOf Hazard (doseOf (factorOf Hazard p s c r) (concentrationFor p m)))
+    ap₂ (λ (f : Outcome Factor) (v : Optional Pair). figureIfGiven Hazard (doseOf f (concentrationFor p m)) v) (own-factor Hazard p s c r)
     (ap (λ x. rfdValue (rfdGiven x)) (sym (routed rfdOf p (valueAt chemical (placeOf "RfDi")) (valueAt chemical (placeOf "RfDo")))) ∙ rfd-optional (referenceAt Hazard p chemical))
 figure-for Cancer p s c r m chemical =
-    ap (figureOf Cancer (doseOf (factorOf Cancer p s c r) (concentrationFor p m)))
+    ap₂ (λ (f : Outcome Factor) (v : Optional Pair). figureIfGiven Cancer (doseOf f (concentrationFor p m)) v) (own-factor Cancer p s c r)
     (ap (λ x. csfValue (csfGiven x)) (sym (routed csfOf p (valueAt chemical (placeOf "CSFi")) (valueAt chemical (placeOf "CSFo")))) ∙ csf-optional (referenceAt Cancer p chemical))
 
 -- its columns and its cap
@@ -196,28 +197,16 @@ unfolding columnsOf mapped countedIn
 columns-some e (is p) = refl
 columns-some e (refused n) = refl
 
-columns-none : (e : Effect) (o : Outcome Pair) → columnsOf e (mapped (λ (q : Pair). none) o) ≡ Cols.Absent
-unfolding columnsOf mapped
-columns-none e (is p) = refl
-columns-none e (refused n) = refl
-
 cap-some : (e : Effect) (o : Outcome Pair) → aboveCap e (mapped (λ (q : Pair). some q) o) ≡ highAbove (capOf e) o
 unfolding aboveCap mapped highAbove
 cap-some e (is p) = refl
 cap-some e (refused n) = refl
 
-cap-none : (e : Effect) (o : Outcome Pair) → aboveCap e (mapped (λ (q : Pair). none) o) ≡ false
-unfolding aboveCap mapped
-cap-none e (is p) = refl
-cap-none e (refused n) = refl
-
 figure-columns : (e : Effect) (d : Outcome Dose) (v : Value) →
-    (columnsOf e (figureOf e d (optional v)) ≡ cond (isPrinted v) (countedIn (unitOf e) (figureBy (after product) (after quotient) e (mapped (λ (g : Dose). g .0) d) (is (pairOf v)))) Cols.Absent)
-    × (aboveCap e (figureOf e d (optional v)) ≡ (isPrinted v && highAbove (capOf e) (figureBy (after product) (after quotient) e (mapped (λ (g : Dose). g .0) d) (is (pairOf v)))))
-unfolding figureOf optional isPrinted
-figure-columns e d Absent =
-    let o : Outcome Pair = afterOne checked (mapped (λ (g : Dose). g .0) d) in
-    (columns-none e o, cap-none e o)
+    (columnsOf e (figureIfGiven e d (optional v)) ≡ cond (isPrinted v) (countedIn (unitOf e) (figureBy (after product) (after quotient) e (mapped (λ (g : Dose). g .0) d) (is (pairOf v)))) Cols.Absent)
+    × (aboveCap e (figureIfGiven e d (optional v)) ≡ (isPrinted v && highAbove (capOf e) (figureBy (after product) (after quotient) e (mapped (λ (g : Dose). g .0) d) (is (pairOf v)))))
+unfolding figureIfGiven figureOf optional isPrinted columnsOf aboveCap
+figure-columns e d Absent = (refl, refl)
 figure-columns e d (Printed power digits) =
     let o : Outcome Pair = figureBy (after product) (after quotient) e (mapped (λ (g : Dose). g .0) d) (is (pairOf (Printed power digits))) in
     (columns-some e o, cap-some e o)
@@ -242,9 +231,9 @@ module _ (scenario : Scenario) (j i : ℕ) (p : Pathway) (told : isRefused (medi
   dose : Outcome Dose
   dose = doseOf (factorOf e p S C R) (concentrationFor p media)
 
-  figured : figureFor e (figuresFrom S R (sourceOf S (chemicalIn scenario i)) p) ≡ figureOf e dose (optional value)
+  figured : figureFor e (figuresFrom S R (sourceOf S (chemicalIn scenario i)) p) ≡ figureIfGiven e dose (optional value)
   unfolding figuresFrom sourceOf sourceWith mediaWith mediaFor S C R media value dose
-  figured = figure-for e p S C R media (chemicalIn scenario i) ∙ ap (λ (v : Value). figureOf e dose (optional v)) (sym (reference-printed scenario i e p))
+  figured = figure-for e p S C R media (chemicalIn scenario i) ∙ ap (λ (v : Value). figureIfGiven e dose (optional v)) (sym (reference-printed scenario i e p))
 
   intake-is : mapped (λ (g : Dose). g .0) dose ≡ worked (pairsAt scenario j i) (page.intake e p)
   unfolding mediaFor S C R media dose factor

@@ -4,6 +4,7 @@ use mathlib.Core.Path.{_≡_}
 use Prim.Native.Nat.{ℕ, suc, _+_, _*_, _-_, _/_, _%_, _<_}
 use mathlib.Core.Bool.{Bool, false, _||_}
 use mathlib.Core.List.{List, [], _∷_, _++_}
+use mathlib.Core.Logic.{_≢_}
 use lib.ListN.{getD, set, replicate}
 use Rattle.pair.specs.declared.Pair.{Pair}
 use Rattle.pair.specs.Calls.{Outcome, is, refused}
@@ -19,7 +20,7 @@ use Rattle.pathway.specs.declared.GivenRfd.the-variants as Rfds
 use Rattle.pathway.specs.declared.GivenCsf.{GivenCsf}
 use Rattle.pathway.specs.declared.GivenCsf.the-variants as Csfs
 use Rattle.pathway.specs.declared.References.{References}
-use Rattle.pathway.specs.Lines.{Optional, some, none, Figured, figuresOf}
+use Rattle.pathway.specs.Lines.{Optional, some, none, Figured, habitsOf, figuresWith}
 use Rattle.deck.specs.declared.Chemicals.{Chemicals}
 use Rattle.deck.specs.declared.Record.{Record}
 use Rattle.deck.specs.declared.Value.{Value}
@@ -102,7 +103,7 @@ refusedSource site′ records i = at 41 (suc i) 0 (isRefused (mediaWith site′ 
 
 -- ---- a line's figures
 unfoldable pub figuresFrom : Values → Values → Source → Pathway → Figured
-figuresFrom site′ r s p = figuresOf p site′ (s .values) r (s .media) (s .references)
+figuresFrom site′ r s p = figuresWith (habitsOf r) p site′ (s .values) r (s .media) (s .references)
 
 unfoldable pub figureFor : Effect → Figured → Outcome (Optional Pair)
 figureFor Hazard f = f .hazard
@@ -115,15 +116,22 @@ figuresWorked site′ sources r q = figuresFrom site′ r (sourceAt sources (q /
 unfoldable pub columnsWorked : Values → Sources → Values → ℕ → Effect → Columns
 columnsWorked site′ sources r q e = columnsOf e (figureFor e (figuresWorked site′ sources r q))
 
+-- those of a chemical's lines, by pathway
+unfoldable pub columnsFrom : Values → Values → Source → ℕ → Effect → Columns
+columnsFrom site′ r source p e = columnsOf e (figureFor e (figuresFrom site′ r source (pathwayAt p)))
+
 unfoldable pub isLarge : Figured → Bool
 isLarge f = aboveCap Hazard (f .hazard) || aboveCap Cancer (f .cancer)
 
--- 42 at it, after so many report lines
-unfoldable pub largeLine : Values → Sources → Values → ℕ → ℕ → List Condition
-largeLine site′ sources r before q = at 42 (before + suc q) 0 (isLarge (figuresWorked site′ sources r q)) ∷ []
+-- 42 at a chemical's line, after so many report lines
+unfoldable pub largeLine : Values → Values → Source → ℕ → ℕ → List Condition
+largeLine site′ r source before p = at 42 (before + suc p) 0 (isLarge (figuresFrom site′ r source (pathwayAt p))) ∷ []
+
+unfoldable pub largeChemical : Values → Values → Source → ℕ → List Condition
+largeChemical site′ r source before = chained (largeLine site′ r source before) pathwaysPerChemical
 
 unfoldable pub largeWorked : Values → Sources → Values → ℕ → List Condition
-largeWorked site′ sources r before = chained (largeLine site′ sources r before) (sources .count * pathwaysPerChemical)
+largeWorked site′ sources r before = chained (λ i. largeChemical site′ r (sourceAt sources i) (before + i * pathwaysPerChemical)) (sources .count)
 
 abbrev pub perReceptor : ℕ → ℕ
 perReceptor n = n * pathwaysPerChemical + 1
@@ -160,3 +168,8 @@ SameBelow base before after = (k : ℕ) → k < base → getD after k 0 ≡ getD
 
 abbrev pub ZeroFrom : ℕ → List ℕ → Type 0
 ZeroFrom base cells = (k : ℕ) → base < suc k → getD cells k 0 ≡ 0
+
+-- nothing but the cells of n lines from base on was changed
+abbrev pub SameBut : ℕ → ℕ → List ℕ → List ℕ → Type 0
+SameBut n base before after =
+    (k : ℕ) → ((e : Effect) (w : Part) (q : ℕ) → q < n → k ≢ base + effectCells * sideOf e + mostLines * partOf w + q) → getD after k 0 ≡ getD before k 0

@@ -3,8 +3,10 @@ use deck::Status;
 use equations::Effect;
 use equations::Pathway;
 use equations::Values;
+use pathway::Habits;
 use pathway::Line;
-use pathway::figures;
+use pathway::figures_with;
+use pathway::habits_of;
 use totals::Columns;
 ghost use mathlib.Core.Path.{_≡_};
 ghost use Prim.Native.Nat.{_+_, _*_, _<_, _≤_};
@@ -13,8 +15,8 @@ ghost use Rattle.deck.specs.declared.Status.the-variants as Statuses;
 ghost use Rattle.deck.specs.Conditions.{first};
 ghost use Rattle.pathway.specs.Lines as specs;
 ghost use Rattle.sheet.specs.Sheet.{pathwayAt};
-ghost use Rattle.sheet.specs.Counts.{mostLines, receptorCells, allCells, noCells};
-ghost use Rattle.sheet.specs.Inner.{maxRows, figuresFrom, isLarge, withCounts, columnsWorked, largeWorked, allLarge, CellsHold, CellsEmpty, CellsFilled, SameBelow, ZeroFrom};
+ghost use Rattle.sheet.specs.Counts.{mostLines, effectCells, receptorCells, allCells, noCells};
+ghost use Rattle.sheet.specs.Inner.{maxRows, isLarge, withCounts, columnsFrom, columnsWorked, largeChemical, largeWorked, allLarge, CellsHold, CellsEmpty, CellsFilled, SameBelow, SameBut, ZeroFrom};
 use crate::CELLS;
 use crate::EFFECT_CELLS;
 use crate::MOST_LINES;
@@ -39,20 +41,6 @@ fn pathway_at(p: usize) -> Pathway
         4 => Pathway::AboveGround,
         _ => Pathway::BelowGround,
     }
-}
-
-fn figures_of(site: Values, receptor: Values, source: Source, pathway: Pathway) -> Line
-    ensures { λ r. ⌜ specs.figured r ≡ figuresFrom site receptor source pathway ⌝ }
-{
-    let references = source.references;
-    figures(
-        pathway,
-        site,
-        source.values,
-        receptor,
-        source.media,
-        references,
-    )
 }
 
 // Whether a figure of the line is above its cap.
@@ -98,6 +86,47 @@ fn put_counts(cells: &mut [u64], at: usize, columns: Columns)
     }
 }
 
+// The counts of a chemical's six lines into their cells, from base on, or the first line above a cap.
+fn put_chemical(
+    cells: &mut [u64],
+    base: usize,
+    site: Values,
+    receptor: Values,
+    habits: Habits,
+    source: Source,
+    before: usize,
+) -> Status
+    requires { ⌜ (base + effectCells + 2 * mostLines + 6 ≤ length (now cells)) × (before ≤ maxRows + mostLines) × (specs.shared habits ≡ specs.habitsOf receptor) ⌝ }
+    ensures { λ s. ⌜ s ≡ first (largeChemical site receptor source before) ⌝ }
+    ensures { λ s. ⌜ (s ≡ Statuses.Read → CellsHold (columnsFrom site receptor source) 6 (now (cells .exit)) base) ⌝ }
+    ensures { λ _. ⌜ SameBut 6 base (now (cells .entry)) (now (cells .exit)) ⌝ }
+{
+    let mut p: usize = 0;
+    while p < PATHWAYS {
+        let next = p + 1;
+        let references = source.references;
+        let line = figures_with(
+            habits,
+            pathway_at(p),
+            site,
+            source.values,
+            receptor,
+            source.media,
+            references,
+        );
+        if is_large(line) {
+            return Status::Stopped(TOO_LARGE, before + next, 0);
+        }
+        let hazard = line.hazard;
+        let cancer = line.cancer;
+        let at = base + p;
+        put_counts(cells, at, columns_of(hazard, Effect::Hazard));
+        put_counts(cells, at + EFFECT_CELLS, columns_of(cancer, Effect::Cancer));
+        p = next;
+    }
+    Status::Read
+}
+
 // The counts of a receptor's lines into its cells, from base on, or the first line above a cap.
 fn put_lines(
     cells: &mut [u64],
@@ -113,22 +142,26 @@ fn put_lines(
     ensures { λ _. ⌜ SameBelow base (now (cells .entry)) (now (cells .exit)) ⌝ }
     ensures { λ s. ⌜ (ZeroFrom base (now (cells .entry)) → CellsEmpty (sources .count * 6) (now (cells .exit)) base × ZeroFrom (base + receptorCells) (now (cells .exit))) ⌝ }
 {
-    let count = sources.count * PATHWAYS;
-    let mut q: usize = 0;
-    while q < count {
-        let next = q + 1;
-        let i = q / PATHWAYS;
+    let habits = habits_of(receptor);
+    let count = sources.count;
+    let mut i: usize = 0;
+    while i < count {
+        let next = i + 1;
+        let done = i * PATHWAYS;
         let source = sources.list[i];
-        let line = figures_of(site, receptor, source, pathway_at(q % PATHWAYS));
-        if is_large(line) {
-            return Status::Stopped(TOO_LARGE, before + next, 0);
+        let status = put_chemical(
+            cells,
+            base + done,
+            site,
+            receptor,
+            habits,
+            source,
+            before + done,
+        );
+        if let Status::Stopped(_, _, _) = status {
+            return status;
         }
-        let hazard = line.hazard;
-        let cancer = line.cancer;
-        let at = base + q;
-        put_counts(cells, at, columns_of(hazard, Effect::Hazard));
-        put_counts(cells, at + EFFECT_CELLS, columns_of(cancer, Effect::Cancer));
-        q = next;
+        i = next;
     }
     Status::Read
 }

@@ -1,10 +1,12 @@
 -- Each figure by its own way, from one exposure. Assumes nothing.
 use mathlib.Core.Path.{refl}
 use borrow.Author.Needs.{needs}
+use Rattle.equations.specs.declared.Effect.the-variants.{Hazard, Cancer}
 use Rattle.equations.specs.Formula.{read, pairs}
 use Rattle.equations.specs.Page.{factor}
 use Rattle.equations.specs.Readings.{plain}
 use Rattle.pathway.specs.Lines.{workedFor, factorOf, figured, figuresOf}
+use Rattle.pathway.proofs.HabitLaws.{base-alike}
 use Rattle.pathway.proofs.figures.Statement.{statement}
 use Rattle.pathway.proofs.figures.Tie as tie
 
@@ -46,7 +48,7 @@ risk-of-requires c κs = search needs
 
 returns : tie.Need-returns
 unfolding figured figuresOf factorOf workedFor plain read pairs factor
-returns c = rw (c .risk-of .ensures, c .before .csf-of .ensures, c .before .before .dose-of2 .ensures, c .before .before .before .quotient-of .ensures, c .before .before .before .before .rfd-of .ensures, c .before .before .before .before .before .dose-of .ensures, c .before .before .before .before .before .before .medium-of .ensures, c .before .before .before .before .before .before .before .factor-of2 .ensures, c .before .before .before .before .before .before .before .before .base-of2 .ensures, c .before .before .before .before .before .before .before .before .before .factor-of .ensures, c .before .before .before .before .before .before .before .before .before .before .base-of .ensures, c .before .before .before .before .before .before .before .before .before .before .before .exposure-of .ensures)
+returns c = rw (c .risk-of .ensures, c .before .csf-of .ensures, c .before .before .dose-of2 .ensures, c .before .before .before .quotient-of .ensures, c .before .before .before .before .rfd-of .ensures, c .before .before .before .before .before .dose-of .ensures, c .before .before .before .before .before .before .medium-of .ensures, c .before .before .before .before .before .before .before .factor-of2 .ensures, c .before .before .before .before .before .before .before .before .base-of2 .ensures, c .before .before .before .before .before .before .before .before .before .factor-of .ensures, c .before .before .before .before .before .before .before .before .before .before .base-of .ensures, c .before .before .before .before .before .before .before .before .before .before .before .exposure-of .ensures, base-alike (c .before .before .before .before .before .before .before .before .before .before .before .before .args .site) (c .before .before .before .before .before .before .before .before .before .before .before .before .args .chemical) (c .before .before .before .before .before .before .before .before .before .before .before .before .args .receptor) Hazard, base-alike (c .before .before .before .before .before .before .before .before .before .before .before .before .args .site) (c .before .before .before .before .before .before .before .before .before .before .before .before .args .chemical) (c .before .before .before .before .before .before .before .before .before .before .before .before .args .receptor) Cancer)
     refl
 
 pub figures-spec : {M : Type 1} → statement M

@@ -1,7 +1,10 @@
 -- A refusal on either side is carried along, else the two operations are worked. Assumes nothing.
 use mathlib.Core.Path.{refl}
 use borrow.Author.Needs.{needs}
-use Rattle.pair.specs.Calls.{answer, after}
+use Rattle.pair.specs.declared.Step.the-variants.{Times, Over}
+use Rattle.pair.specs.Calls.{answer, product, stepped, after}
+use Rattle.pair.proofs.Providing.{failed, passed}
+use Rattle.pair.proofs.Steps.{not-pair, refused-on}
 use Rattle.pair.proofs.Worked.{refused-after}
 use Rattle.pair.proofs.Answer.times_over.Statement.{statement}
 use Rattle.pair.proofs.Answer.times_over.Tie as tie
@@ -26,12 +29,23 @@ returns-2 : tie.Need-returns-2
 unfolding answer after
 returns-2 c = rw (c .before .before .before .self .given .1, c .enum-told2 .given .1) (refused-after _ _)
 
-product-over-requires : tie.Need-product-over-requires
-product-over-requires c κs = search needs
+is-pair-requires : tie.Need-is-pair-requires
+is-pair-requires c κs = search needs
 
 returns-3 : tie.Need-returns-3
-unfolding answer after
-returns-3 c = rw (c .before .before .before .before .before .self .given .1, c .before .before .divisor .given .1) (c .product-over .ensures)
+unfolding answer after stepped
+returns-3 c =
+    let p = c .before .before .before .before .before .before .self .given .0 .0 in
+    let q = c .before .before .before .before .before .before .before .before .args .factor in
+    rw (c .before .before .before .before .before .before .self .given .1, c .before .before .before .divisor .given .1)
+    (refused-on Over _ (stepped Times p q) (not-pair Times p q (failed (c .before .is-pair .ensures) (c .if1 .taken))))
+
+last-two-requires : tie.Need-last-two-requires
+last-two-requires c κs = passed (c .before .is-pair .ensures) (c .if1 .left)
+
+returns-4 : tie.Need-returns-4
+unfolding answer after stepped
+returns-4 c = rw (c .before .before .before .before .before .before .before .self .given .1, c .before .before .before .before .divisor .given .1) (c .last-two .ensures)
 
 pub times-over-spec : {M : Type 1} → statement M
 times-over-spec =
@@ -43,5 +57,7 @@ times-over-spec =
     enum-known-divisor
     enum-told-2
     returns-2
-    product-over-requires
-    returns-3)
+    is-pair-requires
+    returns-3
+    last-two-requires
+    returns-4)

@@ -2,56 +2,43 @@
 use mathlib.Core.Path.{refl}
 use borrow.Author.Needs.{needs}
 use Rattle.equations.specs.Formula.{read, pairs}
-use Rattle.equations.specs.Page.{exposure}
 use Rattle.equations.specs.Readings.{plain, letters, inputs, byOwner, valueIn}
-use Rattle.pathway.specs.Lines.{workedFor}
 use Rattle.slots.specs.Slots.{table, same, isIn, placeIn, ownerOf, placeOf}
+use Rattle.pathway.specs.Lines.{workedFor, onward}
 use Rattle.pathway.proofs.exposure.air.Statement.{statement}
 use Rattle.pathway.proofs.exposure.air.Tie as tie
+
+value-requires : tie.Need-value-requires
+value-requires c κs = search needs
+
+value-requires-2 : tie.Need-value-requires-2
+value-requires-2 c κs = search needs
+
+value-requires-3 : tie.Need-value-requires-3
+value-requires-3 c κs = search needs
+
+times-three-requires : tie.Need-times-three-requires
+times-three-requires c κs = search needs
 
 at-requires : tie.Need-at-requires
 at-requires c κs = search needs
 
-at-requires-2 : tie.Need-at-requires-2
-at-requires-2 c κs = search needs
-
 times-requires : tie.Need-times-requires
 times-requires c κs = search needs
 
-at-requires-3 : tie.Need-at-requires-3
-at-requires-3 c κs = search needs
-
-times-requires-2 : tie.Need-times-requires-2
-times-requires-2 c κs = search needs
-
-at-requires-4 : tie.Need-at-requires-4
-at-requires-4 c κs = search needs
-
-times-requires-3 : tie.Need-times-requires-3
-times-requires-3 c κs = search needs
-
-at-requires-5 : tie.Need-at-requires-5
-at-requires-5 c κs = search needs
-
-times-requires-4 : tie.Need-times-requires-4
-times-requires-4 c κs = search needs
-
 returns : tie.Need-returns
-unfolding workedFor plain read letters inputs byOwner valueIn ownerOf placeOf table same isIn placeIn pairs exposure
-returns c = rw (c .times4 .ensures, c .before .at5 .ensures, c .before .before .times3 .ensures, c .before .before .before .at4 .ensures, c .before .before .before .before .times2 .ensures, c .before .before .before .before .before .at3 .ensures, c .before .before .before .before .before .before .times .ensures, c .before .before .before .before .before .before .before .at2 .ensures, c .before .before .before .before .before .before .before .before .at .ensures)
+unfolding workedFor plain read letters inputs byOwner valueIn ownerOf placeOf table same isIn placeIn pairs onward
+returns c = rw (c .times .ensures, c .before .at .ensures, c .before .before .times-three .ensures, c .before .before .before .value3 .ensures, c .before .before .before .before .value2 .ensures, c .before .before .before .before .before .value .ensures)
     refl
 
 pub air-spec : {M : Type 1} → statement M
 air-spec =
     tie.close
     (tie.spec
+    value-requires
+    value-requires-2
+    value-requires-3
+    times-three-requires
     at-requires
-    at-requires-2
     times-requires
-    at-requires-3
-    times-requires-2
-    at-requires-4
-    times-requires-3
-    at-requires-5
-    times-requires-4
     returns)

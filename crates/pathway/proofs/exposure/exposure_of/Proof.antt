@@ -1,81 +1,24 @@
--- Each case is its own function's. Assumes nothing.
+-- What it begins with, and goes on with. Assumes nothing.
+use mathlib.Core.Path.{_∙_, ap}
 use borrow.Author.Needs.{needs}
+use Rattle.pair.specs.Calls.{after, product}
+use Rattle.pathway.specs.Lines.{workedFor, onward}
+use Rattle.pathway.proofs.HabitLaws.{begun-exposure}
 use Rattle.pathway.proofs.exposure.exposure_of.Statement.{statement}
 use Rattle.pathway.proofs.exposure.exposure_of.Tie as tie
 
-enum-told : tie.Need-enum-told
-enum-told c = search needs
+begun-of-requires : tie.Need-begun-of-requires
+begun-of-requires c κs = search needs
 
-air-requires : tie.Need-air-requires
-air-requires c κs = search needs
-
-enum-told-2 : tie.Need-enum-told-2
-enum-told-2 c = search needs
-
-soil-summer-requires : tie.Need-soil-summer-requires
-soil-summer-requires c κs = search needs
-
-enum-told-3 : tie.Need-enum-told-3
-enum-told-3 c = search needs
-
-soil-winter-requires : tie.Need-soil-winter-requires
-soil-winter-requires c κs = search needs
-
-enum-told-4 : tie.Need-enum-told-4
-enum-told-4 c = search needs
-
-skin-requires : tie.Need-skin-requires
-skin-requires c κs = search needs
-
-enum-told-5 : tie.Need-enum-told-5
-enum-told-5 c = search needs
-
-above-ground-requires : tie.Need-above-ground-requires
-above-ground-requires c κs = search needs
-
-enum-told-6 : tie.Need-enum-told-6
-enum-told-6 c = search needs
-
-below-ground-requires : tie.Need-below-ground-requires
-below-ground-requires c κs = search needs
+gone-on-requires : tie.Need-gone-on-requires
+gone-on-requires c κs = search needs
 
 returns : tie.Need-returns
-returns c = rw (c .before .enum-told .given .1) (c .air .ensures)
-
-returns-2 : tie.Need-returns-2
-returns-2 c = rw (c .before .enum-told2 .given .1) (c .soil-summer .ensures)
-
-returns-3 : tie.Need-returns-3
-returns-3 c = rw (c .before .enum-told3 .given .1) (c .soil-winter .ensures)
-
-returns-4 : tie.Need-returns-4
-returns-4 c = rw (c .before .enum-told4 .given .1) (c .skin .ensures)
-
-returns-5 : tie.Need-returns-5
-returns-5 c = rw (c .before .enum-told5 .given .1) (c .above-ground .ensures)
-
-returns-6 : tie.Need-returns-6
-returns-6 c = rw (c .before .enum-told6 .given .1) (c .below-ground .ensures)
+returns c =
+    let a = c .before .before .args in
+    c .gone-on .ensures
+    ∙ ap (onward (after product) (workedFor (a .s) (a .c) (a .r)) (a .pathway)) (c .before .begun-of .ensures)
+    ∙ begun-exposure (a .s) (a .c) (a .r) (a .pathway)
 
 pub exposure-of-spec : {M : Type 1} → statement M
-exposure-of-spec =
-    tie.close
-    (tie.spec
-    enum-told
-    air-requires
-    enum-told-2
-    soil-summer-requires
-    enum-told-3
-    soil-winter-requires
-    enum-told-4
-    skin-requires
-    enum-told-5
-    above-ground-requires
-    enum-told-6
-    below-ground-requires
-    returns
-    returns-2
-    returns-3
-    returns-4
-    returns-5
-    returns-6)
+exposure-of-spec = tie.close (tie.spec begun-of-requires gone-on-requires returns)

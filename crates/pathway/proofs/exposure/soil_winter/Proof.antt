@@ -2,72 +2,48 @@
 use mathlib.Core.Path.{refl}
 use borrow.Author.Needs.{needs}
 use Rattle.equations.specs.Formula.{read, pairs}
-use Rattle.equations.specs.Page.{exposure}
 use Rattle.equations.specs.Readings.{plain, letters, inputs, byOwner, valueIn}
-use Rattle.pathway.specs.Lines.{workedFor}
 use Rattle.slots.specs.Slots.{table, same, isIn, placeIn, ownerOf, placeOf}
+use Rattle.pathway.specs.Lines.{workedFor, onward}
+use Rattle.pair.proofs.Promises.{per-million-entry}
 use Rattle.pathway.proofs.exposure.soil_winter.Statement.{statement}
 use Rattle.pathway.proofs.exposure.soil_winter.Tie as tie
 
-at-requires : tie.Need-at-requires
-at-requires c κs = search needs
+value-requires : tie.Need-value-requires
+value-requires c κs = search needs
 
-at-requires-2 : tie.Need-at-requires-2
-at-requires-2 c κs = search needs
+value-requires-2 : tie.Need-value-requires-2
+value-requires-2 c κs = search needs
 
-times-requires : tie.Need-times-requires
-times-requires c κs = search needs
+value-requires-3 : tie.Need-value-requires-3
+value-requires-3 c κs = search needs
 
-at-requires-3 : tie.Need-at-requires-3
-at-requires-3 c κs = search needs
+times-three-requires : tie.Need-times-three-requires
+times-three-requires c κs = search needs
 
-times-requires-2 : tie.Need-times-requires-2
-times-requires-2 c κs = search needs
+value-requires-4 : tie.Need-value-requires-4
+value-requires-4 c κs = search needs
 
-at-requires-4 : tie.Need-at-requires-4
-at-requires-4 c κs = search needs
+value-requires-5 : tie.Need-value-requires-5
+value-requires-5 c κs = search needs
 
-times-requires-3 : tie.Need-times-requires-3
-times-requires-3 c κs = search needs
-
-at-requires-5 : tie.Need-at-requires-5
-at-requires-5 c κs = search needs
-
-times-requires-4 : tie.Need-times-requires-4
-times-requires-4 c κs = search needs
-
-at-requires-6 : tie.Need-at-requires-6
-at-requires-6 c κs = search needs
-
-times-requires-5 : tie.Need-times-requires-5
-times-requires-5 c κs = search needs
-
-entry-requires : tie.Need-entry-requires
-entry-requires c κs = search needs
-
-times-requires-6 : tie.Need-times-requires-6
-times-requires-6 c κs = search needs
+times-three-requires-2 : tie.Need-times-three-requires-2
+times-three-requires-2 c κs = search needs
 
 returns : tie.Need-returns
-unfolding workedFor plain read letters inputs byOwner valueIn ownerOf placeOf table same isIn placeIn pairs exposure
-returns c = rw (c .times6 .ensures, c .before .entry .ensures, c .before .before .times5 .ensures, c .before .before .before .at6 .ensures, c .before .before .before .before .times4 .ensures, c .before .before .before .before .before .at5 .ensures, c .before .before .before .before .before .before .times3 .ensures, c .before .before .before .before .before .before .before .at4 .ensures, c .before .before .before .before .before .before .before .before .times2 .ensures, c .before .before .before .before .before .before .before .before .before .at3 .ensures, c .before .before .before .before .before .before .before .before .before .before .times .ensures, c .before .before .before .before .before .before .before .before .before .before .before .at2 .ensures, c .before .before .before .before .before .before .before .before .before .before .before .before .at .ensures)
+unfolding workedFor plain read letters inputs byOwner valueIn ownerOf placeOf table same isIn placeIn pairs onward
+returns c = rw (c .times-three2 .ensures, c .before .value5 .ensures, c .before .before .value4 .ensures, c .before .before .before .times-three .ensures, c .before .before .before .before .value3 .ensures, c .before .before .before .before .before .value2 .ensures, c .before .before .before .before .before .before .value .ensures, per-million-entry)
     refl
 
 pub soil-winter-spec : {M : Type 1} → statement M
 soil-winter-spec =
     tie.close
     (tie.spec
-    at-requires
-    at-requires-2
-    times-requires
-    at-requires-3
-    times-requires-2
-    at-requires-4
-    times-requires-3
-    at-requires-5
-    times-requires-4
-    at-requires-6
-    times-requires-5
-    entry-requires
-    times-requires-6
+    value-requires
+    value-requires-2
+    value-requires-3
+    times-three-requires
+    value-requires-4
+    value-requires-5
+    times-three-requires-2
     returns)

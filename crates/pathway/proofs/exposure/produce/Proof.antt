@@ -1,0 +1,31 @@
+-- The operations in the formula's order. Assumes nothing.
+use mathlib.Core.Path.{refl}
+use borrow.Author.Needs.{needs}
+use Rattle.equations.specs.Formula.{read, pairs}
+use Rattle.equations.specs.Readings.{plain, letters, inputs, byOwner, valueIn}
+use Rattle.slots.specs.Slots.{table, same, isIn, placeIn, ownerOf, placeOf}
+use Rattle.pathway.specs.Lines.{workedFor, onward}
+use Rattle.pathway.proofs.exposure.produce.Statement.{statement}
+use Rattle.pathway.proofs.exposure.produce.Tie as tie
+
+value-requires : tie.Need-value-requires
+value-requires c κs = search needs
+
+value-requires-2 : tie.Need-value-requires-2
+value-requires-2 c κs = search needs
+
+value-requires-3 : tie.Need-value-requires-3
+value-requires-3 c κs = search needs
+
+times-three-requires : tie.Need-times-three-requires
+times-three-requires c κs = search needs
+
+returns : tie.Need-returns
+unfolding workedFor plain read letters inputs byOwner valueIn ownerOf placeOf table same isIn placeIn pairs onward
+returns c = rw (c .times-three .ensures, c .before .value3 .ensures, c .before .before .value2 .ensures, c .before .before .before .value .ensures)
+    refl
+
+pub produce-spec : {M : Type 1} → statement M
+produce-spec =
+    tie.close
+    (tie.spec value-requires value-requires-2 value-requires-3 times-three-requires returns)

@@ -1,0 +1,45 @@
+-- Each figure by its own way, from one exposure. Assumes nothing.
+use mathlib.Core.Path.{refl}
+use borrow.Author.Needs.{needs}
+use Rattle.pathway.specs.Lines.{figured, shared, baseIn, exposureWith, figuresWith}
+use Rattle.pathway.proofs.figures_with.Statement.{statement}
+use Rattle.pathway.proofs.figures_with.Tie as tie
+
+begun-in-requires : tie.Need-begun-in-requires
+begun-in-requires c κs = search needs
+
+gone-on-requires : tie.Need-gone-on-requires
+gone-on-requires c κs = search needs
+
+medium-of-requires : tie.Need-medium-of-requires
+medium-of-requires c κs = search needs
+
+rfd-of-requires : tie.Need-rfd-of-requires
+rfd-of-requires c κs = search needs
+
+hazard-from-requires : tie.Need-hazard-from-requires
+hazard-from-requires c κs = search needs
+
+csf-of-requires : tie.Need-csf-of-requires
+csf-of-requires c κs = search needs
+
+cancer-from-requires : tie.Need-cancer-from-requires
+cancer-from-requires c κs = search needs
+
+returns : tie.Need-returns
+unfolding figured figuresWith exposureWith baseIn shared
+returns c = rw (c .cancer-from .ensures, c .before .csf-of .ensures, c .before .before .hazard-from .ensures, c .before .before .before .rfd-of .ensures, c .before .before .before .before .medium-of .ensures, c .before .before .before .before .before .gone-on .ensures, c .before .before .before .before .before .before .begun-in .ensures)
+    refl
+
+pub figures-with-spec : {M : Type 1} → statement M
+figures-with-spec =
+    tie.close
+    (tie.spec
+    begun-in-requires
+    gone-on-requires
+    medium-of-requires
+    rfd-of-requires
+    hazard-from-requires
+    csf-of-requires
+    cancer-from-requires
+    returns)

@@ -1,0 +1,146 @@
+-- `sheet::lines::put_chemical` meets its contract. The invariant: the cells hold the lines so far, none above a cap, and the cells of other
+-- lines are as they were. Assumes nothing.
+use mathlib.Core.Path.{_≡_, refl, sym, ap, subst, _∙_}
+use mathlib.Core.List.{List}
+use Prim.Native.Nat.{ℕ, _+_, _-_, _≤_, _<_}
+use native.Mathlib.Nat.{not-suc-le-zero}
+use native.Mathlib.Omega.{arith}
+use borrow.Author.Needs.{needs}
+use lib.ListN.{length}
+use Rattle.equations.specs.declared.Effect.the-variants.{Hazard, Cancer}
+use Rattle.pathway.specs.Lines.{figured}
+use Rattle.deck.specs.declared.Status.the-variants.{Read}
+use Rattle.deck.specs.Conditions.{first}
+use Rattle.deck.proofs.Scan.{never}
+use Rattle.sheet.specs.Sheet.{chained}
+use Rattle.sheet.specs.Inner.{figureFor, columnsFrom, largeLine, largeChemical, withCounts, CellsHold, SameBut}
+use Rattle.sheet.proofs.ReceptorLaws.{large-is, columns-are, line-fits, line-stops}
+use Rattle.sheet.proofs.CellLaws.{line-length, line-others, line-held}
+use Rattle.sheet.proofs.lines.put_chemical.Statement.{statement}
+use Rattle.sheet.proofs.lines.put_chemical.Tie as tie
+
+abbrev Inv-loop : tie.InvT-loop
+Inv-loop cells₀ base site receptor habits source before p₀ cells p =
+    (p ≤ 6)
+    × (length cells ≡ length cells₀)
+    × CellsHold (columnsFrom site receptor source) p cells base
+    × SameBut 6 base cells₀ cells
+    × (first (chained (largeLine site receptor source before) p) ≡ Read)
+
+abbrev μ-loop : tie.MeasureT-loop
+μ-loop cells₀ base site receptor habits source before p₀ cells p = 6 - p
+
+loop-holds : tie.Need-loop-holds Inv-loop μ-loop
+unfolding chained first
+loop-holds c = (omega arith, refl, λ e w q h. absurd (not-suc-le-zero h), λ k h. refl, refl)
+
+add-next : tie.Need-add-next Inv-loop μ-loop
+add-next c = search needs
+
+pathway-at-requires : tie.Need-pathway-at-requires Inv-loop μ-loop
+pathway-at-requires c κs = search needs
+
+figures-with-requires : tie.Need-figures-with-requires Inv-loop μ-loop
+figures-with-requires c κs = search needs
+
+is-large-requires : tie.Need-is-large-requires Inv-loop μ-loop
+is-large-requires c κs = search needs
+
+add-t18 : tie.Need-add-t18 Inv-loop μ-loop
+add-t18 c = search needs
+
+same-length : tie.Need-same-length Inv-loop μ-loop
+same-length c = c .before .before .before .before .before .before .loop .inv .1
+
+returns : tie.Need-returns Inv-loop μ-loop
+returns c =
+    let s = c .before .before .before .before .before .before .before .before in
+    let l = c .before .before .before .before .before .before .loop in
+    let test = c .before .before .before .before .before .loop-test .taken in
+    let a = s .args in
+    let large = large-is (a .site) (a .receptor) (a .source) _ (l .p) _ _ (s .pre .2) (c .before .before .before .pathway-at .ensures) (c .before .before .figures-with .ensures) _ (c .before .is-large .ensures) in (
+      line-stops (a .site) (a .receptor) (a .source) (a .before) (l .p) (l .inv .4) test (sym large ∙ c .if1 .taken),
+      (λ e. absurd (never _ 42 _ 0 refl e), l .inv .3),
+    )
+
+add-at : tie.Need-add-at Inv-loop μ-loop
+add-at c = search needs
+
+columns-of-requires : tie.Need-columns-of-requires Inv-loop μ-loop
+columns-of-requires c κs = search needs
+
+put-counts-requires : tie.Need-put-counts-requires Inv-loop μ-loop
+put-counts-requires c κs = search needs
+
+add-put-counts : tie.Need-add-put-counts Inv-loop μ-loop
+add-put-counts c = search needs
+
+columns-of-requires-2 : tie.Need-columns-of-requires-2 Inv-loop μ-loop
+columns-of-requires-2 c κs = search needs
+
+put-counts-requires-2 : tie.Need-put-counts-requires-2 Inv-loop μ-loop
+put-counts-requires-2 c κs = search needs
+
+loop-less : tie.Need-loop-less Inv-loop μ-loop
+loop-less c = search needs
+
+loop-again : tie.Need-loop-again Inv-loop μ-loop
+unfolding figured figureFor
+loop-again c =
+    let s = c .before .before .before .before .before .before .before .before .before .before .before .before .before .before .before .before .before .before in
+    let l = c .before .before .before .before .before .before .before .before .before .before .before .before .before .before .before .before .loop in
+    let test = c .before .before .before .before .before .before .before .before .before .before .before .before .before .before .before .loop-test .taken in
+    let a = s .args in
+    let way = c .before .before .before .before .before .before .before .before .before .before .before .before .before .pathway-at .ensures in
+    let figures = c .before .before .before .before .before .before .before .before .before .before .before .before .figures-with .ensures in
+    let large = large-is (a .site) (a .receptor) (a .source) _ (l .p) _ _ (s .pre .2) way figures _ (c .before .before .before .before .before .before .before .before .before .before .before .is-large .ensures) in
+    let h = columns-are (a .site) (a .receptor) (a .source) _ (l .p) _ _ (s .pre .2) way figures Hazard _ (c .before .before .before .before .before .before .before .before .columns-of .ensures) in
+    let k = columns-are (a .site) (a .receptor) (a .source) _ (l .p) _ _ (s .pre .2) way figures Cancer _ (c .before .before .before .columns-of2 .ensures) in
+    let at = a .base + l .p in
+    let u = c .before .before .before .before .before .before .before .before .columns-of .result in
+    let v = c .before .before .before .columns-of2 .result in
+    let stored = sym (c .before .before .put-counts2 .ensures ∙ ap (λ (x : List ℕ). withCounts x (at + 288) v) (c .before .before .before .before .before .before .before .put-counts .ensures)) in
+    let room : at + 480 < length (l .cells) = omega (arith, test, l .inv .1, s .pre .0) in
+    let small : l .p < 96 = omega (arith, test) in (
+      omega (arith, test),
+      subst (λ (x : List ℕ). length x ≡ length (a .cells .now)) stored (line-length (l .cells) (a .base) (l .p) u v ∙ l .inv .1),
+      subst (λ (x : List ℕ). CellsHold (columnsFrom (a .site) (a .receptor) (a .source)) (l .p + 1) x (a .base)) stored
+          (line-held (l .cells) (a .base) (l .p) u v small (columnsFrom (a .site) (a .receptor) (a .source)) room h k (l .inv .2)),
+      subst (λ (x : List ℕ). SameBut 6 (a .base) (a .cells .now) x) stored (line-others (l .cells) (a .base) (l .p) u v 6 (a .cells .now) test (l .inv .3)),
+      line-fits (a .site) (a .receptor) (a .source) (a .before) (l .p) (l .inv .4) (sym large ∙ c .before .before .before .before .before .before .before .before .before .before .if1 .left),
+    )
+
+same-length-2 : tie.Need-same-length-2 Inv-loop μ-loop
+same-length-2 c = c .before .loop .inv .1
+
+returns-2 : tie.Need-returns-2 Inv-loop μ-loop
+unfolding largeChemical
+returns-2 c =
+    let l = c .before .loop in
+    let all : l .p ≡ 6 = omega arith in
+    (sym (rw all at (l .inv .4)), (λ _. rw all at (l .inv .2), l .inv .3))
+
+pub put-chemical-spec : {M : Type 1} → statement M
+put-chemical-spec =
+    tie.close
+    (tie.spec
+    Inv-loop
+    μ-loop
+    loop-holds
+    add-next
+    pathway-at-requires
+    figures-with-requires
+    is-large-requires
+    add-t18
+    same-length
+    returns
+    add-at
+    columns-of-requires
+    put-counts-requires
+    add-put-counts
+    columns-of-requires-2
+    put-counts-requires-2
+    loop-less
+    loop-again
+    same-length-2
+    returns-2)
