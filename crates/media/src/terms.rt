@@ -89,12 +89,12 @@ pub(crate) fn sum_of_terms(x: Pair) -> Answer
         let Answer::Is(divisor) = Pair::entry(n + 2, 0) else {
             return Answer::Refused;
         };
-        let Answer::Is(t) = term.answer().times_over(x, divisor.answer()) else {
+        let next = term.next_term(total, x, divisor);
+        if !next.worked {
             return Answer::Refused;
-        };
-        let Answer::Is(s) = total.sum(t) else {
-            return Answer::Refused;
-        };
+        }
+        let t = next.term;
+        let s = next.total;
         if is_settled(x, t, s, divisor) {
             return s.raised((255 - n) as u8);
         }

@@ -11,6 +11,7 @@ use Rattle.pair.specs.declared.Pair.{Pair}
 use Rattle.pair.specs.declared.Units.{Units}
 use Rattle.pair.specs.declared.Answer.{Answer}
 use Rattle.pair.specs.declared.Answer.the-variants as Answers
+use Rattle.pair.specs.declared.Partial.{Partial}
 use Rattle.pair.specs.declared.Step.{Step}
 use Rattle.pair.specs.declared.Step.the-variants as Steps
 use Rattle.pair.specs.declared.Order.{Order}
@@ -105,6 +106,15 @@ oneMinus f =
 unfoldable pub compared : Number → Number → Outcome Bool
 compared a b = provided (isNumber a && isNumber b) (is (atMost a b))
 
+-- a term of a series and the sum of the terms up to it, where both are told; else it is not worked
+unfoldable pub noPartial : Partial
+noPartial = record { worked = false; term = zeroPair; total = zeroPair }
+
+unfoldable pub partial : Outcome Pair → Outcome Pair → Partial
+partial (is t) (is s) = record { worked = true; term = t; total = s }
+partial (is t) (refused n) = noPartial
+partial (refused n) s = noPartial
+
 -- whether q is above 0 and below one unit of the last figure of p's low end: then p + q has p's low end and, at the high end, one unit more
 unfoldable pub absorbs : Pair → Pair → Bool
 absorbs p q =
@@ -136,3 +146,9 @@ inUnits p u =
     let high : ℕ = unitsEnd true (p .high) u in
     provided (isPair p && (inReach u && (ltb low (10 ^ 19) && ltb high (10 ^ 19))))
     (is (record { low = low; high = high }))
+
+-- a step of a series: the next term, term × factor / divisor, and the total with it
+unfoldable pub nextTerm : Pair → Pair → Pair → Pair → Partial
+nextTerm term total factor divisor =
+    let t : Outcome Pair = after quotient (product term factor) (is divisor) in
+    partial t (after sum (is total) t)

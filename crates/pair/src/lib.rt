@@ -58,6 +58,14 @@ pub enum Order {
     Refused,
 }
 
+// A term of a series and the sum of the terms up to it. Not worked is document 01's 53; then both are 0. A struct and no enum: the parts
+// of a struct go from step to step as they are, and a series has up to 255 steps.
+pub struct Partial {
+    pub worked: bool,
+    pub term: Pair,
+    pub total: Pair,
+}
+
 // The two ends of a pair as whole numbers of a unit.
 pub struct Units {
     pub low: u64,
@@ -194,6 +202,39 @@ fn last_two(low: Number, high: Number, step: Step, q: Pair, next: Step, d: Pair)
         return Answer::Refused;
     }
     last(lower, upper, next, d)
+}
+
+fn no_partial() -> Partial
+    ensures { λ r. ⌜ r ≡ calls.noPartial ⌝ }
+{
+    Partial {
+        worked: false,
+        term: Pair::ZERO,
+        total: Pair::ZERO,
+    }
+}
+
+// The term with these ends, and the total with it.
+fn with_term(total: Pair, low: Number, high: Number) -> Partial
+    requires { ⌜ isPair (record { low = low; high = high }) ≡ true ⌝ }
+    ensures { λ r. ⌜ r ≡ calls.partial (calls.is (record { low = low; high = high })) (calls.sum total (record { low = low; high = high })) ⌝ }
+{
+    if !is_pair(total) {
+        return no_partial();
+    }
+    let lower = sum(false, total.low, low);
+    let upper = sum(true, total.high, high);
+    if !both_in_reach(lower, upper) {
+        return no_partial();
+    }
+    Partial {
+        worked: true,
+        term: Pair { low, high },
+        total: Pair {
+            low: lower,
+            high: upper,
+        },
+    }
 }
 
 impl Number {
@@ -359,6 +400,32 @@ impl Pair {
             rest(false, high.significand as u64, high.exponent),
             rest(true, low.significand as u64, low.exponent),
         )
+    }
+
+    // A step of a series: the next term, self × factor / divisor, and the total with it, worked on numbers from end to end.
+    pub fn next_term(self, total: Pair, factor: Pair, divisor: Pair) -> Partial
+        ensures { λ r. ⌜ r ≡ calls.nextTerm self total factor divisor ⌝ }
+    {
+        if !is_pair(self) {
+            return no_partial();
+        }
+        if !is_operand(Step::Times, factor) {
+            return no_partial();
+        }
+        let low = low_by(Step::Times, self.low, factor);
+        let high = high_by(Step::Times, self.high, factor);
+        if !both_in_reach(low, high) {
+            return no_partial();
+        }
+        if !is_operand(Step::Over, divisor) {
+            return no_partial();
+        }
+        let lower = low_by(Step::Over, low, divisor);
+        let upper = high_by(Step::Over, high, divisor);
+        if !both_in_reach(lower, upper) {
+            return no_partial();
+        }
+        with_term(total, lower, upper)
     }
 
     // Whether other is above 0 and below one unit of the low end's last figure: then a sum keeps the low end, and its high end has one
