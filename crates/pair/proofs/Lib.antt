@@ -22,5 +22,5 @@ mod Sizes
 pub mod Promises
 mod Worked
 mod Steps
-mod Partials
+pub mod Partials
 pub mod Settling

@@ -1,11 +1,12 @@
 -- A step of a series, test by test as the code makes it. Assumes nothing.
 use mathlib.Core.Path.{_≡_, refl, sym, _∙_, ap, ap₂}
-use mathlib.Core.Bool.{Bool, true, false, _&&_}
+use mathlib.Core.Bool.{Bool, true, false, _&&_, not, true≢false}
+use mathlib.Core.Logic.{_⊎_, inl, inr}
 use Rattle.pair.specs.declared.Number.{Number}
 use Rattle.pair.specs.declared.Pair.{Pair}
 use Rattle.pair.specs.declared.Partial.{Partial}
-use Rattle.pair.specs.Number.{isPair}
-use Rattle.pair.specs.Rounding.{sumEnd}
+use Rattle.pair.specs.Number.{isPair, isZero, inReach}
+use Rattle.pair.specs.Rounding.{sumEnd, productEnd, quotientEnd}
 use Rattle.pair.specs.Calls.{Outcome, is, refused, provided, ends, sum, product, quotient, after, noPartial, partial, nextTerm}
 use Rattle.pair.specs.Inner.{bothInReach}
 use Rattle.pair.proofs.Answers.{pair}
@@ -55,3 +56,70 @@ module _ (term total factor divisor : Pair) where
     pub quotient-told : (u : Pair) → is u ≡ quotient r divisor → partial (is u) (sum total u) ≡ nextTerm term total factor divisor
     unfolding nextTerm from-product after
     quotient-told u h = ap (λ (o : Outcome Pair). partial o (after sum (is total) o)) h ∙ ap from-product e
+
+-- ---- what a step tells, for those who make it
+-- a result, or 53
+abbrev Plain : Outcome Pair → Type 0
+Plain o = ((p : Pair) × (o ≡ is p)) ⊎ (o ≡ refused 53)
+
+plain-provided : (t : Bool) (o : Outcome Pair) → Plain o → Plain (provided t o)
+unfolding provided
+plain-provided true o h = h
+plain-provided false o h = inr refl
+
+plain-ends : (low high : Number) → Plain (ends low high)
+unfolding ends
+plain-ends low high = plain-provided (inReach (low .exponent) && inReach (high .exponent)) (is (pair low high)) (inl (pair low high, refl))
+
+plain-sum : (p q : Pair) → Plain (sum p q)
+unfolding sum
+plain-sum p q =
+    plain-provided (isPair p && isPair q) (ends (sumEnd false (p .low) (q .low)) (sumEnd true (p .high) (q .high)))
+    (plain-ends (sumEnd false (p .low) (q .low)) (sumEnd true (p .high) (q .high)))
+
+plain-product : (p q : Pair) → Plain (product p q)
+unfolding product
+plain-product p q =
+    plain-provided (isPair p && isPair q) (ends (productEnd false (p .low) (q .low)) (productEnd true (p .high) (q .high)))
+    (plain-ends (productEnd false (p .low) (q .low)) (productEnd true (p .high) (q .high)))
+
+plain-quotient : (p q : Pair) → Plain (quotient p q)
+unfolding quotient
+plain-quotient p q =
+    plain-provided (isPair p && (isPair q && not (isZero (q .low)))) (ends (quotientEnd false (p .low) (q .high)) (quotientEnd true (p .high) (q .low)))
+    (plain-ends (quotientEnd false (p .low) (q .high)) (quotientEnd true (p .high) (q .low)))
+
+plain-term : (d : Pair) (o : Outcome Pair) → Plain o → Plain (after quotient o (is d))
+unfolding after
+plain-term d o (inl (p, e)) = rw e (plain-quotient p d)
+plain-term d o (inr e) = inr (ap (λ (u : Outcome Pair). after quotient u (is d)) e)
+
+-- A step that is worked tells the term and the total; one that is not tells of a total refused.
+told-both : (o s : Outcome Pair) → partial o s .worked ≡ true → (o ≡ is (partial o s .term)) × (s ≡ is (partial o s .total))
+unfolding partial noPartial
+told-both (is t) (is s) h = (refl, refl)
+told-both (is t) (refused n) h = absurd (true≢false (sym h))
+told-both (refused n) s h = absurd (true≢false (sym h))
+
+module _ (term total factor divisor : Pair) where
+  abbrev next : Outcome Pair
+  next = after quotient (product term factor) (is divisor)
+
+  pub next-worked : nextTerm term total factor divisor .worked ≡ true →
+      (next ≡ is (nextTerm term total factor divisor .term)) × (after sum (is total) next ≡ is (nextTerm term total factor divisor .total))
+  unfolding nextTerm
+  next-worked h = told-both next (after sum (is total) next) h
+
+  pub next-refused : nextTerm term total factor divisor .worked ≡ false → after sum (is total) next ≡ refused 53
+  unfolding nextTerm
+  next-refused h = go next (plain-term divisor (product term factor) (plain-product term factor)) h
+    where
+      added-refused : (t : Pair) (s : Outcome Pair) → Plain s → partial (is t) s .worked ≡ false → s ≡ refused 53
+      added-refused t s (inl (p, e)) k = unfold partial in absurd (true≢false (ap (λ (u : Outcome Pair). partial (is t) u .worked) (sym e) ∙ k))
+      added-refused t s (inr e) k = e
+
+      go : (o : Outcome Pair) → Plain o → partial o (after sum (is total) o) .worked ≡ false → after sum (is total) o ≡ refused 53
+      go o (inl (t, e)) k =
+          ap (after sum (is total)) e
+          ∙ (unfold after in added-refused t (sum total t) (plain-sum total t) (ap (λ (u : Outcome Pair). partial u (after sum (is total) u) .worked) (sym e) ∙ k))
+      go o (inr e) k = unfold after in ap (after sum (is total)) e
