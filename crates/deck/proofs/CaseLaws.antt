@@ -10,9 +10,9 @@ use mathlib.Core.List.{List, [], _∷_, _++_}
 use lib.ListN.{length, take, drop, set, replicate, length-append, length-take, length-drop, drop-of-length-le}
 use lib.Seq.{set-at, append-snoc}
 use Rattle.deck.specs.Parts.{within, leading, linesOf, lineOf, fieldIn, fieldOf}
-use Rattle.deck.specs.Numbers.{idIn, idSpelled}
+use Rattle.deck.specs.Numbers.{idIn, idSpelled, wordOf}
 use Rattle.deck.specs.Conditions.{idOf}
-use Rattle.deck.specs.Cases.{tabulate, noSlot, slotSpelled, noRecord, recordOf, recordsOf, caseWith, noCase}
+use Rattle.deck.specs.Cases.{tabulate, valueOf, noSlot, slotSpelled, noRecord, recordOf, recordsOf, caseWith, noCase}
 use Rattle.deck.specs.declared.Filled.{Filled}
 use Rattle.deck.specs.declared.Record.{Record}
 use Rattle.deck.specs.declared.Case.{Case}
@@ -94,14 +94,6 @@ unfolding recordsOf
 records-are deck n count room i xs p q f =
     f ∙ ap (λ (m : ℕ). tabulate m (λ j. recordOf deck (n + 4 * j) 4) ++ replicate (room - m) noRecord) (le-antisymm p q)
 
-pub no-case-is : (r : Record) → r ≡ noRecord
-    → _≡_ {A = Case}
-    (record { site = r; chemicals = record { count = 0; records = replicate 16 r }; receptors = record { count = 0; records = replicate 8 r } })
-    noCase
-unfolding noCase
-no-case-is r e =
-    ap (λ (x : Record). record { site = x; chemicals = record { count = 0; records = replicate 16 x }; receptors = record { count = 0; records = replicate 8 x } }) e
-
 pub case-is : (deck : List ℕ) (m n : ℕ) (site : Record) (cs rs : List Record) → site ≡ recordOf deck 1 2 → cs ≡ recordsOf deck 3 m 16
     → rs ≡ recordsOf deck (3 + 4 * m) n 8
     → _≡_ {A = Case}
@@ -110,3 +102,8 @@ pub case-is : (deck : List ℕ) (m n : ℕ) (site : Record) (cs rs : List Record
 unfolding caseWith
 case-is deck m n site cs rs a b c =
     λ i. record { site = a i; chemicals = record { count = m; records = b i }; receptors = record { count = n; records = c i } }
+
+-- an empty deck has no site, chemical or receptor
+pub empty-case : caseWith [] 0 0 ≡ noCase
+unfolding caseWith noCase recordOf recordsOf tabulate slotSpelled fieldOf fieldIn lineOf linesOf within wordOf leading valueOf idOf idIn idSpelled
+empty-case = refl

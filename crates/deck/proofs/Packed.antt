@@ -146,3 +146,7 @@ module _ (deck : List ℕ) where
       let m : i % 6 ≡ k % 6 = omega arith in
       let field : fieldOf deck (i / 6 + 1) (i % 6 + 1) ≡ fieldOf deck (n + k / 6) (k % 6 + 1) = rw (d, m) refl in
       ap (λ (x : Value). record { value = x }) (g ∙ ap unpackedOf there ∙ unpacked-word _ (word-small _) ∙ ap (λ (part : List ℕ). valueOf (wordOf part)) field)
+
+pub none-kept : replicate maxFields 0 ≡ packedFields []
+unfolding linesOf
+none-kept = kept-all [] 0 (replicate maxFields 0) (omega arith) refl (kept-none [] (replicate maxFields 0) refl)

@@ -5,7 +5,7 @@ ghost use Rattle.deck.specs.Parts.{lineOf};
 ghost use Rattle.deck.specs.Kinds.{maxChemicals, mostReceptors};
 ghost use Rattle.deck.specs.Conditions.{idOf};
 ghost use Rattle.deck.specs.Inner.{packedFields};
-ghost use Rattle.deck.specs.Cases.{recordOf, recordsOf, caseWith, noRecord, noCase, chemicalsStart};
+ghost use Rattle.deck.specs.Cases.{recordOf, recordsOf, caseWith, noRecord, chemicalsStart};
 use crate::Case;
 use crate::Chemicals;
 use crate::Filled;
@@ -127,25 +127,6 @@ pub(crate) fn case_with(
         },
         receptors: Receptors {
             count: receptor_count,
-            records: receptor_records,
-        },
-    }
-}
-
-pub(crate) fn no_case() -> Case
-    ensures { λ r. ⌜ r ≡ noCase ⌝ }
-{
-    let none = no_record();
-    let chemical_records = [none; MAX_CHEMICALS];
-    let receptor_records = [none; MAX_STAGES];
-    Case {
-        site: none,
-        chemicals: Chemicals {
-            count: 0,
-            records: chemical_records,
-        },
-        receptors: Receptors {
-            count: 0,
             records: receptor_records,
         },
     }
