@@ -193,6 +193,27 @@ fn last_two(low: Number, high: Number, step: Step, q: Pair, next: Step, d: Pair)
     last(lower, upper, next, d)
 }
 
+// p × q / d, a step from term to term of a series: two steps of a chain with the operations written out, which the series is faster with.
+fn product_over(p: Pair, q: Pair, d: Pair) -> Answer
+    ensures { λ r. ⌜ calls.answer r ≡ calls.after calls.quotient (calls.product p q) (calls.is d) ⌝ }
+{
+    if !is_pair(p) {
+        return Answer::Refused;
+    }
+    if !is_operand(Step::Times, q) {
+        return Answer::Refused;
+    }
+    let low = product(false, p.low, q.low);
+    let high = product(true, p.high, q.high);
+    if !both_in_reach(low, high) {
+        return Answer::Refused;
+    }
+    if !is_operand(Step::Over, d) {
+        return Answer::Refused;
+    }
+    answered(quotient(false, low, d.high), quotient(true, high, d.low))
+}
+
 impl Number {
     // Whether a number is at most a bound.
     pub fn compare(self, bound: Number) -> Order
@@ -429,10 +450,7 @@ impl Answer {
         let Answer::Is(d) = divisor else {
             return Answer::Refused;
         };
-        if !is_pair(p) {
-            return Answer::Refused;
-        }
-        last_two(p.low, p.high, Step::Times, factor, Step::Over, d)
+        product_over(p, factor, d)
     }
 
     // Three steps one after the other, worked on numbers: no answer passes from one to the next.

@@ -1,10 +1,7 @@
 -- A refusal on either side is carried along, else the two operations are worked. Assumes nothing.
 use mathlib.Core.Path.{refl}
 use borrow.Author.Needs.{needs}
-use Rattle.pair.specs.declared.Step.the-variants.{Times, Over}
-use Rattle.pair.specs.Calls.{answer, product, stepped, after}
-use Rattle.pair.proofs.Providing.{failed, passed}
-use Rattle.pair.proofs.Steps.{not-pair, refused-on}
+use Rattle.pair.specs.Calls.{answer, after}
 use Rattle.pair.proofs.Worked.{refused-after}
 use Rattle.pair.proofs.Answer.times_over.Statement.{statement}
 use Rattle.pair.proofs.Answer.times_over.Tie as tie
@@ -29,23 +26,12 @@ returns-2 : tie.Need-returns-2
 unfolding answer after
 returns-2 c = rw (c .before .before .before .self .given .1, c .enum-told2 .given .1) (refused-after _ _)
 
-is-pair-requires : tie.Need-is-pair-requires
-is-pair-requires c κs = search needs
+product-over-requires : tie.Need-product-over-requires
+product-over-requires c κs = search needs
 
 returns-3 : tie.Need-returns-3
-unfolding answer after stepped
-returns-3 c =
-    let p = c .before .before .before .before .before .before .self .given .0 .0 in
-    let q = c .before .before .before .before .before .before .before .before .args .factor in
-    rw (c .before .before .before .before .before .before .self .given .1, c .before .before .before .divisor .given .1)
-    (refused-on Over _ (stepped Times p q) (not-pair Times p q (failed (c .before .is-pair .ensures) (c .if1 .taken))))
-
-last-two-requires : tie.Need-last-two-requires
-last-two-requires c κs = passed (c .before .is-pair .ensures) (c .if1 .left)
-
-returns-4 : tie.Need-returns-4
-unfolding answer after stepped
-returns-4 c = rw (c .before .before .before .before .before .before .before .self .given .1, c .before .before .before .before .divisor .given .1) (c .last-two .ensures)
+unfolding answer after
+returns-3 c = rw (c .before .before .before .before .before .self .given .1, c .before .before .divisor .given .1) (c .product-over .ensures)
 
 pub times-over-spec : {M : Type 1} → statement M
 times-over-spec =
@@ -57,7 +43,5 @@ times-over-spec =
     enum-known-divisor
     enum-told-2
     returns-2
-    is-pair-requires
-    returns-3
-    last-two-requires
-    returns-4)
+    product-over-requires
+    returns-3)
