@@ -525,7 +525,7 @@ impl Answer {
         p.quotient(q)
     }
 
-    // self × factor / divisor, as times and over one after the other: a step from term to term of a series.
+    // self × factor / divisor, as times and over one after the other.
     pub fn times_over(self, factor: Pair, divisor: Answer) -> Answer
         ensures { λ r. ⌜ calls.answer r ≡ calls.after calls.quotient (calls.after calls.product (calls.answer self) (calls.is factor)) (calls.answer divisor) ⌝ }
     {

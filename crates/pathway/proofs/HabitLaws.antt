@@ -12,12 +12,12 @@ use Rattle.equations.specs.declared.Effect.the-variants.{Hazard, Cancer}
 use Rattle.equations.specs.declared.Values.{Values}
 use Rattle.equations.specs.Formula.{read, pairs}
 use Rattle.equations.specs.Page.{AT, B, exposure, factor, intakeBy, figureBy}
-use Rattle.equations.specs.Readings.{plain, letters, inputs, byOwner, valueIn}
+use Rattle.equations.specs.Readings.{plain, letters, inputs, byOwner, valueIn, noValues}
 use Rattle.media.specs.declared.Conc.{Conc}
 use Rattle.slots.specs.Slots.{table, same, isIn, placeIn, ownerOf, placeOf}
 use Rattle.pathway.specs.declared.Factor.{Factor}
 use Rattle.pathway.specs.declared.Dose.{Dose}
-use Rattle.pathway.specs.Lines.{some, workedFor, factorOf, doseOf, figureOf, workedOf, begins, onward, habitsOf, baseIn, begunIn, exposureWith, factorWith, figureIfGiven}
+use Rattle.pathway.specs.Lines.{some, workedFor, factorOf, doseOf, figureOf, workedOf, begins, onward, absorbedOf, shareOf, habitsOf, baseIn, begunIn, exposureWith, factorWith, figureIfGiven}
 
 -- a receptor's letters are read alike with any site and chemical
 pub base-alike : (s c r : Values) (e : Effect) → workedOf r (B e) ≡ workedFor s c r (B e)
@@ -25,9 +25,9 @@ unfolding workedOf workedFor plain read letters inputs byOwner valueIn ownerOf p
 base-alike s c r Hazard = refl
 base-alike s c r Cancer = refl
 
--- an exposure is what it begins with and what it goes on with
-pub begun-exposure : (s c r : Values) (p : Pathway) → onward (after product) (workedFor s c r) p (workedOf r (begins p)) ≡ workedFor s c r (exposure p)
-unfolding onward begins exposure workedOf workedFor plain read letters inputs byOwner valueIn ownerOf placeOf table same isIn placeIn pairs
+-- an exposure is what it begins with, the share absorbed and what it goes on with
+pub begun-exposure : (s c r : Values) (p : Pathway) → onward (after product) (workedFor s noValues r) p (is (shareOf p (absorbedOf c))) (workedOf r (begins p)) ≡ workedFor s c r (exposure p)
+unfolding onward begins exposure shareOf absorbedOf workedOf workedFor plain read letters inputs byOwner valueIn ownerOf placeOf table same isIn placeIn pairs
 begun-exposure s c r Air = refl
 begun-exposure s c r SoilSummer = refl
 begun-exposure s c r SoilWinter = refl
@@ -54,10 +54,10 @@ divided : (s c r : Values) (e : Effect) (p : Pathway) → after quotient (worked
 unfolding workedFor plain read pairs factor
 divided s c r e p = refl
 
-pub own-factor : (e : Effect) (p : Pathway) (s c r : Values) → factorWith (exposureWith (habitsOf r) p s c r) (baseIn (habitsOf r) e) ≡ factorOf e p s c r
+pub own-factor : (e : Effect) (p : Pathway) (s c r : Values) → factorWith (exposureWith (habitsOf r) p s (absorbedOf c) r) (baseIn (habitsOf r) e) ≡ factorOf e p s c r
 unfolding factorWith exposureWith factorOf
 own-factor e p s c r =
-    let x : exposureWith (habitsOf r) p s c r ≡ workedFor s c r (exposure p) = ap (onward (after product) (workedFor s c r) p) (own-begun r p) ∙ begun-exposure s c r p in
+    let x : exposureWith (habitsOf r) p s (absorbedOf c) r ≡ workedFor s c r (exposure p) = ap (onward (after product) (workedFor s noValues r) p (is (shareOf p (absorbedOf c)))) (own-begun r p) ∙ begun-exposure s c r p in
     let b : baseIn (habitsOf r) e ≡ workedFor s c r (B e) = own-base r e ∙ base-alike s c r e in
     ap (λ (o : Outcome Pair). mapped (λ (q : Pair). record { 0 = q }) o) (ap₂ (after quotient) x b ∙ divided s c r e p)
 

@@ -8,9 +8,10 @@ use Rattle.equations.specs.declared.Effect.{Effect}
 use Rattle.equations.specs.declared.Effect.the-variants.{Hazard, Cancer}
 use Rattle.equations.specs.declared.Values.{Values}
 use Rattle.equations.specs.Formula.{Formula, _⊕_, _⊗_, pairs}
-use Rattle.equations.specs.Letters.{FRsnow, AFinh, AForal, AFderm, ED, IRinh, ETinh, EFinh, IRsoil, ETsoil, EFs, EFw, SAb, SAFb, SAh, SAFh, ETderm, IRag, Fag, IRbg, Fbg, WP, EFp}
+use Rattle.equations.specs.Letters.{FRsnow, ED, IRinh, ETinh, EFinh, IRsoil, ETsoil, EFs, EFw, SAb, SAFb, SAh, SAFh, ETderm, IRag, Fag, IRbg, Fbg, WP, EFp}
 use Rattle.equations.specs.Page.{perMillion, B, factor, byMedium, intakeBy, byRoute, figureBy}
-use Rattle.equations.specs.Readings.{plain, inputs, noValues}
+use Rattle.equations.specs.Readings.{plain, inputs, valueIn, noValues}
+use Rattle.slots.specs.Slots.{placeOf}
 use Rattle.media.specs.declared.Conc.{Conc}
 use Rattle.media.specs.declared.Media.{Media}
 use Rattle.pathway.specs.declared.Factor.{Factor}
@@ -29,6 +30,7 @@ use Rattle.pathway.specs.declared.Dosed.the-variants as Doses
 use Rattle.pathway.specs.declared.Figure.{Figure}
 use Rattle.pathway.specs.declared.Figure.the-variants as Figures
 use Rattle.pathway.specs.declared.Line.{Line}
+use Rattle.pathway.specs.declared.Absorbed.{Absorbed}
 use Rattle.pathway.specs.declared.Habits.{Habits}
 
 -- a value, or none where the reference value is missing
@@ -126,14 +128,25 @@ begins Skin = SAb ⊗ SAFb ⊕ SAh ⊗ SAFh
 begins AboveGround = IRag ⊗ Fag ⊗ WP
 begins BelowGround = IRbg ⊗ Fbg ⊗ WP
 
--- and what it goes on with, in any reading of × and of the letters
-unfoldable pub onward : {A : Type 0} → (A → A → A) → (Formula → A) → Pathway → A → A
-onward times v Air x = times (times (times (times x (v AFinh)) (v ETinh)) (v EFinh)) (v ED)
-onward times v SoilSummer x = times (times (times (times (times x (v AForal)) (v ETsoil)) (v EFs)) (v ED)) (v perMillion)
-onward times v SoilWinter x = times (times (times (times (times (times x (v AForal)) (v FRsnow)) (v ETsoil)) (v EFw)) (v ED)) (v perMillion)
-onward times v Skin x = times (times (times (times (times x (v AFderm)) (v ETderm)) (v EFs)) (v ED)) (v perMillion)
-onward times v AboveGround x = times (times (times x (v AForal)) (v EFp)) (v ED)
-onward times v BelowGround x = times (times (times x (v AForal)) (v EFp)) (v ED)
+-- then the share of the chemical that is absorbed, and what it goes on with, in any reading of × and of the letters
+unfoldable pub onward : {A : Type 0} → (A → A → A) → (Formula → A) → Pathway → A → A → A
+onward times v Air share x = times (times (times (times x share) (v ETinh)) (v EFinh)) (v ED)
+onward times v SoilSummer share x = times (times (times (times (times x share) (v ETsoil)) (v EFs)) (v ED)) (v perMillion)
+onward times v SoilWinter share x = times (times (times (times (times (times x share) (v FRsnow)) (v ETsoil)) (v EFw)) (v ED)) (v perMillion)
+onward times v Skin share x = times (times (times (times (times x share) (v ETderm)) (v EFs)) (v ED)) (v perMillion)
+onward times v AboveGround share x = times (times (times x share) (v EFp)) (v ED)
+onward times v BelowGround share x = times (times (times x share) (v EFp)) (v ED)
+
+unfoldable pub absorbedOf : Values → Absorbed
+absorbedOf c = record { inhaled = valueIn c (placeOf "AFinh"); oral = valueIn c (placeOf "AForal"); dermal = valueIn c (placeOf "AFderm") }
+
+unfoldable pub shareOf : Pathway → Absorbed → Pair
+shareOf Air a = a .inhaled
+shareOf SoilSummer a = a .oral
+shareOf SoilWinter a = a .oral
+shareOf Skin a = a .dermal
+shareOf AboveGround a = a .oral
+shareOf BelowGround a = a .oral
 
 -- B of each effect, the soil held on the skin and the produce eaten
 pub record Shared : Type 0 where
@@ -175,8 +188,8 @@ begunIn h r Skin = h .skin
 begunIn h r AboveGround = h .«above_ground»
 begunIn h r BelowGround = h .«below_ground»
 
-unfoldable pub exposureWith : Shared → Pathway → Values → Values → Values → Outcome Pair
-exposureWith h p s c r = onward (after product) (workedFor s c r) p (begunIn h r p)
+unfoldable pub exposureWith : Shared → Pathway → Values → Absorbed → Values → Outcome Pair
+exposureWith h p s a r = onward (after product) (workedFor s noValues r) p (is (shareOf p a)) (begunIn h r p)
 
 -- exposure / B
 unfoldable pub factorWith : Outcome Pair → Outcome Pair → Outcome Factor
@@ -188,10 +201,10 @@ figureIfGiven e d (some v) = figureOf e d (some v)
 figureIfGiven e d none = is none
 
 -- a line's two figures, from what its receptor's lines share
-unfoldable pub figuresWith : Shared → Pathway → Values → Values → Values → Media → References → Figured
-figuresWith h p s c r m refs =
+unfoldable pub figuresWith : Shared → Pathway → Values → Absorbed → Values → Media → References → Figured
+figuresWith h p s a r m refs =
     let medium : Conc = concentrationFor p m in
-    let exposure : Outcome Pair = exposureWith h p s c r in
+    let exposure : Outcome Pair = exposureWith h p s a r in
     record {
       hazard = figureIfGiven Hazard (doseOf (factorWith exposure (baseIn h Hazard)) medium) (rfdValue (rfdGiven (byRoute p (refs .«rfd_i») (refs .«rfd_o»))));
       cancer = figureIfGiven Cancer (doseOf (factorWith exposure (baseIn h Cancer)) medium) (csfValue (csfGiven (byRoute p (refs .«csf_i») (refs .«csf_o»))));

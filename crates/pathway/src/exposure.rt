@@ -1,4 +1,5 @@
 //! What stands above and below the bar of an intake factor (document 01, "Six pathways").
+use crate::Absorbed;
 use equations::Effect;
 use equations::Pathway;
 use equations::Values;
@@ -35,7 +36,8 @@ ghost use mathlib.Core.Path.{_≡_};
 ghost use Rattle.pair.specs.Calls.{answer, is, after, product};
 ghost use Rattle.equations.specs.Page as page;
 ghost use Rattle.equations.specs.declared.Pathway.the-variants.{Air, SoilSummer, SoilWinter, Skin, AboveGround};
-ghost use Rattle.pathway.specs.Lines.{workedFor, workedOf, begins, onward};
+ghost use Rattle.pathway.specs.Lines.{workedFor, workedOf, absorbedOf, shareOf, begins, onward};
+ghost use Rattle.equations.specs.Readings.{noValues};
 
 // 0.000001, kg/mg.
 const PER_MILLION: Pair = Pair {
@@ -56,6 +58,31 @@ pub(crate) fn base_of(r: Values, effect: Effect) -> Answer
     match effect {
         Effect::Hazard => r.at(BW).times(Pair::entry(365, 0).times(r.at(ED))),
         Effect::Cancer => r.at(BW).times(r.at(ATC)),
+    }
+}
+
+// The shares absorbed of a chemical.
+pub fn absorbed_of(c: Values) -> Absorbed
+    ensures { λ a. ⌜ a ≡ absorbedOf c ⌝ }
+{
+    Absorbed {
+        inhaled: c.value(AF_INH),
+        oral: c.value(AF_ORAL),
+        dermal: c.value(AF_DERM),
+    }
+}
+
+// The share absorbed on a pathway.
+pub(crate) fn share_of(pathway: Pathway, absorbed: Absorbed) -> Pair
+    ensures { λ a. ⌜ a ≡ shareOf pathway absorbed ⌝ }
+{
+    match pathway {
+        Pathway::Air => absorbed.inhaled,
+        Pathway::SoilSummer => absorbed.oral,
+        Pathway::SoilWinter => absorbed.oral,
+        Pathway::Skin => absorbed.dermal,
+        Pathway::AboveGround => absorbed.oral,
+        Pathway::BelowGround => absorbed.oral,
     }
 }
 
@@ -88,56 +115,62 @@ fn times_three(x: Answer, a: Pair, b: Pair, c: Pair) -> Answer
     x.through(Step::Times, a, Step::Times, b, Step::Times, c)
 }
 
-fn air(s: Values, c: Values, r: Values, begun: Answer) -> Answer
-    ensures { λ a. ⌜ answer a ≡ onward (after product) (workedFor s c r) Air (answer begun) ⌝ }
+fn air(s: Values, r: Values, share: Pair, begun: Answer) -> Answer
+    ensures { λ a. ⌜ answer a ≡ onward (after product) (workedFor s noValues r) Air (is share) (answer begun) ⌝ }
 {
-    let inhaled = times_three(begun, c.value(AF_INH), r.value(ET_INH), r.value(EF_INH));
+    let inhaled = times_three(begun, share, r.value(ET_INH), r.value(EF_INH));
     inhaled.times(r.at(ED))
 }
 
-fn soil_summer(s: Values, c: Values, r: Values, begun: Answer) -> Answer
-    ensures { λ a. ⌜ answer a ≡ onward (after product) (workedFor s c r) SoilSummer (answer begun) ⌝ }
+fn soil_summer(s: Values, r: Values, share: Pair, begun: Answer) -> Answer
+    ensures { λ a. ⌜ answer a ≡ onward (after product) (workedFor s noValues r) SoilSummer (is share) (answer begun) ⌝ }
 {
-    let eaten = begun.times(c.at(AF_ORAL)).times(r.at(ET_SOIL));
-    times_three(eaten, r.value(EF_S), r.value(ED), PER_MILLION)
+    let eaten = times_three(begun, share, r.value(ET_SOIL), r.value(EF_S));
+    eaten.times(r.at(ED)).times(PER_MILLION.answer())
 }
 
-fn soil_winter(s: Values, c: Values, r: Values, begun: Answer) -> Answer
-    ensures { λ a. ⌜ answer a ≡ onward (after product) (workedFor s c r) SoilWinter (answer begun) ⌝ }
+fn soil_winter(s: Values, r: Values, share: Pair, begun: Answer) -> Answer
+    ensures { λ a. ⌜ answer a ≡ onward (after product) (workedFor s noValues r) SoilWinter (is share) (answer begun) ⌝ }
 {
-    let eaten = times_three(begun, c.value(AF_ORAL), s.value(FR_SNOW), r.value(ET_SOIL));
+    let eaten = times_three(begun, share, s.value(FR_SNOW), r.value(ET_SOIL));
     times_three(eaten, r.value(EF_W), r.value(ED), PER_MILLION)
 }
 
-fn skin(s: Values, c: Values, r: Values, begun: Answer) -> Answer
-    ensures { λ a. ⌜ answer a ≡ onward (after product) (workedFor s c r) Skin (answer begun) ⌝ }
+fn skin(s: Values, r: Values, share: Pair, begun: Answer) -> Answer
+    ensures { λ a. ⌜ answer a ≡ onward (after product) (workedFor s noValues r) Skin (is share) (answer begun) ⌝ }
 {
-    let taken = begun.times(c.at(AF_DERM)).times(r.at(ET_DERM));
-    times_three(taken, r.value(EF_S), r.value(ED), PER_MILLION)
+    let taken = times_three(begun, share, r.value(ET_DERM), r.value(EF_S));
+    taken.times(r.at(ED)).times(PER_MILLION.answer())
 }
 
-fn produce(s: Values, c: Values, r: Values, begun: Answer) -> Answer
-    ensures { λ a. ⌜ answer a ≡ onward (after product) (workedFor s c r) AboveGround (answer begun) ⌝ }
+fn produce(s: Values, r: Values, share: Pair, begun: Answer) -> Answer
+    ensures { λ a. ⌜ answer a ≡ onward (after product) (workedFor s noValues r) AboveGround (is share) (answer begun) ⌝ }
 {
-    times_three(begun, c.value(AF_ORAL), r.value(EF_P), r.value(ED))
+    times_three(begun, share, r.value(EF_P), r.value(ED))
 }
 
-// An exposure from what it begins with.
-pub(crate) fn gone_on(s: Values, c: Values, r: Values, pathway: Pathway, begun: Answer) -> Answer
-    ensures { λ a. ⌜ answer a ≡ onward (after product) (workedFor s c r) pathway (answer begun) ⌝ }
+// An exposure from what it begins with and the share that is absorbed.
+pub(crate) fn gone_on(s: Values, r: Values, pathway: Pathway, share: Pair, begun: Answer) -> Answer
+    ensures { λ a. ⌜ answer a ≡ onward (after product) (workedFor s noValues r) pathway (is share) (answer begun) ⌝ }
 {
     match pathway {
-        Pathway::Air => air(s, c, r, begun),
-        Pathway::SoilSummer => soil_summer(s, c, r, begun),
-        Pathway::SoilWinter => soil_winter(s, c, r, begun),
-        Pathway::Skin => skin(s, c, r, begun),
-        Pathway::AboveGround => produce(s, c, r, begun),
-        Pathway::BelowGround => produce(s, c, r, begun),
+        Pathway::Air => air(s, r, share, begun),
+        Pathway::SoilSummer => soil_summer(s, r, share, begun),
+        Pathway::SoilWinter => soil_winter(s, r, share, begun),
+        Pathway::Skin => skin(s, r, share, begun),
+        Pathway::AboveGround => produce(s, r, share, begun),
+        Pathway::BelowGround => produce(s, r, share, begun),
     }
 }
 
 pub(crate) fn exposure_of(s: Values, c: Values, r: Values, pathway: Pathway) -> Answer
     ensures { λ a. ⌜ answer a ≡ workedFor s c r (page.exposure pathway) ⌝ }
 {
-    gone_on(s, c, r, pathway, begun_of(r, pathway))
+    gone_on(
+        s,
+        r,
+        pathway,
+        share_of(pathway, absorbed_of(c)),
+        begun_of(r, pathway),
+    )
 }

@@ -8,10 +8,12 @@ use crate::doses::factor_of;
 use crate::doses::hazard_from;
 use crate::doses::quotient_of;
 use crate::doses::risk_of;
+pub use crate::exposure::absorbed_of;
 use crate::exposure::base_of;
 use crate::exposure::begun_of;
 use crate::exposure::exposure_of;
 use crate::exposure::gone_on;
+use crate::exposure::share_of;
 use equations::Effect;
 use equations::Pathway;
 use equations::Values;
@@ -78,6 +80,13 @@ pub enum Figure {
 pub struct Line {
     pub hazard: Figure,
     pub cancer: Figure,
+}
+
+// The shares of a chemical that a body takes up from air, from what is eaten and through the skin.
+pub struct Absorbed {
+    pub inhaled: Pair,
+    pub oral: Pair,
+    pub dermal: Pair,
 }
 
 // What a receptor's lines share, whatever the chemical: B of each effect, the soil held on the skin and the produce eaten.
@@ -225,18 +234,18 @@ pub fn figures_with(
     habits: Habits,
     pathway: Pathway,
     site: Values,
-    chemical: Values,
+    absorbed: Absorbed,
     receptor: Values,
     media: Media,
     references: References,
 ) -> Line
-    ensures { λ r. ⌜ specs.figured r ≡ specs.figuresWith (specs.shared habits) pathway site chemical receptor media references ⌝ }
+    ensures { λ r. ⌜ specs.figured r ≡ specs.figuresWith (specs.shared habits) pathway site absorbed receptor media references ⌝ }
 {
     let exposure = gone_on(
         site,
-        chemical,
         receptor,
         pathway,
+        share_of(pathway, absorbed),
         begun_in(habits, receptor, pathway),
     );
     let noncancer = habits.hazard;

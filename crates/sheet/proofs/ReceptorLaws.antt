@@ -26,12 +26,12 @@ use Rattle.sheet.proofs.Chains.{goes-on, stops}
 
 -- A chemical's line, as it is worked from what its receptor's lines share.
 module _ (site′ r : Values) (source : Source) (h : Shared) (p : ℕ) (w : Pathway) (figured′ : Figured) (own : h ≡ habitsOf r) (way : w ≡ pathwayAt p)
-    (worked : figured′ ≡ figuresWith h w site′ (source .values) r (source .media) (source .references)) where
+    (worked : figured′ ≡ figuresWith h w site′ (source .absorbed) r (source .media) (source .references)) where
   figures-are : figured′ ≡ figuresFrom site′ r source (pathwayAt p)
   unfolding figuresFrom
   figures-are =
       worked
-      ∙ ap (λ (x : Shared). figuresWith x w site′ (source .values) r (source .media) (source .references)) own
+      ∙ ap (λ (x : Shared). figuresWith x w site′ (source .absorbed) r (source .media) (source .references)) own
       ∙ ap (figuresFrom site′ r source) way
 
   pub large-is : (b : Bool) → b ≡ isLarge figured′ → b ≡ isLarge (figuresFrom site′ r source (pathwayAt p))

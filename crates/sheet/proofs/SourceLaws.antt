@@ -20,7 +20,7 @@ use Rattle.media.specs.declared.Media.{Media}
 use Rattle.media.specs.Media.{mediaInputs, exponentOf, four, given, mediaOf}
 use Rattle.pathway.specs.declared.Factor.{Factor}
 use Rattle.pathway.specs.declared.Dose.{Dose}
-use Rattle.pathway.specs.Lines.{Optional, some, none, workedFor, factorOf, concentrationFor, doseOf, figureOf, rfdGiven, csfGiven, rfdValue, csfValue, habitsOf, figureIfGiven, figuresWith}
+use Rattle.pathway.specs.Lines.{Optional, some, none, workedFor, factorOf, concentrationFor, doseOf, figureOf, rfdGiven, csfGiven, rfdValue, csfValue, absorbedOf, habitsOf, figureIfGiven, figuresWith}
 use Rattle.pathway.proofs.HabitLaws.{own-factor}
 use Rattle.deck.specs.declared.Record.{Record}
 use Rattle.deck.specs.declared.Value.{Value}
@@ -182,7 +182,7 @@ reference-source Cancer p = by-route (λ (s : Slot). OfSource (ownerOf s)) p "CS
 
 -- a line's figure from its dose and what is printed for its reference value
 figure-for : (e : Effect) (p : Pathway) (s c r : Values) (m : Media) (chemical : Record) →
-    figureFor e (figuresWith (habitsOf r) p s c r m (referencesOf chemical)) ≡ figureIfGiven e (doseOf (factorOf e p s c r) (concentrationFor p m)) (optional (referenceAt e p chemical))
+    figureFor e (figuresWith (habitsOf r) p s (absorbedOf c) r m (referencesOf chemical)) ≡ figureIfGiven e (doseOf (factorOf e p s c r) (concentrationFor p m)) (optional (referenceAt e p chemical))
 unfolding figureFor figuresWith referencesOf referenceAt
 figure-for Hazard p s c r m chemical =
     ap₂ (λ (f : Outcome Factor) (v : Optional Pair). figureIfGiven Hazard (doseOf f (concentrationFor p m)) v) (own-factor Hazard p s c r)

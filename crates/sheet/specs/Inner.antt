@@ -20,7 +20,7 @@ use Rattle.pathway.specs.declared.GivenRfd.the-variants as Rfds
 use Rattle.pathway.specs.declared.GivenCsf.{GivenCsf}
 use Rattle.pathway.specs.declared.GivenCsf.the-variants as Csfs
 use Rattle.pathway.specs.declared.References.{References}
-use Rattle.pathway.specs.Lines.{Optional, some, none, Figured, habitsOf, figuresWith}
+use Rattle.pathway.specs.Lines.{Optional, some, none, Figured, absorbedOf, habitsOf, figuresWith}
 use Rattle.deck.specs.declared.Chemicals.{Chemicals}
 use Rattle.deck.specs.declared.Record.{Record}
 use Rattle.deck.specs.declared.Value.{Value}
@@ -78,7 +78,7 @@ referencesOf r =
     }
 
 unfoldable pub sourceWith : Record → Media → Source
-sourceWith chemical′ media′ = record { values = valuesOf chemical′; media = media′; references = referencesOf chemical′ }
+sourceWith chemical′ media′ = record { absorbed = absorbedOf (valuesOf chemical′); media = media′; references = referencesOf chemical′ }
 
 unfoldable pub sourceOf : Values → Record → Source
 sourceOf site′ chemical′ = sourceWith chemical′ (mediaFrom (mediaWith site′ chemical′))
@@ -103,7 +103,7 @@ refusedSource site′ records i = at 41 (suc i) 0 (isRefused (mediaWith site′ 
 
 -- ---- a line's figures
 unfoldable pub figuresFrom : Values → Values → Source → Pathway → Figured
-figuresFrom site′ r s p = figuresWith (habitsOf r) p site′ (s .values) r (s .media) (s .references)
+figuresFrom site′ r s p = figuresWith (habitsOf r) p site′ (s .absorbed) r (s .media) (s .references)
 
 unfoldable pub figureFor : Effect → Figured → Outcome (Optional Pair)
 figureFor Hazard f = f .hazard

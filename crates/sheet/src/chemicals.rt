@@ -8,10 +8,11 @@ use media::Found;
 use media::Media;
 use media::concentrations;
 use pair::Pair;
+use pathway::Absorbed;
 use pathway::GivenCsf;
 use pathway::GivenRfd;
 use pathway::References;
-use slots::SLOTS;
+use pathway::absorbed_of;
 ghost use mathlib.Core.Path.{_≡_};
 ghost use Prim.Native.Nat.{_≤_};
 ghost use Rattle.deck.specs.declared.Status.the-variants as Statuses;
@@ -31,7 +32,6 @@ const TOO_FAST: u32 = 41;
 fn no_source() -> Source
     ensures { λ r. ⌜ r ≡ noSource ⌝ }
 {
-    let list = [Pair::ONE; SLOTS];
     let references = References {
         rfd_o: GivenRfd::Absent,
         rfd_i: GivenRfd::Absent,
@@ -39,7 +39,11 @@ fn no_source() -> Source
         csf_i: GivenCsf::Absent,
     };
     Source {
-        values: Values { list },
+        absorbed: Absorbed {
+            inhaled: Pair::ONE,
+            oral: Pair::ONE,
+            dermal: Pair::ONE,
+        },
         media: Media::none(),
         references,
     }
@@ -50,7 +54,7 @@ fn source_with(chemical: Record, values: Values, media: Media) -> Source
     ensures { λ r. ⌜ r ≡ sourceWith chemical media ⌝ }
 {
     Source {
-        values,
+        absorbed: absorbed_of(values),
         media,
         references: references_of(chemical),
     }

@@ -23,6 +23,7 @@ use deck::Status;
 use equations::Effect;
 use equations::Values;
 use media::Media;
+use pathway::Absorbed;
 use pathway::References;
 use totals::Columns;
 ghost use mathlib.Core.Path.{_≡_};
@@ -56,9 +57,9 @@ pub const RECEPTOR_CELLS: usize = 2 * EFFECT_CELLS;
 
 pub const CELLS: usize = MAX_RECEPTORS * RECEPTOR_CELLS;
 
-// What a chemical's lines take, for every receptor: its values, what it leaves in the media and its reference values.
+// What a chemical's lines take, for every receptor: the shares absorbed, what it leaves in the media and its reference values.
 pub struct Source {
-    pub values: Values,
+    pub absorbed: Absorbed,
     pub media: Media,
     pub references: References,
 }

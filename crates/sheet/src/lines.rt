@@ -109,7 +109,7 @@ fn put_chemical(
             habits,
             pathway_at(p),
             site,
-            source.values,
+            source.absorbed,
             receptor,
             source.media,
             references,

@@ -5,6 +5,9 @@ use Rattle.pathway.specs.Lines.{figured, shared, baseIn, exposureWith, f
 use Rattle.pathway.proofs.figures_with.Statement.{statement}
 use Rattle.pathway.proofs.figures_with.Tie as tie
 
+share-of-requires : tie.Need-share-of-requires
+share-of-requires c κs = search needs
+
 begun-in-requires : tie.Need-begun-in-requires
 begun-in-requires c κs = search needs
 
@@ -28,13 +31,14 @@ cancer-from-requires c κs = search needs
 
 returns : tie.Need-returns
 unfolding figured figuresWith exposureWith baseIn shared
-returns c = rw (c .cancer-from .ensures, c .before .csf-of .ensures, c .before .before .hazard-from .ensures, c .before .before .before .rfd-of .ensures, c .before .before .before .before .medium-of .ensures, c .before .before .before .before .before .gone-on .ensures, c .before .before .before .before .before .before .begun-in .ensures)
+returns c = rw (c .cancer-from .ensures, c .before .csf-of .ensures, c .before .before .hazard-from .ensures, c .before .before .before .rfd-of .ensures, c .before .before .before .before .medium-of .ensures, c .before .before .before .before .before .gone-on .ensures, c .before .before .before .before .before .before .begun-in .ensures, c .before .before .before .before .before .before .before .share-of .ensures)
     refl
 
 pub figures-with-spec : {M : Type 1} → statement M
 figures-with-spec =
     tie.close
     (tie.spec
+    share-of-requires
     begun-in-requires
     gone-on-requires
     medium-of-requires

@@ -14,9 +14,6 @@ value-requires c κs = search needs
 value-requires-2 : tie.Need-value-requires-2
 value-requires-2 c κs = search needs
 
-value-requires-3 : tie.Need-value-requires-3
-value-requires-3 c κs = search needs
-
 times-three-requires : tie.Need-times-three-requires
 times-three-requires c κs = search needs
 
@@ -28,7 +25,7 @@ times-requires c κs = search needs
 
 returns : tie.Need-returns
 unfolding workedFor plain read letters inputs byOwner valueIn ownerOf placeOf table same isIn placeIn pairs onward
-returns c = rw (c .times .ensures, c .before .at .ensures, c .before .before .times-three .ensures, c .before .before .before .value3 .ensures, c .before .before .before .before .value2 .ensures, c .before .before .before .before .before .value .ensures)
+returns c = rw (c .times .ensures, c .before .at .ensures, c .before .before .times-three .ensures, c .before .before .before .value2 .ensures, c .before .before .before .before .value .ensures)
     refl
 
 pub air-spec : {M : Type 1} → statement M
@@ -37,7 +34,6 @@ air-spec =
     (tie.spec
     value-requires
     value-requires-2
-    value-requires-3
     times-three-requires
     at-requires
     times-requires

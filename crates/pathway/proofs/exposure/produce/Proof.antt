@@ -14,18 +14,13 @@ value-requires c κs = search needs
 value-requires-2 : tie.Need-value-requires-2
 value-requires-2 c κs = search needs
 
-value-requires-3 : tie.Need-value-requires-3
-value-requires-3 c κs = search needs
-
 times-three-requires : tie.Need-times-three-requires
 times-three-requires c κs = search needs
 
 returns : tie.Need-returns
 unfolding workedFor plain read letters inputs byOwner valueIn ownerOf placeOf table same isIn placeIn pairs onward
-returns c = rw (c .times-three .ensures, c .before .value3 .ensures, c .before .before .value2 .ensures, c .before .before .before .value .ensures)
+returns c = rw (c .times-three .ensures, c .before .value2 .ensures, c .before .before .value .ensures)
     refl
 
 pub produce-spec : {M : Type 1} → statement M
-produce-spec =
-    tie.close
-    (tie.spec value-requires value-requires-2 value-requires-3 times-three-requires returns)
+produce-spec = tie.close (tie.spec value-requires value-requires-2 times-three-requires returns)

@@ -9,18 +9,6 @@ use Rattle.pair.proofs.Promises.{per-million-entry}
 use Rattle.pathway.proofs.exposure.soil_summer.Statement.{statement}
 use Rattle.pathway.proofs.exposure.soil_summer.Tie as tie
 
-at-requires : tie.Need-at-requires
-at-requires c κs = search needs
-
-times-requires : tie.Need-times-requires
-times-requires c κs = search needs
-
-at-requires-2 : tie.Need-at-requires-2
-at-requires-2 c κs = search needs
-
-times-requires-2 : tie.Need-times-requires-2
-times-requires-2 c κs = search needs
-
 value-requires : tie.Need-value-requires
 value-requires c κs = search needs
 
@@ -30,20 +18,32 @@ value-requires-2 c κs = search needs
 times-three-requires : tie.Need-times-three-requires
 times-three-requires c κs = search needs
 
+at-requires : tie.Need-at-requires
+at-requires c κs = search needs
+
+times-requires : tie.Need-times-requires
+times-requires c κs = search needs
+
+answer-requires : tie.Need-answer-requires
+answer-requires c κs = search needs
+
+times-requires-2 : tie.Need-times-requires-2
+times-requires-2 c κs = search needs
+
 returns : tie.Need-returns
 unfolding workedFor plain read letters inputs byOwner valueIn ownerOf placeOf table same isIn placeIn pairs onward
-returns c = rw (c .times-three .ensures, c .before .value2 .ensures, c .before .before .value .ensures, c .before .before .before .times2 .ensures, c .before .before .before .before .at2 .ensures, c .before .before .before .before .before .times .ensures, c .before .before .before .before .before .before .at .ensures, per-million-entry)
+returns c = rw (c .times2 .ensures, c .before .answer .ensures, c .before .before .times .ensures, c .before .before .before .at .ensures, c .before .before .before .before .times-three .ensures, c .before .before .before .before .before .value2 .ensures, c .before .before .before .before .before .before .value .ensures, per-million-entry)
     refl
 
 pub soil-summer-spec : {M : Type 1} → statement M
 soil-summer-spec =
     tie.close
     (tie.spec
-    at-requires
-    times-requires
-    at-requires-2
-    times-requires-2
     value-requires
     value-requires-2
     times-three-requires
+    at-requires
+    times-requires
+    answer-requires
+    times-requires-2
     returns)

@@ -15,24 +15,21 @@ value-requires c κs = search needs
 value-requires-2 : tie.Need-value-requires-2
 value-requires-2 c κs = search needs
 
-value-requires-3 : tie.Need-value-requires-3
-value-requires-3 c κs = search needs
-
 times-three-requires : tie.Need-times-three-requires
 times-three-requires c κs = search needs
 
+value-requires-3 : tie.Need-value-requires-3
+value-requires-3 c κs = search needs
+
 value-requires-4 : tie.Need-value-requires-4
 value-requires-4 c κs = search needs
-
-value-requires-5 : tie.Need-value-requires-5
-value-requires-5 c κs = search needs
 
 times-three-requires-2 : tie.Need-times-three-requires-2
 times-three-requires-2 c κs = search needs
 
 returns : tie.Need-returns
 unfolding workedFor plain read letters inputs byOwner valueIn ownerOf placeOf table same isIn placeIn pairs onward
-returns c = rw (c .times-three2 .ensures, c .before .value5 .ensures, c .before .before .value4 .ensures, c .before .before .before .times-three .ensures, c .before .before .before .before .value3 .ensures, c .before .before .before .before .before .value2 .ensures, c .before .before .before .before .before .before .value .ensures, per-million-entry)
+returns c = rw (c .times-three2 .ensures, c .before .value4 .ensures, c .before .before .value3 .ensures, c .before .before .before .times-three .ensures, c .before .before .before .before .value2 .ensures, c .before .before .before .before .before .value .ensures, per-million-entry)
     refl
 
 pub soil-winter-spec : {M : Type 1} → statement M
@@ -41,9 +38,8 @@ soil-winter-spec =
     (tie.spec
     value-requires
     value-requires-2
-    value-requires-3
     times-three-requires
+    value-requires-3
     value-requires-4
-    value-requires-5
     times-three-requires-2
     returns)

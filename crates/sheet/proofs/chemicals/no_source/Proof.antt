@@ -4,6 +4,8 @@ use borrow.Author.Needs.{needs}
 use Rattle.pair.specs.Number.{one}
 use Rattle.pair.specs.Calls.{onePair}
 use Rattle.slots.specs.Slots.{table, same, isIn, placeIn, ownerOf, placeOf}
+use Rattle.equations.specs.Readings.{valueIn}
+use Rattle.pathway.specs.Lines.{absorbedOf}
 use Rattle.deck.specs.Cases.{valueAt}
 use Rattle.sheet.specs.Values.{pairOf, valuesOf}
 use Rattle.sheet.specs.Inner.{rfdOf, csfOf, referencesOf, sourceWith, noSource}
@@ -14,7 +16,7 @@ none-requires : tie.Need-none-requires
 none-requires c κs = search needs
 
 returns : tie.Need-returns
-unfolding one onePair table same isIn placeIn ownerOf placeOf valueAt pairOf valuesOf rfdOf csfOf referencesOf sourceWith noSource
+unfolding one onePair table same isIn placeIn ownerOf placeOf valueAt pairOf valuesOf rfdOf csfOf referencesOf absorbedOf valueIn sourceWith noSource
 returns c = rw (c .none .ensures) refl
 
 pub no-source-spec : {M : Type 1} → statement M
