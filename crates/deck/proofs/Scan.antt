@@ -20,6 +20,7 @@ use Rattle.deck.specs.Conditions.{Condition, at, first, upTo, fieldAt, b
 use Rattle.deck.specs.declared.Status.{Status}
 use Rattle.deck.specs.declared.Status.the-variants.{Read, Stopped}
 use Rattle.deck.proofs.Parts.{line-is}
+use Rattle.deck.proofs.CaseLaws.{line-full}
 use Rattle.deck.proofs.First.{orElse, first-append, turn-on, turn-out}
 
 -- ---- where nothing holds
@@ -190,10 +191,13 @@ length-held sort deck b e h =
     omega (arith, longest sort)
 
 -- a line that the deck has is not empty
-pub line-some : (deck : List ℕ) (n : ℕ) → n < length deck / 81 → (l : List ℕ) → l ≡ lineOf deck (n + 1) → length l ≡ 0 → ⊥
+line-some : (deck : List ℕ) (n : ℕ) → n < length deck / 81 → (l : List ℕ) → l ≡ lineOf deck (n + 1) → length l ≡ 0 → ⊥
 line-some deck n h l e z =
     let k : 81 * (n + 1 - 1) + 81 ≤ length deck = omega arith in
     let m : length (take 81 (drop (81 * (n + 1 - 1)) deck)) ≡ 81 =
     length-take 81 (drop (81 * (n + 1 - 1)) deck) ∙ omega (arith, length-drop (81 * (n + 1 - 1)) deck) in
     let q : length l ≡ 81 = ap length (e ∙ line-is deck (n + 1) (omega arith) (omega arith)) ∙ m in
     omega arith
+
+pub line-whole : (deck : List ℕ) (n : ℕ) → n < length deck / 81 → (l : List ℕ) → l ≡ lineOf deck (n + 1) → length l ≡ 81
+line-whole deck n h l e = line-full deck (n + 1) l e (line-some deck n h l e)

@@ -154,11 +154,11 @@ pub fn number(part: &[u8]) -> Word
 }
 
 // A stopped deck has the case of an empty one. One function makes every case: it is large, and made in two ways it is copied slot by slot.
-fn stopped(status: Status) -> Reading
+fn stopped(deck: &[u8], status: Status) -> Reading
     ensures { λ r. ⌜ (r .status ≡ status) × (r .case ≡ noCase) ⌝ }
 {
     let values = [0u64; MAX_VALUES];
-    let case = case_with(b"", &values, 0, 0);
+    let case = case_with(&deck[..0], &values, 0, 0);
     Reading { status, case }
 }
 
@@ -168,13 +168,13 @@ pub fn read(deck: &[u8], sort: Sort) -> Reading
     ensures { λ r. ⌜ toldOf (r .status) ≡ toldOf (first (conditions sort (now (deck .entry)))) ⌝ }
 {
     if bad_length(deck, sort) {
-        return stopped(Status::Stopped(11, 0, 0));
+        return stopped(deck, Status::Stopped(11, 0, 0));
     }
     let mut values = [0u64; MAX_VALUES];
     let scan = scan_lines(deck, sort, &mut values);
     let status = scan.status;
     let Status::Read = status else {
-        return stopped(status);
+        return stopped(deck, status);
     };
     let case = case_with(deck, &values, scan.chemicals, scan.receptors);
     Reading { status, case }

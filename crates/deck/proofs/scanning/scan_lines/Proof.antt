@@ -1,7 +1,7 @@
 -- `deck::scanning::scan_lines` meets its contract. The invariant: what is carried is what the lines before say, and none of their conditions holds.
 -- Assumes nothing.
 use Rattle.deck.proofs.Packed.{Kept, kept-none, kept-room, kept-more, kept-all}
-use Rattle.deck.proofs.Scan.{all, in-room, Scanned, scanned-start, scan-out, scan-on, scan-end, scan-counts, never, line-some}
+use Rattle.deck.proofs.Scan.{all, in-room, Scanned, scanned-start, scan-out, scan-on, scan-end, scan-counts, never, line-whole}
 use denote.Ref.{now}
 use native.Mathlib.Omega.{arith}
 use mathlib.Core.Path.{_≡_, sym, ap, _∙_}
@@ -9,7 +9,6 @@ use borrow.Rule.Slice.PartMut.{mid-len, same-len-mid}
 use borrow.Author.Needs.{needs}
 use Prim.Native.Nat.{_+_, _*_, _-_, _/_, _≤_}
 use lib.ListN.{length}
-use Rattle.deck.proofs.CaseLaws.{line-full}
 use Rattle.deck.proofs.scanning.scan_lines.Statement.{statement}
 use Rattle.deck.proofs.scanning.scan_lines.Tie as tie
 
@@ -30,10 +29,10 @@ line-requires : tie.Need-line-requires Inv-loop μ-loop
 line-requires c κs = search needs
 
 kind-of-requires : tie.Need-kind-of-requires Inv-loop μ-loop
-kind-of-requires c κs = line-full (now (c .before .before .before .before .before .args .deck)) (c .before .before .loop .n + 1) _ (c .line .ensures) (line-some (now (c .before .before .before .before .before .args .deck)) (c .before .before .loop .n) (c .before .loop-test .taken) _ (c .line .ensures))
+kind-of-requires c κs = line-whole (now (c .before .before .before .before .before .args .deck)) _ (c .before .loop-test .taken) _ (c .line .ensures)
 
 id-of-requires : tie.Need-id-of-requires Inv-loop μ-loop
-id-of-requires c κs = line-full (now (c .before .before .before .before .before .before .args .deck)) (c .before .before .before .loop .n + 1) _ (c .before .line .ensures) (line-some (now (c .before .before .before .before .before .before .args .deck)) (c .before .before .before .loop .n) (c .before .before .loop-test .taken) _ (c .before .line .ensures))
+id-of-requires c κs = line-whole (now (c .before .before .before .before .before .before .args .deck)) _ (c .before .before .loop-test .taken) _ (c .before .line .ensures)
 
 mul-at : tie.Need-mul-at Inv-loop μ-loop
 mul-at c = omega arith
@@ -63,7 +62,7 @@ line-status-requires c κs =
     let all = kept-room (now (c .before .before .before .before .before .before .before .before .args .deck)) (c .before .before .before .before .before .loop .n) _ (omega (arith, c .before .before .before .before .loop-test .taken, c .before .before .before .before .before .before .before .before .pre .0)) (c .before .before .before .before .before .loop .inv .1) in
     let past : 6 * l .n + 6 ≤ length (l .values) = omega (arith, c .before .before .before .before .loop-test .taken, c .before .before .before .before .before .before .before .before .pre .0) in
     let cut : 6 * l .n + 6 - 6 * l .n ≡ 6 = omega arith in
-    ((line-full (now (c .before .before .before .before .before .before .before .before .args .deck)) (c .before .before .before .before .before .loop .n + 1) _ (c .before .before .before .line .ensures) (line-some (now (c .before .before .before .before .before .before .before .before .args .deck)) (c .before .before .before .before .before .loop .n) (c .before .before .before .before .loop-test .taken) _ (c .before .before .before .line .ensures)), mid-len (6 * l .n) (6 * l .n + 6) (l .values) past ∙ cut), (c .before .before .kind-of .ensures, c .before .id-of .ensures))
+    ((line-whole (now (c .before .before .before .before .before .before .before .before .args .deck)) _ (c .before .before .before .before .loop-test .taken) _ (c .before .before .before .line .ensures), mid-len (6 * l .n) (6 * l .n + 6) (l .values) past ∙ cut), (c .before .before .kind-of .ensures, c .before .id-of .ensures))
 
 enum-told : tie.Need-enum-told Inv-loop μ-loop
 enum-told c = search needs
@@ -80,10 +79,12 @@ same-length c =
     ∙ sym (ap length (c .before .before .before .before .before .before .before .before .before .before .before .before .before .pre .1))
 
 returns : tie.Need-returns Inv-loop μ-loop
-returns c = (
-  scan-out (c .before .before .before .before .before .before .before .before .before .before .before .before .before .args .sort) (now (c .before .before .before .before .before .before .before .before .before .before .before .before .before .args .deck)) _ (c .before .before .before .before .before .before .before .before .before .before .loop .n) _ _ _ _ (c .before .before .before .before .before .before .before .before .before .before .loop .inv .0) (c .before .before .before .before .before .before .before .before .line .ensures) _ (c .before .before .before .before .line-status .ensures .0) (c .before .before .before .before .before .before .before .before .before .loop-test .taken) _ _ _ (c .enum-told2 .given .1) _,
-  ((λ q. absurd (never _ _ _ _ (c .enum-told2 .given .1) q)), ((search needs, search needs), (λ q. absurd (never _ _ _ _ (c .enum-told2 .given .1) q)))),
-)
+returns c =
+    let a = c .before .before .before .before .before .before .before .before .before .before .before .before .before .args in
+    let l = c .before .before .before .before .before .before .before .before .before .before .loop in (
+      scan-out (a .sort) (now (a .deck)) _ (l .n) _ _ _ _ (l .inv .0) (c .before .before .before .before .before .before .before .before .line .ensures) _ (c .before .before .before .before .line-status .ensures .0) (c .before .before .before .before .before .before .before .before .before .loop-test .taken) _ _ _ (c .enum-told2 .given .1) _,
+      ((λ q. absurd (never _ _ _ _ (c .enum-told2 .given .1) q)), ((search needs, search needs), (λ q. absurd (never _ _ _ _ (c .enum-told2 .given .1) q)))),
+    )
 
 after-requires : tie.Need-after-requires Inv-loop μ-loop
 after-requires c κs = omega (arith, c .before .before .before .before .before .before .before .before .before .before .loop .inv .0 .few-c, c .before .before .before .before .before .before .before .before .before .before .loop .inv .0 .few-r, in-room (c .before .before .before .before .before .before .before .before .before .before .before .before .before .args .sort))
@@ -95,10 +96,12 @@ loop-less : tie.Need-loop-less Inv-loop μ-loop
 loop-less c = omega arith
 
 loop-again : tie.Need-loop-again Inv-loop μ-loop
-loop-again c = (
-  scan-on (c .before .before .before .before .before .before .before .before .before .before .before .before .before .before .args .sort) (now (c .before .before .before .before .before .before .before .before .before .before .before .before .before .before .args .deck)) _ (c .before .before .before .before .before .before .before .before .before .before .before .loop .n) _ _ _ _ (c .before .before .before .before .before .before .before .before .before .before .before .loop .inv .0) (c .before .before .before .before .before .before .before .before .before .line .ensures) _ (c .before .before .before .before .before .line-status .ensures .0) (c .before .before .before .before .before .before .before .before .before .before .loop-test .taken) (c .before .enum-told .given .1) _ _ _ _ _ _ (c .before .before .before .before .before .before .before .before .kind-of .ensures) (c .before .before .before .before .before .before .before .id-of .ensures) (c .after .ensures .0) (c .after .ensures .1 .0) (c .after .ensures .1 .1),
-  kept-more (now (c .before .before .before .before .before .before .before .before .before .before .before .before .before .before .args .deck)) (c .before .before .before .before .before .before .before .before .before .before .before .loop .n) _ (c .before .before .before .before .before .before .before .before .before .before .before .loop .values) _ (omega (arith, c .before .before .before .before .before .before .before .before .before .before .loop-test .taken, c .before .before .before .before .before .before .before .before .before .before .before .before .before .before .pre .0)) (c .before .before .before .before .before .before .before .before .before .line .ensures) (c .before .before .before .before .before .line-status .ensures .1 (c .before .enum-told .given .1)) (c .before .before .before .before .before .before .before .before .before .before .before .loop .inv .1),
-)
+loop-again c =
+    let a = c .before .before .before .before .before .before .before .before .before .before .before .before .before .before .args in
+    let l = c .before .before .before .before .before .before .before .before .before .before .before .loop in (
+      scan-on (a .sort) (now (a .deck)) _ (l .n) _ _ _ _ (l .inv .0) (c .before .before .before .before .before .before .before .before .before .line .ensures) _ (c .before .before .before .before .before .line-status .ensures .0) (c .before .before .before .before .before .before .before .before .before .before .loop-test .taken) (c .before .enum-told .given .1) _ _ _ _ _ _ (c .before .before .before .before .before .before .before .before .kind-of .ensures) (c .before .before .before .before .before .before .before .id-of .ensures) (c .after .ensures .0) (c .after .ensures .1 .0) (c .after .ensures .1 .1),
+      kept-more (now (a .deck)) (l .n) _ (l .values) _ (omega (arith, c .before .before .before .before .before .before .before .before .before .before .loop-test .taken, c .before .before .before .before .before .before .before .before .before .before .before .before .before .before .pre .0)) (c .before .before .before .before .before .before .before .before .before .line .ensures) (c .before .before .before .before .before .line-status .ensures .1 (c .before .enum-told .given .1)) (l .inv .1),
+    )
 
 ended-requires : tie.Need-ended-requires Inv-loop μ-loop
 ended-requires c κs = omega (arith, c .before .loop .inv .0 .few-c, c .before .loop .inv .0 .few-r, in-room (c .before .before .before .before .args .sort), c .before .before .before .before .pre .0)
