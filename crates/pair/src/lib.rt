@@ -117,14 +117,20 @@ fn is_pair(p: Pair) -> bool
     at_most(p.low, p.high)
 }
 
+fn both_in_reach(low: Number, high: Number) -> bool
+    ensures { λ r. ⌜ r ≡ bothInReach low high ⌝ }
+{
+    if !in_reach(low.exponent) {
+        return false;
+    }
+    in_reach(high.exponent)
+}
+
 // The pair of two worked ends, if their exponents stayed in reach.
 fn answered(low: Number, high: Number) -> Answer
     ensures { λ r. ⌜ calls.answer r ≡ calls.ends low high ⌝ }
 {
-    if !in_reach(low.exponent) {
-        return Answer::Refused;
-    }
-    if !in_reach(high.exponent) {
+    if !both_in_reach(low, high) {
         return Answer::Refused;
     }
     Answer::Is(Pair { low, high })
@@ -166,15 +172,6 @@ fn high_by(step: Step, high: Number, q: Pair) -> Number
         Step::Times => product(true, high, q.high),
         Step::Over => quotient(true, high, q.low),
     }
-}
-
-fn both_in_reach(low: Number, high: Number) -> bool
-    ensures { λ r. ⌜ r ≡ bothInReach low high ⌝ }
-{
-    if !in_reach(low.exponent) {
-        return false;
-    }
-    in_reach(high.exponent)
 }
 
 // The last step of a chain, from the two ends of a pair.

@@ -150,7 +150,13 @@ fn produce(s: Values, r: Values, share: Pair, begun: Answer) -> Answer
 }
 
 // An exposure from what it begins with and the share that is absorbed.
-pub(crate) fn gone_on(s: Values, r: Values, pathway: Pathway, share: Pair, begun: Answer) -> Answer
+pub(crate) fn exposure_from(
+    s: Values,
+    r: Values,
+    pathway: Pathway,
+    share: Pair,
+    begun: Answer,
+) -> Answer
     ensures { λ a. ⌜ answer a ≡ onward (after product) (workedFor s noValues r) pathway (is share) (answer begun) ⌝ }
 {
     match pathway {
@@ -166,7 +172,7 @@ pub(crate) fn gone_on(s: Values, r: Values, pathway: Pathway, share: Pair, begun
 pub(crate) fn exposure_of(s: Values, c: Values, r: Values, pathway: Pathway) -> Answer
     ensures { λ a. ⌜ answer a ≡ workedFor s c r (page.exposure pathway) ⌝ }
 {
-    gone_on(
+    exposure_from(
         s,
         r,
         pathway,

@@ -11,8 +11,8 @@ use crate::doses::risk_of;
 pub use crate::exposure::absorbed_of;
 use crate::exposure::base_of;
 use crate::exposure::begun_of;
+use crate::exposure::exposure_from;
 use crate::exposure::exposure_of;
-use crate::exposure::gone_on;
 use crate::exposure::share_of;
 use equations::Effect;
 use equations::Pathway;
@@ -241,7 +241,7 @@ pub fn figures_with(
 ) -> Line
     ensures { λ r. ⌜ specs.figured r ≡ specs.figuresWith (specs.shared habits) pathway site absorbed receptor media references ⌝ }
 {
-    let exposure = gone_on(
+    let exposure = exposure_from(
         site,
         receptor,
         pathway,

@@ -11,8 +11,8 @@ share-of-requires c κs = search needs
 begun-in-requires : tie.Need-begun-in-requires
 begun-in-requires c κs = search needs
 
-gone-on-requires : tie.Need-gone-on-requires
-gone-on-requires c κs = search needs
+exposure-from-requires : tie.Need-exposure-from-requires
+exposure-from-requires c κs = search needs
 
 medium-of-requires : tie.Need-medium-of-requires
 medium-of-requires c κs = search needs
@@ -31,7 +31,7 @@ cancer-from-requires c κs = search needs
 
 returns : tie.Need-returns
 unfolding figured figuresWith exposureWith baseIn shared
-returns c = rw (c .cancer-from .ensures, c .before .csf-of .ensures, c .before .before .hazard-from .ensures, c .before .before .before .rfd-of .ensures, c .before .before .before .before .medium-of .ensures, c .before .before .before .before .before .gone-on .ensures, c .before .before .before .before .before .before .begun-in .ensures, c .before .before .before .before .before .before .before .share-of .ensures)
+returns c = rw (c .cancer-from .ensures, c .before .csf-of .ensures, c .before .before .hazard-from .ensures, c .before .before .before .rfd-of .ensures, c .before .before .before .before .medium-of .ensures, c .before .before .before .before .before .exposure-from .ensures, c .before .before .before .before .before .before .begun-in .ensures, c .before .before .before .before .before .before .before .share-of .ensures)
     refl
 
 pub figures-with-spec : {M : Type 1} → statement M
@@ -40,7 +40,7 @@ figures-with-spec =
     (tie.spec
     share-of-requires
     begun-in-requires
-    gone-on-requires
+    exposure-from-requires
     medium-of-requires
     rfd-of-requires
     hazard-from-requires

@@ -18,18 +18,18 @@ share-of-requires c κs = search needs
 begun-of-requires : tie.Need-begun-of-requires
 begun-of-requires c κs = search needs
 
-gone-on-requires : tie.Need-gone-on-requires
-gone-on-requires c κs = search needs
+exposure-from-requires : tie.Need-exposure-from-requires
+exposure-from-requires c κs = search needs
 
 returns : tie.Need-returns
 returns c =
     let a = c .before .before .before .before .args in
     let share = c .before .before .share-of .ensures ∙ ap (shareOf (a .pathway)) (c .before .before .before .absorbed-of .ensures) in
-    c .gone-on .ensures
+    c .exposure-from .ensures
     ∙ ap₂ (onward (after product) (workedFor (a .s) noValues (a .r)) (a .pathway)) (ap (λ (q : Pair). is q) share) (c .before .begun-of .ensures)
     ∙ begun-exposure (a .s) (a .c) (a .r) (a .pathway)
 
 pub exposure-of-spec : {M : Type 1} → statement M
 exposure-of-spec =
     tie.close
-    (tie.spec absorbed-of-requires share-of-requires begun-of-requires gone-on-requires returns)
+    (tie.spec absorbed-of-requires share-of-requires begun-of-requires exposure-from-requires returns)

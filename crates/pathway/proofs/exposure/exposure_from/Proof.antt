@@ -1,8 +1,8 @@
 -- Each pathway by its own function. Assumes nothing.
 use borrow.Author.Needs.{needs}
 use Rattle.pathway.specs.Lines.{onward}
-use Rattle.pathway.proofs.exposure.gone_on.Statement.{statement}
-use Rattle.pathway.proofs.exposure.gone_on.Tie as tie
+use Rattle.pathway.proofs.exposure.exposure_from.Statement.{statement}
+use Rattle.pathway.proofs.exposure.exposure_from.Tie as tie
 
 enum-told : tie.Need-enum-told
 enum-told c = search needs
@@ -70,8 +70,8 @@ unfolding onward
 returns-6 c = rw (c .before .enum-told6 .given .1)
     (c .produce2 .ensures)
 
-pub gone-on-spec : {M : Type 1} → statement M
-gone-on-spec =
+pub exposure-from-spec : {M : Type 1} → statement M
+exposure-from-spec =
     tie.close
     (tie.spec
     enum-told
