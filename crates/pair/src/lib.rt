@@ -219,17 +219,17 @@ fn with_term(total: Pair, low: Number, high: Number) -> Partial
     if !is_pair(total) {
         return no_partial();
     }
-    let lower = sum(false, total.low, low);
-    let upper = sum(true, total.high, high);
-    if !both_in_reach(lower, upper) {
+    let least = sum(false, total.low, low);
+    let most = sum(true, total.high, high);
+    if !both_in_reach(least, most) {
         return no_partial();
     }
     Partial {
         worked: true,
         term: Pair { low, high },
         total: Pair {
-            low: lower,
-            high: upper,
+            low: least,
+            high: most,
         },
     }
 }
@@ -417,12 +417,12 @@ impl Pair {
         if !is_operand(Step::Over, divisor) {
             return no_partial();
         }
-        let lower = low_by(Step::Over, low, divisor);
-        let upper = high_by(Step::Over, high, divisor);
-        if !both_in_reach(lower, upper) {
+        let next_low = low_by(Step::Over, low, divisor);
+        let next_high = high_by(Step::Over, high, divisor);
+        if !both_in_reach(next_low, next_high) {
             return no_partial();
         }
-        with_term(total, lower, upper)
+        with_term(total, next_low, next_high)
     }
 
     // Whether other is above 0 and below one unit of the low end's last figure: then a sum keeps the low end, and its high end has one
