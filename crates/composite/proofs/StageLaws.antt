@@ -39,10 +39,10 @@ pub year-is : (years : List Pair) (blank : Pair) (j : ℕ) → j < length years 
 unfolding yearAt
 year-is years blank j h = ap (λ (p : Pair). is p) (read-any years j h blank onePair)
 
-pub weight-is : (records : List Record) (years : List Pair) (blank : Record) (none : Pair) (j k : ℕ) → j < length records → j < length years → (r : Answer)
-    → answer r ≡ after product (is (getD years j none)) (is (pairOf (valueAt (getD records j blank) k))) → answer r ≡ weightAt records years k j
+pub weight-is : (records : List Record) (years : List Pair) (blank : Record) (none : Pair) (j k : ℕ) → j < length records → j < length years → (value : Pair)
+    → value ≡ pairOf (valueAt (getD records j blank) k) → after product (is (getD years j none)) (is value) ≡ weightAt records years k j
 unfolding weightAt stageIn
-weight-is records years blank none j k h l r e = e ∙ ap₂ (after product) (year-is years none j l) (ap (λ (p : Pair). is p) (value-is records blank j k h))
+weight-is records years blank none j k h l value e = ap₂ (after product) (year-is years none j l) (ap (λ (p : Pair). is p) (e ∙ value-is records blank j k h))
 
 -- of the years that were entered, the sums are those of the stages
 module _ (records : List Record) (years : List Pair) (entered : years ≡ yearsIn records) where
@@ -62,10 +62,10 @@ module _ (records : List Record) (years : List Pair) (entered : years ≡ yearsI
       (λ j l. ap (λ (o : Outcome Pair). after product o (stageIn records j k)) (year-entered j (omega arith)))
 
 -- one stage more
-pub next-sum : (f : ℕ → Outcome Pair) (so-far term new : Answer) (n : ℕ) → answer so-far ≡ summed pairs f n → answer term ≡ f (n + 1) → answer new ≡ after sum (answer so-far) (answer term)
+pub next-sum : (f : ℕ → Outcome Pair) (so-far new : Answer) (term : Outcome Pair) (n : ℕ) → answer so-far ≡ summed pairs f n → term ≡ f (n + 1) → answer new ≡ after sum (answer so-far) term
     → answer new ≡ summed pairs f (n + 1)
 unfolding summed pairs
-next-sum f so-far term new n a b e = e ∙ ap₂ (after sum) a (b ∙ ap f (add-one n)) ∙ sym (ap (summed pairs f) (add-one n))
+next-sum f so-far new term n a b e = e ∙ ap₂ (after sum) a (b ∙ ap f (add-one n)) ∙ sym (ap (summed pairs f) (add-one n))
 
 -- ---- the composite's value at a place
 module _ (stage : ℕ → ℕ → Outcome Pair) (last k : ℕ) (total : Answer) (total-is : answer total ≡ sumOfYears pairs stage last) where

@@ -13,7 +13,7 @@ use slots::SLOTS;
 use slots::YEARS;
 ghost use mathlib.Core.Path.{_≡_};
 ghost use Prim.Native.Nat.{_<_, _≤_};
-ghost use Rattle.pair.specs.Calls.{answer, is, after, product};
+ghost use Rattle.pair.specs.Calls.{answer};
 ghost use Rattle.equations.specs.Formula.{pairs};
 ghost use Rattle.deck.specs.Cases.{valueAt};
 ghost use Rattle.sheet.specs.Values.{pairOf, noReceptor};
@@ -65,27 +65,19 @@ fn sum_of_years(years: Years, last: usize) -> Answer
     sum
 }
 
-// years × value of a stage at place k.
-fn weighted(stage: Record, years: Pair, k: usize) -> Answer
-    requires { ⌜ k < 24 ⌝ }
-    ensures { λ r. ⌜ answer r ≡ after product (is years) (is (pairOf (valueAt stage k))) ⌝ }
-{
-    let value = value_in(stage, k);
-    years.answer().times(value.answer())
-}
-
-// The sum of these, of stages 0 to last. A stage is copied out for its turn; all of them are passed on once for each place.
+// The sum of years × value at place k, of stages 0 to last. A stage is copied out for its turn; all of them are passed on once for each place.
 fn weighted_sum(stages: Receptors, years: Years, last: usize, k: usize) -> Answer
     requires { ⌜ (last < 8) × (k < 24) ⌝ }
     ensures { λ r. ⌜ answer r ≡ summed pairs (weightAt (stages .records) (years .list) k) last ⌝ }
 {
     let first = stages.records[0];
-    let mut sum = weighted(first, years.list[0], k);
+    let year = years.list[0];
+    let mut sum = year.product(value_in(first, k));
     let mut j: usize = 0;
     while j < last {
         let next = j + 1;
         let stage = stages.records[next];
-        sum = sum.plus(weighted(stage, years.list[next], k));
+        sum = sum.plus_product(years.list[next], value_in(stage, k));
         j = next;
     }
     sum

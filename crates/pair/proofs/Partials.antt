@@ -1,4 +1,4 @@
--- A step of a series, test by test as the code makes it. Assumes nothing.
+-- A total with one term more and a step of a series, test by test as the code makes them. Assumes nothing.
 use mathlib.Core.Path.{_≡_, refl, sym, _∙_, ap, ap₂}
 use mathlib.Core.Bool.{Bool, true, false, _&&_, not, true≢false}
 use mathlib.Core.Logic.{_⊎_, inl, inr}
@@ -17,16 +17,19 @@ module _ (total u : Pair) where
   abbrev added : Outcome Pair
   added = ends (sumEnd false (total .low) (u .low)) (sumEnd true (total .high) (u .high))
 
+  pub sum-refused : isPair total ≡ false → refused 53 ≡ sum total u
+  unfolding sum
+  sum-refused f = refused-as (isPair total && isPair u) added (first-fails (isPair total) (isPair u) f)
+
   not-told : refused 53 ≡ sum total u → noPartial ≡ partial (is u) (sum total u)
   unfolding partial
   not-told e = ap (partial (is u)) e
 
   pub no-total : isPair total ≡ false → noPartial ≡ partial (is u) (sum total u)
-  unfolding sum
-  no-total f = not-told (refused-as (isPair total && isPair u) added (first-fails (isPair total) (isPair u) f))
+  no-total f = not-told (sum-refused f)
 
   module _ (h : isPair total ≡ true) (k : isPair u ≡ true) (low high : Number) (low-is : low ≡ sumEnd false (total .low) (u .low)) (high-is : high ≡ sumEnd true (total .high) (u .high)) where
-    ends-added : ends low high ≡ sum total u
+    pub ends-added : ends low high ≡ sum total u
     unfolding sum
     ends-added = ap₂ ends low-is high-is ∙ told-as (isPair total && isPair u) added (first-holds (isPair total) (isPair u) true h (sym k))
 
@@ -37,6 +40,16 @@ module _ (total u : Pair) where
     pub total-in : bothInReach low high ≡ true → record { worked = true; term = u; total = pair low high } ≡ partial (is u) (sum total u)
     unfolding ends bothInReach partial
     total-in f = ap (partial (is u)) (told-as (bothInReach low high) (is (pair low high)) (sym f) ∙ ends-added)
+
+-- ---- the total with what a call told: a refusal is carried along
+module _ (total : Pair) (o : Outcome Pair) where
+  pub none-added : refused 53 ≡ o → refused 53 ≡ after sum (is total) o
+  unfolding after
+  none-added e = ap (after sum (is total)) e
+
+  pub one-added : (u : Pair) (x : Outcome Pair) → is u ≡ o → x ≡ sum total u → x ≡ after sum (is total) o
+  unfolding after
+  one-added u x e h = h ∙ ap (after sum (is total)) e
 
 -- ---- the next term
 module _ (term total factor divisor : Pair) where

@@ -567,6 +567,30 @@ impl Answer {
         last_two(low, high, second, b, third, c)
     }
 
+    // self + a × b, as a product and plus one after the other: a term of a weighted sum.
+    pub fn plus_product(self, a: Pair, b: Pair) -> Answer
+        ensures { λ r. ⌜ calls.answer r ≡ calls.after calls.sum (calls.answer self) (calls.after calls.product (calls.is a) (calls.is b)) ⌝ }
+    {
+        let Answer::Is(p) = self else {
+            return Answer::Refused;
+        };
+        if !is_pair(a) {
+            return Answer::Refused;
+        }
+        if !is_operand(Step::Times, b) {
+            return Answer::Refused;
+        }
+        let low = low_by(Step::Times, a.low, b);
+        let high = high_by(Step::Times, a.high, b);
+        if !both_in_reach(low, high) {
+            return Answer::Refused;
+        }
+        if !is_pair(p) {
+            return Answer::Refused;
+        }
+        answered(sum(false, p.low, low), sum(true, p.high, high))
+    }
+
     pub fn one_minus(self) -> Answer
         ensures { λ r. ⌜ calls.answer r ≡ calls.afterOne calls.oneMinus (calls.answer self) ⌝ }
     {

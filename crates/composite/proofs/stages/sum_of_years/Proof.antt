@@ -55,7 +55,7 @@ loop-again c =
     let l = c .before .before .before .before .loop in
     let long : length (s .args .t1 .list) ≡ 8 = sym (length-map (s .args .t1 .list) _) ∙ s .good .0 .1 .1 .0 .1 .0 .1 in (
       omega (arith, c .before .before .before .loop-test .taken),
-      next-sum (yearAt (s .args .t1 .list)) (l .sum) (c .before .answer2 .result) (c .plus .result) (l .j) (l .inv .1)
+      next-sum (yearAt (s .args .t1 .list)) (l .sum) (c .plus .result) (answer (c .before .answer2 .result)) (l .j) (l .inv .1)
           (c .before .answer2 .ensures ∙ year-is (s .args .t1 .list) _ (l .j + 1) (omega (arith, c .before .before .before .loop-test .taken, s .pre))) (c .plus .ensures),
     )
 

@@ -4,7 +4,7 @@ use Prim.Native.Nat.{_+_, _-_, _≤_}
 use native.Mathlib.Omega.{arith}
 use borrow.Author.Needs.{needs}
 use lib.ListN.{length, length-map}
-use Rattle.pair.specs.Calls.{answer}
+use Rattle.pair.specs.Calls.{answer, after}
 use Rattle.equations.specs.Formula.{pairs}
 use Rattle.composite.specs.Composite.{summed}
 use Rattle.composite.specs.Inner.{weightAt}
@@ -21,19 +21,22 @@ abbrev μ-loop : tie.MeasureT-loop
 element-copy-out-first : tie.Need-element-copy-out-first Inv-loop μ-loop
 element-copy-out-first c = search needs
 
-element-copy-out-weighted : tie.Need-element-copy-out-weighted Inv-loop μ-loop
-element-copy-out-weighted c = search needs
+element-copy-out-year : tie.Need-element-copy-out-year Inv-loop μ-loop
+element-copy-out-year c = search needs
 
-weighted-requires : tie.Need-weighted-requires Inv-loop μ-loop
-weighted-requires c κs = search needs
+value-in-requires : tie.Need-value-in-requires Inv-loop μ-loop
+value-in-requires c κs = search needs
+
+product-requires : tie.Need-product-requires Inv-loop μ-loop
+product-requires c κs = search needs
 
 loop-holds : tie.Need-loop-holds Inv-loop μ-loop
-unfolding summed
+unfolding summed after
 loop-holds c =
-    let s = c .before .before .before in
+    let s = c .before .before .before .before in
     let many : length (s .args .t1 .records) ≡ 8 = sym (length-map (s .args .t1 .records) _) ∙ s .good .0 .1 .1 .1 .0 .1 .0 .1 in
     let long : length (s .args .t2 .list) ≡ 8 = sym (length-map (s .args .t2 .list) _) ∙ s .good .1 .0 .1 .1 .0 .1 .0 .1 in
-    (omega arith, weight-is (s .args .t1 .records) (s .args .t2 .list) _ _ 0 (s .args .k) (omega arith) (omega arith) (c .weighted .result) (c .weighted .ensures))
+    (omega arith, c .product .ensures ∙ weight-is (s .args .t1 .records) (s .args .t2 .list) _ _ 0 (s .args .k) (omega arith) (omega arith) (c .before .value-in .result) (c .before .value-in .ensures))
 
 add-next : tie.Need-add-next Inv-loop μ-loop
 add-next c = search needs
@@ -44,35 +47,36 @@ mul-stage c = search needs
 element-copy-out-stage : tie.Need-element-copy-out-stage Inv-loop μ-loop
 element-copy-out-stage c = search needs
 
-mul-weighted : tie.Need-mul-weighted Inv-loop μ-loop
-mul-weighted c = search needs
+mul-plus-product : tie.Need-mul-plus-product Inv-loop μ-loop
+mul-plus-product c = search needs
 
-element-copy-out-weighted-2 : tie.Need-element-copy-out-weighted-2 Inv-loop μ-loop
-element-copy-out-weighted-2 c = search needs
+element-copy-out-plus-product : tie.Need-element-copy-out-plus-product Inv-loop μ-loop
+element-copy-out-plus-product c = search needs
 
-weighted-requires-2 : tie.Need-weighted-requires-2 Inv-loop μ-loop
-weighted-requires-2 c κs = search needs
+value-in-requires-2 : tie.Need-value-in-requires-2 Inv-loop μ-loop
+value-in-requires-2 c κs = search needs
 
-plus-requires : tie.Need-plus-requires Inv-loop μ-loop
-plus-requires c κs = search needs
+plus-product-requires : tie.Need-plus-product-requires Inv-loop μ-loop
+plus-product-requires c κs = search needs
 
 loop-less : tie.Need-loop-less Inv-loop μ-loop
 loop-less c = search needs
 
 loop-again : tie.Need-loop-again Inv-loop μ-loop
 loop-again c =
-    let s = c .before .before .before .before .before .before .before .before .before in
+    let s = c .before .before .before .before .before .before .before .before .before .before in
     let l = c .before .before .before .before .before .loop in
+    let more = c .before .before .before .before .loop-test .taken in
     let many : length (s .args .t1 .records) ≡ 8 = sym (length-map (s .args .t1 .records) _) ∙ s .good .0 .1 .1 .1 .0 .1 .0 .1 in
     let long : length (s .args .t2 .list) ≡ 8 = sym (length-map (s .args .t2 .list) _) ∙ s .good .1 .0 .1 .1 .0 .1 .0 .1 in (
-      omega (arith, c .before .before .before .before .loop-test .taken),
-      next-sum (weightAt (s .args .t1 .records) (s .args .t2 .list) (s .args .k)) (l .sum) (c .before .weighted2 .result) (c .plus .result) (l .j) (l .inv .1)
-          (weight-is (s .args .t1 .records) (s .args .t2 .list) _ _ (l .j + 1) (s .args .k) (omega (arith, c .before .before .before .before .loop-test .taken, s .pre)) (omega (arith, c .before .before .before .before .loop-test .taken, s .pre)) (c .before .weighted2 .result) (c .before .weighted2 .ensures)) (c .plus .ensures),
+      omega (arith, more),
+      next-sum (weightAt (s .args .t1 .records) (s .args .t2 .list) (s .args .k)) (l .sum) (c .plus-product .result) _ (l .j) (l .inv .1)
+          (weight-is (s .args .t1 .records) (s .args .t2 .list) _ _ (l .j + 1) (s .args .k) (omega (arith, more, s .pre)) (omega (arith, more, s .pre)) (c .before .value-in2 .result) (c .before .value-in2 .ensures)) (c .plus-product .ensures),
     )
 
 returns : tie.Need-returns Inv-loop μ-loop
 returns c =
-    let s = c .before .before .before .before .before in
+    let s = c .before .before .before .before .before .before in
     let l = c .before .loop in
     let all : l .j ≡ s .args .last = omega (arith, c .loop-test .left) in
     rw all at (l .inv .1)
@@ -84,16 +88,17 @@ weighted-sum-spec =
     Inv-loop
     μ-loop
     element-copy-out-first
-    element-copy-out-weighted
-    weighted-requires
+    element-copy-out-year
+    value-in-requires
+    product-requires
     loop-holds
     add-next
     mul-stage
     element-copy-out-stage
-    mul-weighted
-    element-copy-out-weighted-2
-    weighted-requires-2
-    plus-requires
+    mul-plus-product
+    element-copy-out-plus-product
+    value-in-requires-2
+    plus-product-requires
     loop-less
     loop-again
     returns)
