@@ -7,6 +7,7 @@ A vector is a line: an operation's word, its operands, =, and the answer, 53 whe
     rest             lo.m lo.e hi.m hi.e                       =  lo.m lo.e hi.m hi.e     (1 - f)
     entry            m e                                       =  lo.m lo.e hi.m hi.e
     less             m e                                       =  lo.m lo.e hi.m hi.e     (1 - m x 10^e, from the printed digits)
+    long             high low e                                =  lo.m lo.e hi.m hi.e     ((high x 10^18 + low) x 10^e)
     compare          m e  m e                                  =  1 (at most) | 0 (above)
     units            lo.m lo.e hi.m hi.e  u                    =  low high                (counts of 10^u)
 
@@ -14,7 +15,8 @@ A vector is a line: an operation's word, its operands, =, and the answer, 53 whe
 fractions. Those of add, mul, div and rest are pairs.py's: its random vectors as they come, and its answers to the edges below. Those of
 entry are oracle.py's at level 1, of twelve digits (request P1), also where pairs.py drew the operands; where these have at most nine
 digits both must agree. Those of less are what oracle.py makes of 1 - a printed value; which operands are refused is said here, since the
-oracle has no such call. The answers of compare and units are worked here, from document 01, on fractions.
+oracle has no such call. The answers of compare, units and long are worked here: from document 01 on fractions, and long by whole numbers,
+held to the oracle's rounding of the fraction where its exponent is small.
 """
 import math
 import random
@@ -82,6 +84,23 @@ def less(oracle, m, e):
         return "53"
     value = m * Fraction(10) ** max(e, -60) if m else 0
     return pairs.show(oracle.Pairs().less(1, value))
+
+
+def long_entry(oracle, high, low, e):
+    """(high x 10^18 + low) x 10^e, rounded once; where the exponent is small it is what the oracle makes of that fraction"""
+    import pairs
+    n = high * 10 ** 18 + low
+    if high >= 10 ** 19 or low >= 10 ** 18 or not -REACH <= e <= REACH:
+        return "53"
+    if n == 0:
+        return show(ZERO, ZERO)
+    k = len(str(n)) - 9
+    m, rest = divmod(n * 10 ** max(-k, 0), 10 ** max(k, 0))
+    up = (m + 1, e + k) if m < HI else (LO, e + k + 1)
+    ends = (m, e + k), up if rest else (m, e + k)
+    answer = show(*ends) if all(is_number(w) for w in ends) else "53"
+    assert abs(e) > 99 or answer == pairs.show(oracle.around(n * Fraction(10) ** e))
+    return answer
 
 
 # ---- edges ----
@@ -212,6 +231,29 @@ def printed_shares(r):
         yield m, -len(str(m))
 
 
+def long_numbers(r):
+    """high, low and e: of up to 37 digits, nine figures that carry and that are whole, words with zeros in front, and none"""
+    words = lambda n: divmod(n, 10 ** 18)
+    for k in range(1, 38):
+        for n in [10 ** k - 1, 10 ** (k - 1), 10 ** (k - 1) + 1, 123_456_789 * 10 ** k // 10 ** 9]:
+            yield *words(n), -27
+    for k in range(1, 28):
+        yield *words(HI * 10 ** k), -27
+        yield *words(HI * 10 ** k + 1), -27
+        yield *words(r.randint(LO, HI) * 10 ** k - 1), -27
+    for high, low in product([0, 1, 999_999_999, 10 ** 9, 10 ** 18, 10 ** 19 - 1], [0, 1, 10 ** 9 - 1, 10 ** 9, 10 ** 17, 10 ** 18 - 1, 10 ** 18, 10 ** 19 - 1]):
+        yield high, low, 0
+    for high, low in [(0, 1), (0, HI), (0, 10 ** 9 + 1), (1, 0), (1, 1), (999_999_999, 10 ** 18 - 1), (10 ** 19 - 1, 10 ** 18 - 1), (10 ** 18, 0)]:
+        k = len(str(high * 10 ** 18 + low)) - 9
+        for e in [REACH - k - 1, REACH - k, REACH - k + 1, -REACH - k - 1, -REACH - k, -REACH - k + 1, REACH, -REACH, REACH + 1, -REACH - 1, 999_999]:
+            yield high, low, e
+    for e in [0, -27, REACH, -REACH, REACH + 1]:
+        yield 0, 0, e
+    for _ in range(120):                                           # what is printed, and sums and differences of it, in units of 1E-27
+        some = [r.randint(1, 10 ** r.randint(1, 9)) * 10 ** r.randint(0, 27) for _ in range(r.randint(1, 8))]
+        yield *words(abs(sum(some[:-1]) - some[-1]) if r.random() < .5 else sum(some)), -27
+
+
 def once(pairs):
     return list(dict.fromkeys(pairs))
 
@@ -294,6 +336,7 @@ def lines(oracle, seed):
     r = random.Random(seed + 1)
     yield from (f"entry {m} {e} = {entry(level_1, m, e)}" for m, e in once(long_entries(r)))
     yield from (f"less {m} {e} = {less(level_1, m, e)}" for m, e in once(printed_shares(r)))
+    yield from (f"long {high} {low} {e} = {long_entry(level_1, high, low, e)}" for high, low, e in once(long_numbers(random.Random(seed + 2))))
 
 
 def main(oracle, seed, data):
@@ -306,7 +349,7 @@ def main(oracle, seed, data):
     for k, part in enumerate(files, 1):
         with open(f"{data}/vectors_{k}", "w") as f:
             f.write("\n".join(part) + "\n")
-    for op in ["add", "mul", "div", "rest", "entry", "compare", "units", "less"]:
+    for op in ["add", "mul", "div", "rest", "entry", "compare", "units", "less", "long"]:
         own = [x for x in made if x.startswith(op + " ")]
         print(op, len(own), "of these refused", sum(x.endswith("= 53") for x in own))
     print("total", len(made), "of these refused", sum(x.endswith("= 53") for x in made), "in", len(files), "files")

@@ -14,26 +14,15 @@ use Rattle.pair.specs.Fraction.{Fraction, Proper, _≤ᶠ_}
 use Rattle.pair.specs.Number as N
 use Rattle.pair.specs.Number.{inReach, isZero, zeroExponent, isNumber, isPair, atMost, value, place}
 use Rattle.pair.specs.Rounding.{sumEnd, productEnd, quotientEnd}
-use Rattle.pair.specs.Calls.{Outcome, is, refused, provided, ends, sum, product, quotient}
+use Rattle.pair.specs.Calls.{is, provided, ends, sum, product, quotient}
 use Rattle.pair.specs.Promises.{Operation, sums, products, quotients, call, withLow, withHigh, Holds}
 use Rattle.pair.proofs.Exponents.{by-cases}
 use Rattle.pair.proofs.Powers.{ten-above}
 use Rattle.pair.proofs.Fractions.{Usable, Along}
 use Rattle.pair.proofs.Numbers.{both}
+pub use Rattle.pair.proofs.Providing.{provided-is, provided-true}
 use Rattle.pair.proofs.Ordered.{both-from, Working, working, at-most, value-proper}
 use Rattle.pair.proofs.ExactEnds.{top, bottom, power, endOf}
-
-never : {A B : Type 0} {n : ℕ} {a : A} → _≡_ {A = Outcome A} (refused n) (is a) → B
-never e = let z : _≡_ {A = ℕ} 0 1 = cc in absurd (omega arith)
-
-pub provided-is : {A : Type 0} (t : Bool) (x : Outcome A) (r : A) → provided t x ≡ is r → (t ≡ true) × (x ≡ is r)
-unfolding provided
-provided-is true x r h = (refl, h)
-provided-is false x r h = never h
-
-pub provided-true : {A : Type 0} {t : Bool} (x : Outcome A) → t ≡ true → provided t x ≡ x
-unfolding provided
-provided-true x h = rw h
 
 abbrev pub pair : Number → Number → Pair
 pair a b = record { low = a; high = b }

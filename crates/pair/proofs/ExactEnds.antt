@@ -209,20 +209,20 @@ entry-ratio m e h =
 
 -- wide enough for every entry; a power of ten never computes with it
 pub wide : ℕ
-wide = 99020
+wide = 99040
 
-pub wide-is : wide ≡ 99020
+pub wide-is : wide ≡ 99040
 unfolding wide
 wide-is = refl
 
-pub entry-sized : (m : ℕ) (e : ℤ) → m ≤ 999999999999 → mag e ≤ 99000 → Sized wide (scaled m e)
+pub entry-sized : (m : ℕ) (e : ℤ) → m ≤ 10 ^ 37 → mag e ≤ 99000 → Sized wide (scaled m e)
 unfolding scaled
 entry-sized m e h l = record { sized = go (eq-zero-or-pos m) }
   where
     low : depth ≤ place e + wide
     low = omega (arith, place-near e l, wide-is)
 
-    high : 12 + place e ≤ depth + wide
+    high : 37 + place e ≤ depth + wide
     high = omega (arith, place-near e l, wide-is)
 
     go : (m ≡ 0) ⊎ (0 < m) → (m * 10 ^ place e ≡ 0) ⊎ ((10 ^ depth ≤ m * 10 ^ place e * 10 ^ wide) × (m * 10 ^ place e ≤ 10 ^ depth * 10 ^ wide))
@@ -230,7 +230,7 @@ entry-sized m e h l = record { sized = go (eq-zero-or-pos m) }
     go (inr p) =
         inr (
           omega (arith, ten-rises low, ten-add (place e) wide, mul-le-mul-right {m = 1} (10 ^ place e * 10 ^ wide) p),
-          omega (arith, ten-rises high, ten-add 12 (place e), ten-add depth wide, mul-le-mul-right (10 ^ place e) h),
+          omega (arith, ten-rises high, ten-add 37 (place e), ten-add depth wide, mul-le-mul-right (10 ^ place e) h),
         )
 
 -- m with k zeros behind it, and the exponent less by k, is the same number

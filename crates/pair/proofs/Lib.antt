@@ -10,7 +10,7 @@ mod Shares
 mod Alignment
 mod Sums
 mod Counts
-mod Providing
+pub mod Providing
 mod Ordered
 mod Fractions
 mod Nearest

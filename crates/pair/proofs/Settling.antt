@@ -359,50 +359,21 @@ module _ (e : ℤ) (m c : ℕ) (p q r : Pair) (size : mag e ≤ 99000) where
       (through (scaled-proper m e) (over-scaled m c e) (v .least))))
       (v .most)
 
--- what is not below a fraction above 0 is above 0
-above-from : (x : Fraction) (w : Number) → 0 < x .num → x ≤ᶠ value w → 0 < w .significand
-unfolding value
-above-from x w p h =
-    lt-of-mul-lt-mul-right (10 ^ place (w .exponent) * x .den) {m = 0} {n = w .significand}
-    (omega (arith, h .across, mul-pos p (ten-above depth)))
-
-number-above : (w : Number) → 0 < w .significand → 0 < value w .num
+-- A number above 0 has a value above 0, and the other way round.
+pub number-above : (w : Number) → 0 < w .significand → 0 < value w .num
 unfolding value
 number-above w h = mul-pos h (ten-above (place (w .exponent)))
 
--- times a number and by one that is not below it
-not-more : (t x c : Fraction) → x ≤ᶠ c → over (times t x) c ≤ᶠ t
-unfolding over times
-not-more t x c h = record { across = omega (arith, mul-le-mul-right (t .num * t .den) (h .across)) }
+pub significand-above : (w : Number) → 0 < value w .num → 0 < w .significand
+unfolding value
+significand-above w h = lt-of-mul-lt-mul-right (10 ^ place (w .exponent)) {m = 0} {n = w .significand} (omega (arith, h))
 
-below-through : (v w : Number) {y : Fraction} → value v ≤ᶠ value w → value w <ᶠ y → value v <ᶠ y
+pub below-through : (v w : Number) {y : Fraction} → value v ≤ᶠ value w → value w <ᶠ y → value v <ᶠ y
 below-through v w {y} h k =
     record {
       across =
           lt-of-mul-lt-mul-right (value w .den) {m = value v .num * y .den} {n = y .num * value v .den}
           (omega (arith, mul-le-mul-right (y .den) (h .across), mul-lt-mul-of-pos-right (k .across) (value-proper v .above-zero)));
-    }
-
--- A term under 10^e, times x and by c, is under it again where x is at most c.
-pub shrinks : (e : ℤ) (c : ℕ) (t x d p r : Pair) → mag e ≤ 99000 → 0 < c → c ≤ 999999999 → entry c (pos 0) ≡ is d → value (x .high) ≤ᶠ scaled c (pos 0) → 0 < x .high .significand →
-    call products t x ≡ is p → call quotients p d ≡ is r → Under e t → Under e r
-unfolding lowEnd highEnd withLow withHigh exactResult Along Beside times over
-shrinks e c t x d p r size z few i most above h k u =
-    let a = rounds products t x p h in
-    let b = rounds quotients p d r k in
-    let o : Ordered x = ordered x (operands products t x p h .1) in
-    let q = entry-exact c (pos 0) d few i in
-    let low : value (r .low) ≤ᶠ value (t .low) =
-    through (ends-proper quotients p d r k .0) (b .0 .side)
-    (through (exactly-proper quotients (ends-proper products t x p h .0) (scaled-proper c (pos 0)) (divisor c z))
-    (exactly-rises quotients (value (d .high)) (scaled c (pos 0)) (a .0 .side) (q .1 .high))
-    (not-more (value (t .low)) (value (x .low)) (scaled c (pos 0)) (through (value-proper (x .high)) (o .rising) most))) in
-    let p-above : 0 < p .high .significand = above-from (highEnd products t x) (p .high) (mul-pos (number-above (t .high) (u .above)) (number-above (x .high) above)) (a .1 .side) in
-    record {
-      pair = pair-again quotients p d r k;
-      low = below-through (r .low) (t .low) low (u .low);
-      high = over-under e 1 c p d r size z (lit≤ tt) few i k (times-under e 1 c t x p size (omega arith) h (u .high) most);
-      above = above-from (highEnd quotients p d) (r .high) (mul-pos (number-above (p .high) p-above) (value-proper (d .low) .above-zero)) (b .1 .side);
     }
 
 -- What is absorbed, test by test as the code makes them.

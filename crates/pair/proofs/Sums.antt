@@ -14,11 +14,11 @@ use Rattle.pair.specs.Number as specs
 use Rattle.pair.specs.Number.{place, lesser, rise, unitsAt, lower, isNumber}
 use Rattle.pair.specs.Rounding.{extra, divided, carried, rounded, sumEnd}
 use Rattle.pair.proofs.Alignment.{Small, rise-of, lesser-second, lesser-first, units-own, nine-small, raised, place-gap, place-next, lesser-below, units-none}
-use Rattle.pair.proofs.Dividing.{divided-least, divided-most, divided-one, divided-more, divided-twice}
+use Rattle.pair.proofs.Dividing.{divided-one, divided-more}
 use Rattle.pair.proofs.Exponents.{by-cases, mag-plus}
 use Rattle.pair.proofs.Numbers.{Nine, number-zero, number-nine}
 use Rattle.pair.proofs.Powers.{ten-above, ten-add}
-use Rattle.pair.proofs.Rounds.{rounded-off, rounded-exact}
+use Rattle.pair.proofs.Rounds.{rounded-off, rounded-exact, rounded-again, beyond-nine}
 
 pub next-small : (e : ℤ) → mag e < 100000 → Small (e +ℤ pos 1)
 next-small e h = record { small = omega (arith, mag-plus e (pos 1)) }
@@ -43,33 +43,13 @@ nine-kept up m e reach least most =
     small = record { small = omega arith }
 
 -- to round at a place and then to nine figures, in one direction, is to round once: t units of l, at a place g higher
-module _ (up : Bool) (t g : ℕ) (l e : ℤ) (small : Small l) (reach : mag e < 100000) (apart : place l + g ≡ place e) where
-  pub rounded-twice : 100000000 * 10 ^ g ≤ t → t < 9000000000 * 10 ^ g → rounded up (divided up t (10 ^ g)) 1 e ≡ rounded up t 1 l
-  rounded-twice least most = by-cases (ltb t (1000000000 * 10 ^ g)) short long
-    where
-      small′ : Small e
-      small′ = record { small = omega arith }
-
-      few : g < 200020
-      few = omega (arith, place-gap small′ small)
-
-      short : ltb t (1000000000 * 10 ^ g) ≡ true → rounded up (divided up t (10 ^ g)) 1 e ≡ rounded up t 1 l
-      short h =
-          let k : t < 1000000000 * 10 ^ g = ltb-true t (1000000000 * 10 ^ g) h in
-          nine-kept up (divided up t (10 ^ g)) e reach (divided-least up t (10 ^ g) 100000000 (ten-above g) least) (divided-most up t (10 ^ g) 1000000000 (ten-above g) k)
-          ∙ rounded-off up t g l e least k (raised (g + 9) 9 small small′ (omega (arith, few)) (omega arith))
-
-      long : ltb t (1000000000 * 10 ^ g) ≡ false → rounded up (divided up t (10 ^ g)) 1 e ≡ rounded up t 1 l
-      long h =
-          let k : 1000000000 * 10 ^ g ≤ t = ltb-false t (1000000000 * 10 ^ g) h in
-          let s : 10 ^ (g + 1) ≡ 10 ^ g * 10 = ten-add g 1 in
-          sym
-          (rounded-off up (divided up t (10 ^ g)) 1 e (e +ℤ pos 1) (divided-least up t (10 ^ g) 1000000000 (ten-above g) k)
-          (omega (arith, divided-most up t (10 ^ g) 9000000000 (ten-above g) most))
-          (raised 10 9 small′ (next-small e reach) (lit< tt) (omega (arith, place-next small′))))
-          ∙ ap (λ (q : ℕ). carried q (e +ℤ pos 1)) (divided-twice up t (10 ^ g) 10 (ten-above g) (lit< tt) ∙ ap (divided up t) (sym s))
-          ∙ rounded-off up t (g + 1) l (e +ℤ pos 1) (omega arith) (omega arith)
-          (raised (g + 1 + 9) 9 small (next-small e reach) (omega (arith, few)) (omega (arith, place-next small′)))
+pub rounded-twice : (up : Bool) (t g : ℕ) (l e : ℤ) → Small l → mag e < 100000 → place l + g ≡ place e → 100000000 * 10 ^ g ≤ t →
+    rounded up (divided up t (10 ^ g)) 1 e ≡ rounded up t 1 l
+rounded-twice up t g l e small reach apart least =
+    let small′ : Small e = record { small = omega arith } in
+    ap (rounded up (divided up t (10 ^ g)) 1)
+    (raised (g + 9) 9 small small′ (omega (arith, place-gap small′ small)) (omega arith) ∙ ap (λ (z : ℤ). l +ℤ z) (sym (beyond-nine g)))
+    ∙ rounded-again up t g l least
 
 -- the sum at the lower of the two exponents
 module _ (up : Bool) (a b : Number) (nine-a : Nine a) (nine-b : Nine b) (ordered : place (b .exponent) ≤ place (a .exponent)) where
@@ -87,7 +67,6 @@ module _ (up : Bool) (a b : Number) (nine-a : Nine a) (nine-b : Nine b) (ordered
       ∙ rounded-twice up (a .significand * 10 ^ g + b .significand) g (b .exponent) (a .exponent) (nine-small nine-b) (nine-a .reach)
       (omega (arith, rise-of (nine-small nine-b) (nine-small nine-a) ordered))
       (omega (arith, mul-le-mul-right (10 ^ g) (nine-a .least)))
-      (omega (arith, mul-le-mul-right (10 ^ g) (nine-a .most), nine-b .most, ten-above g))
       ∙ sym sum-ordered
 
 -- a sum does not depend on the order of its operands

@@ -1,7 +1,7 @@
 -- The calls on pairs and what each answers. A call that cannot be answered is refused with document 01's number 53: a pair that is
--- none, an entry with too many digits, a divisor with low end 0, 1 − f with f or its high end above 1, an exponent out of reach; and so is
--- a count of more than nineteen figures, which 64 bits may not hold.
-use Prim.Native.Nat.{ℕ, _^_}
+-- none, an entry with too many digits, in both words or in one, a divisor with low end 0, 1 − f with f or its high end above 1, an
+-- exponent out of reach; and so is a count of more than nineteen figures, which 64 bits may not hold.
+use Prim.Native.Nat.{ℕ, _+_, _*_, _^_}
 use mathlib.Core.Bool.{Bool, true, false, _&&_, not}
 use lib.Dec.{leb, ltb}
 use lib.IntN.{ℤ, pos, _+ℤ_}
@@ -66,6 +66,12 @@ mostPrinted = 999999999999
 -- m × 10^e as printed: the working numbers next to it, which are one where it is one
 unfoldable pub entry : ℕ → ℤ → Outcome Pair
 entry m e = provided (leb m mostPrinted && inReach e) (ends (rounded false m 1 e) (rounded true m 1 e))
+
+-- (high × 10^18 + low) × 10^e, two words of nineteen and eighteen digits: the working numbers next to it
+unfoldable pub longEntry : ℕ → ℕ → ℤ → Outcome Pair
+longEntry high low e =
+    provided (ltb high (10 ^ 19) && (ltb low (10 ^ 18) && inReach e))
+    (ends (rounded false (high * 10 ^ 18 + low) 1 e) (rounded true (high * 10 ^ 18 + low) 1 e))
 
 -- 1 − m × 10^e, from the printed digits, so that it is rounded once
 unfoldable pub oneMinusEntry : ℕ → ℤ → Outcome Pair

@@ -28,3 +28,7 @@ over x y = record { num = x .num * y .den; den = x .den * y .num }
 -- 1 − x, for x at most 1
 unfoldable pub rest : Fraction → Fraction
 rest x = record { num = x .den - x .num; den = x .den }
+
+-- x − y, for y at most x
+unfoldable pub minus : Fraction → Fraction → Fraction
+minus x y = record { num = x .num * y .den - y .num * x .den; den = x .den * y .den }

@@ -39,7 +39,7 @@ pub(crate) fn above(s: i32, e: i32) -> usize
 
 // A count of figures as an exponent.
 pub(crate) fn figures(k: usize) -> i32
-    requires { ⌜ k ≤ 9 ⌝ }
+    requires { ⌜ k ≤ 11 ⌝ }
     ensures { λ r. ⌜ r ≡ pos k ⌝ }
 {
     k as i32

@@ -20,6 +20,7 @@ use crate::exponent::less;
 use crate::exponent::plus;
 use crate::exponent::within;
 use crate::rounding::figured;
+use crate::rounding::long;
 use crate::rounding::normal;
 ghost use mathlib.Core.Path.{_≡_};
 ghost use mathlib.Core.Bool.{true};
@@ -292,6 +293,25 @@ impl Pair {
         answered(
             figured(false, significand, exponent),
             figured(true, significand, exponent),
+        )
+    }
+
+    // The pair of (high × 10^18 + low) × 10^exponent, of at most thirty-seven digits, so that a long number is rounded once.
+    pub fn long_entry(high: u64, low: u64, exponent: i32) -> Answer
+        ensures { λ r. ⌜ calls.answer r ≡ calls.longEntry high low exponent ⌝ }
+    {
+        if 9_999_999_999_999_999_999 < high {
+            return Answer::Refused;
+        }
+        if 999_999_999_999_999_999 < low {
+            return Answer::Refused;
+        }
+        if !in_reach(exponent) {
+            return Answer::Refused;
+        }
+        answered(
+            long(false, high, low, exponent),
+            long(true, high, low, exponent),
         )
     }
 

@@ -43,7 +43,7 @@ pub(crate) fn zero() -> Number
 // n / d as a whole number.
 fn whole(up: bool, n: u64, d: u64) -> u64
     requires { ⌜ 0 < d ⌝ }
-    requires { ⌜ n + d < 10000000000000000000 ⌝ }
+    requires { ⌜ n + d < 18000000000000000000 ⌝ }
     ensures { λ r. ⌜ r ≡ divided up n d ⌝ }
 {
     if up {
@@ -85,7 +85,7 @@ fn carry(m: u64, e: i32) -> Number
 pub(crate) fn nine(up: bool, n: u64, d: u64, e: i32) -> Number
     requires { ⌜ 0 < d ⌝ }
     requires { ⌜ (100000000 * d ≤ n) × (n < 1000000000 * d) ⌝ }
-    requires { ⌜ n + d < 10000000000000000000 ⌝ }
+    requires { ⌜ n + d < 18000000000000000000 ⌝ }
     requires { ⌜ mag e < 250000 ⌝ }
     ensures { λ r. ⌜ r ≡ carried (divided up n d) e ⌝ }
 {
@@ -162,37 +162,81 @@ pub(crate) fn normal(m: u64, e: i32) -> Number
     }
 }
 
-// How many figures beyond nine m has, which has ten to twelve.
+// How many figures beyond nine m has, which has ten to twenty.
 fn surplus(m: u64) -> usize
-    requires { ⌜ (1000000000 ≤ m) × (m ≤ 999999999999) ⌝ }
-    ensures { λ r. ⌜ (r ≤ 3) × (100000000 * 10 ^ r ≤ m) × (m < 1000000000 * 10 ^ r) ⌝ }
+    requires { ⌜ (1000000000 ≤ m) × (m ≤ 10000000000000000000) ⌝ }
+    ensures { λ r. ⌜ (r ≤ 11) × (100000000 * 10 ^ r ≤ m) × (m < 1000000000 * 10 ^ r) ⌝ }
 {
-    if m < 10_000_000_000 {
-        return 1;
+    if m < 1_000_000_000_000 {
+        if m < 10_000_000_000 {
+            return 1;
+        }
+        if m < 100_000_000_000 {
+            return 2;
+        }
+        return 3;
     }
-    if m < 100_000_000_000 {
-        return 2;
+    if m < 10_000_000_000_000_000 {
+        if m < 10_000_000_000_000 {
+            return 4;
+        }
+        if m < 100_000_000_000_000 {
+            return 5;
+        }
+        if m < 1_000_000_000_000_000 {
+            return 6;
+        }
+        return 7;
     }
-    3
+    if m < 100_000_000_000_000_000 {
+        return 8;
+    }
+    if m < 1_000_000_000_000_000_000 {
+        return 9;
+    }
+    if m < 10_000_000_000_000_000_000 {
+        return 10;
+    }
+    11
 }
 
 // m × 10^e, with k figures beyond nine, which are rounded off.
 fn off(up: bool, m: u64, k: usize, e: i32) -> Number
-    requires { ⌜ (k ≤ 3) × (100000000 * 10 ^ k ≤ m) × (m < 1000000000 * 10 ^ k) ⌝ }
-    requires { ⌜ mag e < 100000 ⌝ }
+    requires { ⌜ (k ≤ 11) × (100000000 * 10 ^ k ≤ m) × (m < 1000000000 * 10 ^ k) ⌝ }
+    requires { ⌜ m ≤ 10000000000000000000 ⌝ }
+    requires { ⌜ mag e < 200003 ⌝ }
     ensures { λ r. ⌜ r ≡ rounded up m 1 e ⌝ }
 {
     nine(up, m, power(k), plus(e, figures(k)))
 }
 
-// m × 10^e, of at most twelve figures.
+// m × 10^e, of at most nineteen figures, or 10^19.
 pub(crate) fn figured(up: bool, m: u64, e: i32) -> Number
-    requires { ⌜ m ≤ 999999999999 ⌝ }
-    requires { ⌜ mag e < 100000 ⌝ }
+    requires { ⌜ m ≤ 10000000000000000000 ⌝ }
+    requires { ⌜ mag e < 200003 ⌝ }
     ensures { λ r. ⌜ r ≡ rounded up m 1 e ⌝ }
 {
     if m <= 999_999_999 {
         return normal(m, e);
     }
     off(up, m, surplus(m), e)
+}
+
+// (high × 10^18 + low) × 10^e. What is below the first nineteen figures at most is rounded at their last place, and these once more in
+// the same direction, which is to round once.
+pub(crate) fn long(up: bool, high: u64, low: u64, e: i32) -> Number
+    requires { ⌜ high < 10000000000000000000 ⌝ }
+    requires { ⌜ low < 1000000000000000000 ⌝ }
+    requires { ⌜ mag e < 100000 ⌝ }
+    ensures { λ r. ⌜ r ≡ rounded up (high * 1000000000000000000 + low) 1 e ⌝ }
+{
+    if high == 0 {
+        return figured(up, low, e);
+    }
+    if high < 1_000_000_000 {
+        let first = high * 1_000_000_000 + whole(up, low, 1_000_000_000);
+        return figured(up, first, plus(e, 9));
+    }
+    let first = high + whole(up, low, 1_000_000_000_000_000_000);
+    figured(up, first, plus(e, 18))
 }

@@ -14,9 +14,9 @@ ghost use mathlib.Core.Path.{_≡_};
 ghost use mathlib.Core.Bool.{true};
 ghost use Prim.Native.Nat.{_≤_};
 
-// The place of a line's operation among the eight, or 8 where it names none.
+// The place of a line's operation among the nine, or 9 where it names none.
 pub fn operation(s: &[u8]) -> usize
-    ensures { λ r. ⌜ r ≤ 8 ⌝ }
+    ensures { λ r. ⌜ r ≤ 9 ⌝ }
 {
     if starts(s, b"add ") {
         return 0;
@@ -42,7 +42,10 @@ pub fn operation(s: &[u8]) -> usize
     if starts(s, b"less ") {
         return 7;
     }
-    8
+    if starts(s, b"long ") {
+        return 8;
+    }
+    9
 }
 
 // Where the answer begins, after " =" at a place, or the line's end, where no answer is, if that does not stand there.
@@ -191,6 +194,17 @@ fn of_less(s: &[u8]) -> bool {
     false
 }
 
+// A long entry: the words above and below 10^18, and an exponent.
+fn of_long(s: &[u8]) -> bool {
+    let high = read_whole(s, 4, true);
+    let low = read_whole(s, high.at, high.good);
+    let e = read_exponent(s, low.at, low.good);
+    if e.good {
+        return same_answer(s, e.at, Pair::long_entry(high.value, low.value, e.value));
+    }
+    false
+}
+
 // Whether the library answers a line as it is written there.
 pub fn agrees(operation: usize, s: &[u8]) -> bool {
     match operation {
@@ -200,6 +214,7 @@ pub fn agrees(operation: usize, s: &[u8]) -> bool {
         5 => of_compare(s),
         6 => of_units(s),
         7 => of_less(s),
+        8 => of_long(s),
         _ => false,
     }
 }

@@ -1,14 +1,14 @@
--- Nine places, counted up. Assumes nothing.
+-- Ten places, counted up. Assumes nothing.
 use Prim.Native.Nat.{_≤_, _-_}
 use borrow.Author.Needs.{needs}
 use Rattle.pair_trials.proofs.total.Statement.{statement}
 use Rattle.pair_trials.proofs.total.Tie as tie
 
 abbrev Inv-loop : tie.InvT-loop
-Inv-loop counts from sum₀ k₀ sum k = k ≤ 9
+Inv-loop counts from sum₀ k₀ sum k = k ≤ 10
 
 abbrev μ-loop : tie.MeasureT-loop
-μ-loop counts from sum₀ k₀ sum k = 9 - k
+μ-loop counts from sum₀ k₀ sum k = 10 - k
 
 loop-holds : tie.Need-loop-holds Inv-loop μ-loop
 loop-holds c = search needs

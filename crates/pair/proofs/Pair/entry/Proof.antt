@@ -64,7 +64,7 @@ figured-requires c κs =
     let a = b .before .before .before in
     let e = a .args .exponent in
     let h : inReach e ≡ true = rw (toZ-ofZ (a .fits .exponent)) at (passed (b .before .in-reach .ensures) (b .if2 .left)) in
-    (omega arith, rw (toZ-ofZ (a .fits .exponent)) (reach-mag e h))
+    (omega arith, rw (toZ-ofZ (a .fits .exponent)) (omega (arith, reach-mag e h)))
 
 figured-requires-2 : tie.Need-figured-requires-2
 figured-requires-2 c κs =
@@ -72,7 +72,7 @@ figured-requires-2 c κs =
     let a = b .before .before .before in
     let e = a .args .exponent in
     let h : inReach e ≡ true = rw (toZ-ofZ (a .fits .exponent)) at (passed (b .before .in-reach .ensures) (b .if2 .left)) in
-    (omega arith, rw (toZ-ofZ (a .fits .exponent)) (reach-mag e h))
+    (omega arith, rw (toZ-ofZ (a .fits .exponent)) (omega (arith, reach-mag e h)))
 
 answered-requires-2 : tie.Need-answered-requires-2
 answered-requires-2 c κs = search needs

@@ -116,7 +116,7 @@ figured-requires c κs =
     let a = c .before .before .before .before .before .before in
     let e = a .args .e in
     let p : c .power .result ≤ 10 ^ 12 = subst (λ (x : ℕ). x ≤ 10 ^ 12) (sym (c .power .ensures)) (ten-rises {j = 12} (c .before .if3 .left)) in
-    (omega (arith, p, pos-of-ne-zero (c .before .before .before .before .before .if1 .left)), rw (toZ-ofZ (a .fits .e)) (reach-mag e (a .pre .1 .0)))
+    (omega (arith, p, pos-of-ne-zero (c .before .before .before .before .before .if1 .left)), rw (toZ-ofZ (a .fits .e)) (omega (arith, reach-mag e (a .pre .1 .0))))
 
 returns-4 : tie.Need-returns-4
 returns-4 c =

@@ -1,20 +1,15 @@
 -- The figures beyond nine are divided off, and the exponent rises by as many. Assumes nothing.
-use mathlib.Core.Path.{_≡_, ap}
-use Prim.Native.Nat.{ℕ, _+_}
+use mathlib.Core.Path.{ap}
 use native.Mathlib.Omega.{arith}
-use lib.IntN.{pos, _+ℤ_, subℕ}
+use lib.IntN.{pos, _+ℤ_}
 use mir.Facts.{toZ-ofZ}
 use borrow.Author.Needs.{needs}
-use borrow.Author.Tests.{le-ltb}
 use Rattle.pair.proofs.Exponents.{mag-plus}
 use Rattle.pair.proofs.Numbers.{fits-plus, back}
 use Rattle.pair.proofs.Powers.{ten-above, ten-rises}
-use Rattle.pair.proofs.Rounds.{rounded-off}
+use Rattle.pair.proofs.Rounds.{rounded-off, beyond-nine}
 use Rattle.pair.proofs.rounding.off.Statement.{statement}
 use Rattle.pair.proofs.rounding.off.Tie as tie
-
-beyond-nine : (k : ℕ) → pos k ≡ subℕ (k + 9) 9
-beyond-nine k = rw (le-ltb (k + 9) 9 (omega arith)) (ap pos (omega arith))
 
 power-requires : tie.Need-power-requires
 power-requires c κs = search needs
@@ -32,7 +27,7 @@ nine-requires c κs =
     let a = c .before .before .before in
     let k = a .args .k in
     rw (c .before .before .power .ensures)
-    (ten-above k, ((a .pre .0 .1, a .pre .0 .2), (omega (arith, a .pre .0 .2, ten-rises {i = k} {j = 3} (a .pre .0 .0)), rw (back (c .plus .ok), c .plus .ensures, toZ-ofZ (a .fits .e), back (c .before .figures .ok), c .before .figures .ensures) (omega (arith, mag-plus (a .args .e) (pos k))))))
+    (ten-above k, ((a .pre .0 .1, a .pre .0 .2), (omega (arith, a .pre .0 .2, ten-rises {i = k} {j = 11} (a .pre .0 .0)), rw (back (c .plus .ok), c .plus .ensures, toZ-ofZ (a .fits .e), back (c .before .figures .ok), c .before .figures .ensures) (omega (arith, mag-plus (a .args .e) (pos k))))))
 
 returns : tie.Need-returns
 returns c =
