@@ -5,19 +5,21 @@ and 02.
   python3 make_decks.py ORACLE
 
 ORACLE is the folder of that reading (its oracle.py and decks.py), written in Python from the documents alone; nothing of it is
-copied here. It gives number, line and field, or which records a deck has, with P1 landed: level 1. P2 changes no ordinary deck's
-answer: each must have the same at level 2. A composite's deck has the composite call's, of level 2. No answer comes from the crate
-deck. The checksum needs digits and power as printed, which the oracle does not keep: they are taken from the fields' bytes here,
-and their value is held to the oracle's.
+copied here. It gives number, line and field, or which records a deck has, with P1 to P4 landed: level 4. P4 changes T2 alone: an
+ordinary deck that does not stop at a T2 must have the same answer at level 2 with slot 22 cleared, and a composite's deck the same as
+it is. No answer comes from the crate deck. The checksum needs digits and power as printed, which the oracle does not keep: they are
+taken from the fields' bytes here, and their value is held to the oracle's.
 
-The first 452 decks stand in data/decks since before P1 and are answered afresh. One whose fields have nine digits at most must keep
-its answer. The others are made anew on each run, from document 01's example but for one or two fields:
+The first 452 decks stand in data/decks since before P1 and are answered afresh, with a T2 where they had none. One that did not stop
+at slot 22 must keep its number, line and field. The others are made anew on each run, from document 01's example but for one or two
+fields:
   each slot with ten, eleven and twelve digits in range, and above its largest value
   both ends of each range, on both sides, and 0 where it is never 0
   later slots, and fields that spell no number, with that many digits
   a long field before and after a field that stops the deck
   whole decks by the oracle's own generator, half of them damaged
-  for P2: slots 22 to 24 filled, five receptors and more, a composite's decks, lengths above 6,723
+  for P2: slots 23 and 24 filled, five receptors and more, a composite's decks, lengths above 6,723
+  for P4: T2 in range, out of range, missing and misspelled, alone and beside another condition; decks from before P4
 
 The decks of data/composites are made anew too, from document 01's example with one to eight stages:
   each number of stages; years, and each slot of a stage, in range, above it, and 0
@@ -30,8 +32,8 @@ import sys
 from fractions import Fraction
 from pathlib import Path
 
-LEVEL = 1
-ORDINARY, COMPOSITE = (LEVEL, False), (2, True)
+LEVEL = 4
+ORDINARY, COMPOSITE = (LEVEL, False), (LEVEL, True)
 OLD = 452
 MODULUS = 999983
 SEED = 20270101
@@ -42,7 +44,7 @@ sys.path.insert(0, sys.argv[1])
 import decks as generator
 import oracle
 
-RECORDS = {"S": (oracle.SITE, "site"), "C": (oracle.CHEM, "chems"), "R": (oracle.REC, "recs")}
+RECORDS = {"S": "site", "C": "chems", "R": "recs"}
 
 
 # ---- answers
@@ -96,10 +98,17 @@ def told(deck, how):
         return refusal.answer
 
 
+def at_exposure(deck, numbers):
+    """the deck stops at a T2"""
+    number, line, field = numbers
+    return number > 30 and field == 4 and deck[81 * (line - 1):][:2] == b"R4"
+
+
 def answer(deck, how=ORDINARY):
     """the five numbers that are stored before a deck"""
     numbers = told(deck, how)
-    assert how == COMPOSITE or numbers == told(deck, (2, False)), "P2 changes an ordinary deck's answer"
+    before = deck if how == COMPOSITE else with_exposure(deck, "", lambda part: all(32 <= b <= 126 for b in part))
+    assert numbers == told(before, (2, how[1])) or at_exposure(deck, numbers), "P4 changes more than T2"
     lines = [deck[i:i + 81] for i in range(0, len(deck), 81)] if numbers[0] == 0 else []
     return (len(deck), *numbers, checksum(lines, *(numbers[1:] if lines else (0, 0)), oracle.Rules(*how).receptors))
 
@@ -114,6 +123,22 @@ def stored():
         yield head, data[at - head[0]:at]
 
 
+def with_exposure(deck, text, wanted):
+    """this T2 in each receptor whose slot 22 is a wanted one"""
+    for line in range(1, len(deck) // 81 + 1):
+        if deck[81 * (line - 1):][:2] == b"R4" and wanted(fields(deck[81 * (line - 1):])[3]):
+            deck = put(deck, line, 4, text)
+    return deck
+
+
+def exposed():
+    """with a T2 where slot 22 was blank; an answer that was given before may change at slot 22 alone"""
+    for i, (head, deck) in enumerate(stored()):
+        full = with_exposure(deck, EXPOSURES[0][i % len(EXPOSURES[0])], lambda part: not part.strip())
+        assert answer(full)[1:4] == head[1:4] or at_exposure(deck, head[1:4]), "P4 changes an answer from before"
+        yield full
+
+
 def many_digits(deck):
     """some field has ten digits or more"""
     return any(sum(48 <= b <= 57 for b in part) > 9 for i in range(0, len(deck), 81) for part in fields(deck[i:i + 81]))
@@ -125,7 +150,7 @@ def with_fields(*changes):
     """document 01's example, (letter, slot's name, text) changed"""
     given = {"site": {}, "chems": [{}], "recs": [{}]}
     for letter, name, text in changes:
-        slot = given[RECORDS[letter][1]]
+        slot = given[RECORDS[letter]]
         (slot if letter == "S" else slot[0])[name] = text
     return oracle.example(LEVEL, **given)
 
@@ -165,7 +190,7 @@ def largest(name):
 
 
 def slots():
-    return [(letter, name) for letter, (names, _) in RECORDS.items() for name in names]
+    return [(letter, name) for letter in RECORDS for name in oracle.Rules(*ORDINARY).slots[letter] if name is not None]
 
 
 def in_every_slot(rng):
@@ -183,8 +208,8 @@ def at_the_ends():
         for texts in TOPS[largest(name)] + BOTTOMS:
             for text in texts:
                 yield with_fields((letter, name, text))
-    for i, name in enumerate(sorted(oracle.NONZERO & {name for _, name in slots()})):
-        letter = next(letter for letter, (names, _) in RECORDS.items() if name in names)
+    never = sorted((name, letter) for letter, name in slots() if name in oracle.NONZERO)
+    for i, (name, letter) in enumerate(never):
         yield with_fields((letter, name, ZEROS[i % len(ZEROS)]))
     for text in ZEROS:
         yield with_fields(("C", "Q", text))
@@ -192,7 +217,7 @@ def at_the_ends():
 
 def misplaced():
     example = oracle.example(LEVEL)
-    for line, field in ((2, 6), (6, 5), (6, 6), (10, 4), (10, 5), (10, 6)):
+    for line, field in ((2, 6), (6, 5), (6, 6), (10, 5), (10, 6)):
         yield put(example, line, field, "123456789012")
     for i, text in enumerate(NO_NUMBERS):
         yield put(example, 1 + i % 10, 1 + i % 5, text)
@@ -237,7 +262,7 @@ def composite(count, chemicals=1, **last):
 def no_composites():
     """ordinary decks that a composite call would take otherwise, or that are near to such"""
     example, two = oracle.example(LEVEL), oracle.example(LEVEL, recs=[{}, {}])
-    for field in (4, 5, 6):
+    for field in (5, 6):
         for text in ("1", "0", "-", "1E5", "0.1234567891"):
             yield put(example, 10, field, text)
     yield put(two, 14, 5, "56")
@@ -250,12 +275,13 @@ def no_composites():
     yield longest[:-81] + longest[-405:]
 
 
-YEARS = (["1", "0.5", "75", "1E-20", "1E+09", "1.000000E-20", "1000000000.0", "0.0000000001", "000000000056", "12.345678901"],
-         ["", "-", "0", "1E-21", "1.1E+09", "1E5", "0.0000000000", "9.999999E-21", "1000000000.1", "56.", "-1", "1 2"])
+# of a length of exposure or a life stage: in range, and not
+EXPOSURES = (["1", "0.5", "75", "1E-20", "1E+09", "1.000000E-20", "1000000000.0", "0.0000000001", "000000000056", "12.345678901"],
+             ["", "-", "0", "1E-21", "1.1E+09", "1E5", "0.0000000000", "9.999999E-21", "1000000000.1", "56.", "-1", "1 2"])
 
 
 def some_years():
-    for i, text in enumerate(YEARS[0] + YEARS[1]):
+    for i, text in enumerate(EXPOSURES[0] + EXPOSURES[1]):
         yield composite(1, years=text)
         yield put(composite(5), 10 + 4 * (i % 5), 5, text)
 
@@ -306,9 +332,31 @@ def composites(rng):
         yield from decks
 
 
+# ---- P4
+
+def exposures():
+    four = oracle.example(LEVEL, recs=[{"T2": f"{10 * i}.5"} for i in range(1, 5)])
+    yield four
+    for i, text in enumerate(EXPOSURES[0] + EXPOSURES[1]):
+        yield with_fields(("R", "T2", text))
+        yield put(four, 10 + 4 * (i % 4), 4, text)
+    # beside another field that stops the deck, and beside years
+    for changes in (((10, 3, "367"), (10, 4, "")), ((10, 4, ""), (10, 5, "1")), ((10, 4, "0"), (10, 6, "x")),
+                    ((10, 4, "0"), (11, 1, "0")), ((14, 4, ""), (7, 2, "-")), ((10, 4, "1"), (10, 5, "1")),
+                    ((22, 4, "x"), (18, 4, "-"))):
+        deck = four
+        for change in changes:
+            deck = put(deck, *change)
+        yield deck
+    yield put(four, 10, 4, "0")[:809] + b" " + four[810:]
+    yield put(four, 10, 4, "")[:810] + b"R5" + four[812:]
+    for receptors in (1, 2, 4):
+        yield oracle.example(2, recs=[{}] * receptors)
+
+
 def made():
     rng = random.Random(SEED)
-    for decks in (in_every_slot(rng), at_the_ends(), misplaced(), around_a_stop(), generated(rng), no_composites()):
+    for decks in (in_every_slot(rng), at_the_ends(), misplaced(), around_a_stop(), generated(rng), no_composites(), exposures()):
         yield from decks
 
 
@@ -325,13 +373,10 @@ def write(name, decks, how):
 
 
 def main():
-    changed = 0
-    old = list(stored())
-    for head, deck in old:
-        assert answer(deck) == head or many_digits(deck), "a deck of nine digits at most has another answer"
-        changed += answer(deck) != head
-    print(f"{changed} of the first {OLD} changed their answer")
-    printed_lines = [write("decks", [deck for _, deck in old] + list(made()), ORDINARY),
+    heads, old = [head for head, _ in stored()], list(exposed())
+    changed = [i for i, (head, deck) in enumerate(zip(heads, old), 1) if answer(deck)[1:4] != head[1:4]]
+    print(f"of the first {OLD} these changed their number, line or field: {changed}")
+    printed_lines = [write("decks", old + list(made()), ORDINARY),
                      write("composites", list(composites(random.Random(SEED))), COMPOSITE)]
     (HERE / "stdout").write_text("".join(printed_lines))
 

@@ -1,18 +1,18 @@
 -- Every value of an accepted case lies where the equations need it: a number that a field may spell, in its slot's range.
 -- Assumes nothing.
 use Prim.Native.Nat.{ℕ, zero, suc, _+_, _*_, _-_, _/_, _%_, _^_, _≤_, _<_}
-use native.Mathlib.Nat.{le-refl, mod-lt, not-suc-le-zero, eq-or-lt-of-le, le-of-suc-le-suc, eq-zero-or-pos}
+use native.Mathlib.Nat.{le-refl, le-trans, lt-of-not-le, le-of-suc-le-suc, mul-le-mul-right, mod-lt, not-suc-le-zero, eq-or-lt-of-le, eq-zero-or-pos}
 use native.Mathlib.Omega.{arith}
 use mathlib.Core.Path.{_≡_, refl, sym, ap, _∙_, subst}
-use mathlib.Core.Logic.{⊎-elim}
-use mathlib.Core.Bool.{Bool, true, false, cond, not, _&&_, _||_, true≢false}
+use mathlib.Core.Logic.{_⊎_, inl, inr, ⊎-elim}
+use mathlib.Core.Bool.{Bool, true, false, cond, not, _&&_, _||_, true≢false, false≢true}
 use mathlib.Core.List.{List, [], _∷_, _++_}
 use borrow.Author.Tests.{eqb-false, eqb-true, leb-true, ltb-true, not-false}
 use lib.Dec.{leb, ltb, eqb, lit<}
 use lib.IntN.{ℤ, pos, negsuc, subℕ}
-use lib.ListN.{length, getD, take, drop, replicate, length-take, List·getD-append}
+use lib.ListN.{length, getD, take, drop, replicate, length-take, length-drop, List·getD-append}
 use lib.Seq.{getD-at}
-use Rattle.deck.specs.Parts.{leading, linesOf, lineOf, fieldIn, fieldOf}
+use Rattle.deck.specs.Parts.{leading, fieldWidth, linesOf, lineOf, fieldIn, fieldOf}
 use Rattle.deck.specs.Numbers.{digitsValue, unspaced, exponentSpelled, powerOf, digitsRead, maxDigits, endedOf, pointedOf, spelledOf, loneDash, wordOf}
 use Rattle.deck.specs.Kinds.{kindOf, S1, C1, R1, kinds, rulesIn, rulesOf}
 use Rattle.deck.specs.Ranges.{above, below, inRange, valueAtLeast, valueAtMost}
@@ -33,13 +33,15 @@ use Rattle.deck.specs.declared.Value.the-variants.{Absent, Printed}
 use Rattle.deck.specs.declared.Word.{Word}
 use Rattle.deck.specs.declared.Word.the-variants.{Blank, Dash, Number, Other}
 use Rattle.deck.specs.declared.Status.the-variants.{Read}
-use Rattle.deck.proofs.Digits.{both, leading-take, digits-value-append, digits-value-below}
-use Rattle.deck.proofs.Words.{digits-room, exponent-four, exponent-small}
+use Rattle.deck.proofs.Digits.{both, leading-le, leading-take, digits-value-append, digits-value-below}
+use Rattle.deck.proofs.Words.{tens, digits-room, exponent-four, exponent-small, power-plain}
+use Rattle.deck.proofs.Columns.{field-short}
+use Rattle.deck.proofs.Ranges.{above-all, least-near}
 use Rattle.deck.proofs.Scan.{first-read}
 use Rattle.deck.proofs.CaseLaws.{length-tabulate}
 use Rattle.deck.proofs.Places.{upTo-each, line-facts, counts, lines-are, kind-site, kind-chemical, kind-receptor}
 
--- ---- every word that is a number is one that a field may spell
+-- ---- every field that holds a number is as `Spelled` says
 choose : (t : Bool) (v w : Word) → (t ≡ true → Small v) → (t ≡ false → Small w) → Small (cond t v w)
 choose true v w p q = p refl
 choose false v w p q = q refl
@@ -74,43 +76,62 @@ power-small false tail places s h =
 
 module _ (text : List ℕ) (whole places : ℕ) (before : leading 48 57 (take whole text) ≡ length (take whole text))
     (after : leading 48 57 (take places (drop (whole + 1) text)) ≡ length (take places (drop (whole + 1) text))) where
-  digits-small : whole + places ≤ maxDigits → digitsRead text whole places < 1000000000000
+  digits-small : (k : ℕ) → whole + places ≤ k → digitsRead text whole places < 10 ^ k
   unfolding digitsRead
-  digits-small few =
+  digits-small k few =
       let n = digitsValue 0 (take whole text) in
       let rest = take places (drop (whole + 1) text) in
-      let room = digits-room (take whole text) before n refl (length rest) maxDigits (omega (arith, length-take whole text, length-take places (drop (whole + 1) text))) in
+      let room = digits-room (take whole text) before n refl (length rest) k (omega (arith, length-take whole text, length-take places (drop (whole + 1) text))) in
       omega (arith, digits-value-append 0 (take whole text) rest, digits-value-below rest after n (n + 1) (le-refl (n + 1)), room)
 
-  ended-small : (end : ℕ) → Small (endedOf text whole places end)
-  unfolding endedOf powerOf
-  ended-small end =
-      choose (leb (whole + places) maxDigits && exponentSpelled (drop end text)) _ Other
+  -- the digits, and an exponent after them, share the columns of a field
+  module _ (end : ℕ) (short : length text ≤ fieldWidth) (past : whole + places ≤ end) (near : places ≤ 11) where
+    ended-fine : exponentSpelled (drop end text) ≡ true → (below (powerOf (drop end text) places) ≤ 11) ⊎ (digitsRead text whole places < 100000000)
+    ended-fine s =
+        ⊎-elim
+        (λ z. inl (subst (λ (p : ℤ). below p ≤ 11) (power-plain (drop end text) places z) (omega (arith, sub-below (ltb 0 places) 0 places refl))))
+        (λ p. inr (digits-small 8 (omega (arith, exponent-four (drop end text) s (λ z. omega arith), length-drop end text))))
+        (eq-zero-or-pos (length (drop end text)))
+
+    ended-small : Small (endedOf text whole places end)
+    unfolding endedOf powerOf
+    ended-small =
+        choose (leb (whole + places) maxDigits && exponentSpelled (drop end text)) _ Other
+        (λ t.
+        let b = both (leb (whole + places) maxDigits) (exponentSpelled (drop end text)) t in
+        let few = leb-true (whole + places) maxDigits (b .0) in
+        let p = power-small (eqb (getD (drop end text) 1 0) 45) (drop end text) places (b .1) (omega arith) in
+        record { twelve = digits-small 12 few; high = p .0; low = p .1; fine = ended-fine (b .1) })
+        (λ t. tt)
+
+module _ (text : List ℕ) (short : length text ≤ fieldWidth) where
+  pointed-small : (whole : ℕ) → leading 48 57 (take whole text) ≡ length (take whole text) → Small (pointedOf text whole)
+  unfolding pointedOf
+  pointed-small whole b =
+      let rest = drop (whole + 1) text in
+      let places = leading 48 57 rest in
+      choose (eqb places 0) Other _ (λ t. tt)
       (λ t.
-      let b = both (leb (whole + places) maxDigits) (exponentSpelled (drop end text)) t in
-      let few = leb-true (whole + places) maxDigits (b .0) in
-      let p = power-small (eqb (getD (drop end text) 1 0) 45) (drop end text) places (b .1) (omega arith) in
-      record { twelve = digits-small few; high = p .0; low = p .1 })
-      (λ t. tt)
+      ended-small text whole places b (leading-take 48 57 rest) (whole + 1 + places) short (omega arith)
+      (omega (arith, leading-le 48 57 rest, length-drop (whole + 1) text)))
 
-pointed-small : (text : List ℕ) (whole : ℕ) → leading 48 57 (take whole text) ≡ length (take whole text) → Small (pointedOf text whole)
-unfolding pointedOf
-pointed-small text whole b =
-    let places = leading 48 57 (drop (whole + 1) text) in
-    choose (eqb places 0) Other _ (λ t. tt) (λ t. ended-small text whole places b (leading-take 48 57 (drop (whole + 1) text)) (whole + 1 + places))
+  spelled-small : Small (spelledOf text)
+  unfolding spelledOf leading
+  spelled-small =
+      let whole = leading 48 57 text in
+      let b = leading-take 48 57 text in
+      choose (eqb whole 0) Other _ (λ t. tt)
+      (λ t. choose (eqb (getD text whole 0) 46) _ _ (λ u. pointed-small whole b) (λ u. ended-small text whole 0 b refl whole short (omega arith) (omega arith)))
 
-spelled-small : (text : List ℕ) → Small (spelledOf text)
-unfolding spelledOf leading
-spelled-small text =
-    let whole = leading 48 57 text in
-    let b = leading-take 48 57 text in
-    choose (eqb whole 0) Other _ (λ t. tt)
-    (λ t. choose (eqb (getD text whole 0) 46) _ _ (λ u. pointed-small text whole b) (λ u. ended-small text whole 0 b refl whole))
-
-pub word-small : (part : List ℕ) → Small (wordOf part)
+word-small : (part : List ℕ) → length part ≤ fieldWidth → Small (wordOf part)
 unfolding wordOf
-word-small part =
-    choose (eqb (length (unspaced part)) 0) Blank _ (λ t. tt) (λ t. choose (loneDash (unspaced part)) Dash _ (λ u. tt) (λ u. spelled-small (unspaced part)))
+word-small part h =
+    let text = unspaced part in
+    choose (eqb (length text) 0) Blank _ (λ t. tt)
+    (λ t. choose (loneDash text) Dash _ (λ u. tt) (λ u. spelled-small text (omega (arith, length-drop (leading 32 32 part) part))))
+
+pub field-small : (line : List ℕ) (f : ℕ) → Small (wordOf (fieldIn line f))
+field-small line f = word-small (fieldIn line f) (field-short line f)
 
 -- ---- a field of which no condition holds
 blank-right : (d u : Bool) → u ≡ false → (d || not u) ≡ true
@@ -202,7 +223,7 @@ module _ (sort : Sort) (deck : List ℕ) (e : first (conditions sort deck) ≡ R
       ap (λ (x : ℕ). getD (rulesOf sort (kindOf l)) x unused) i ∙ ap (λ (x : ℕ). getD (rulesOf sort x) (k % 6) unused) q ∙ slot-rule sort o k p in
       subst (λ (x : Rule). Fits x (valueOf (wordOf (fieldIn l (k % 6 + 1))))) rule
       (subst (λ (x : ℕ). Fits (getD (rulesOf sort (kindOf l)) (suc (k % 6) - 1) unused) (valueOf (wordOf (fieldIn l x)))) (omega arith)
-      (field-fits (getD (rulesOf sort (kindOf l)) (suc (k % 6) - 1) unused) (wordOf (fieldIn l (suc (k % 6)))) (suc m) (suc (k % 6)) (word-small (fieldIn l (suc (k % 6)))) f))
+      (field-fits (getD (rulesOf sort (kindOf l)) (suc (k % 6) - 1) unused) (wordOf (fieldIn l (suc (k % 6)))) (suc m) (suc (k % 6)) (field-small l (suc (k % 6))) f))
 
   value-fits : (o : Owner) (n k lines : ℕ) → k < places o → k < lines * 6 → 1 ≤ n → n + k / 6 ≤ linesOf deck → kindOf (lineOf deck (n + k / 6)) ≡ head o + k / 6
       → (r : Record) → r ≡ recordOf deck n lines → Fits (ruleAt sort o k) (valueAt r k)
@@ -251,14 +272,43 @@ module _ (rule : Rule) (digits : ℕ) (power : ℤ) where
   tests-if true s e h p = absurd (let z = eqb-true digits 0 e in omega arith)
   tests-if false s e h p = h
 
-  -- a value above 0 is at least 1E-20 and at most the rule's largest
-  pub range-bounds : inRange rule digits power ≡ true → 0 < digits
-      → (10 ^ below power ≤ digits * 10 ^ (above power + 20)) × (digits * 10 ^ above power ≤ rule .most * 10 ^ below power)
-  unfolding inRange valueAtLeast valueAtMost
-  range-bounds h p =
-      let t = tests-if (eqb digits 0) (valueAtLeast digits power && valueAtMost (rule .most) digits power) refl h p in
-      let b = both (valueAtLeast digits power) (valueAtMost (rule .most) digits power) t in
-      (leb-true (10 ^ below power) (digits * 10 ^ (above power + 20)) (b .0), leb-true (digits * 10 ^ above power) (rule .most * 10 ^ below power) (b .1))
+  range-tests : inRange rule digits power ≡ true → 0 < digits → (valueAtLeast digits power ≡ true) × (valueAtMost (rule .most) digits power ≡ true)
+  unfolding inRange
+  range-tests h p =
+      both (valueAtLeast digits power) (valueAtMost (rule .most) digits power)
+      (tests-if (eqb digits 0) (valueAtLeast digits power && valueAtMost (rule .most) digits power) refl h p)
+
+  module _ (ranged : inRange rule digits power ≡ true) where
+    -- a value above 0 is at least 1E-20 and at most the rule's largest
+    pub range-bounds : 0 < digits → (10 ^ below power ≤ digits * 10 ^ (above power + 20)) × (digits * 10 ^ above power ≤ rule .most * 10 ^ below power)
+    unfolding valueAtLeast valueAtMost
+    range-bounds p =
+        let t = range-tests ranged p in
+        (leb-true (10 ^ below power) (digits * 10 ^ (above power + 20)) (t .0), leb-true (digits * 10 ^ above power) (rule .most * 10 ^ below power) (t .1))
+
+    -- what bounds the rule's largest value bounds every value
+    pub range-most : (c : ℕ) → rule .most ≤ c → digits * 10 ^ above power ≤ c * 10 ^ below power
+    range-most c l =
+        ⊎-elim (λ z. rw z (omega arith)) (λ p. le-trans (range-bounds p .1) (mul-le-mul-right (10 ^ below power) l)) (eq-zero-or-pos digits)
+
+    module _ (some : 0 < digits) where
+      -- eight digits that make 1E-20 or more end at 1E-27 or above
+      fine-below : digits < 100000000 → below power ≤ 27
+      fine-below d =
+          le-of-suc-le-suc
+          (lt-of-not-le
+          (λ h.
+          let t = tens 8 (below power - 20) (omega arith) in
+          let b = leb-true (10 ^ (below power - 20)) digits (least-near digits power some (omega arith) (10 ^ (below power - 20)) refl ∙ range-tests ranged some .0) in
+          omega arith))
+
+      -- the last digit of a printed value above 0 stands from 1E-27 to 1E+9
+      pub finest : rule .most ≤ 1000000000 → Spelled digits power → (below power ≤ 27) × (above power ≤ 9)
+      finest m s = (
+        ⊎-elim (λ h. omega arith) fine-below (s .fine),
+        le-of-suc-le-suc
+            (lt-of-not-le (λ h. false≢true (above-all (rule .most) digits power some (omega arith) h ∙ range-tests ranged some .1))),
+      )
 
 -- a slot that is needed and allows no - has a value
 pub record Given (rule : Rule) (v : Value) : Type 0 where

@@ -35,7 +35,9 @@ taken-short true s = omega (arith, length-take fieldWidth s)
 taken-short false s = omega arith
 
 -- every field of every line
-pub field-digits-held : (line : List ℕ) (f : ℕ) → DigitsHeld (unspaced (fieldIn line f))
+pub field-short : (line : List ℕ) (f : ℕ) → length (fieldIn line f) ≤ fieldWidth
 unfolding fieldIn
-field-digits-held line f =
-    no-digit-limit (fieldIn line f) (taken-short (within 1 fieldsPerLine f) (drop (fieldsStart + fieldWidth * (f - 1)) line))
+field-short line f = taken-short (within 1 fieldsPerLine f) (drop (fieldsStart + fieldWidth * (f - 1)) line)
+
+pub field-digits-held : (line : List ℕ) (f : ℕ) → DigitsHeld (unspaced (fieldIn line f))
+field-digits-held line f = no-digit-limit (fieldIn line f) (field-short line f)

@@ -21,7 +21,7 @@ use Rattle.deck.specs.declared.Word.{Word}
 use Rattle.deck.specs.declared.Word.the-variants.{Blank, Dash, Number, Other}
 use Rattle.deck.proofs.Parts.{line-past}
 use Rattle.deck.proofs.CaseLaws.{field-none, length-tabulate}
-use Rattle.deck.proofs.Accepted.{word-small, tabulated}
+use Rattle.deck.proofs.Accepted.{field-small, tabulated}
 
 -- ---- a value
 power-back : (p : ℤ) → above p ≤ 99 → below p ≤ 111 → subℕ (128 + above p - below p) 128 ≡ p
@@ -138,14 +138,14 @@ module _ (deck : List ℕ) where
   -- slot k of the record that begins at line n
   pub slot-kept : (values : List ℕ) (n k : ℕ) → values ≡ packedFields deck → 1 ≤ n → n ≤ 96 → k < 24 → (v : Value) → v ≡ unpackedOf (getD values (6 * (n - 1) + k) 0)
       → _≡_ {A = Filled} (record { value = v }) (slotSpelled deck n k)
-  unfolding packedFields packedAt slotSpelled
+  unfolding packedFields packedAt slotSpelled fieldOf
   slot-kept values n k e p q h v g =
       let i = 6 * (n - 1) + k in
       let there : getD values i 0 ≡ packedAt deck i = ap (λ (l : List ℕ). getD l i 0) e ∙ tabulated (packedAt deck) 0 maxFields i (omega arith) in
       let d : i / 6 + 1 ≡ n + k / 6 = omega arith in
       let m : i % 6 ≡ k % 6 = omega arith in
       let field : fieldOf deck (i / 6 + 1) (i % 6 + 1) ≡ fieldOf deck (n + k / 6) (k % 6 + 1) = rw (d, m) refl in
-      ap (λ (x : Value). record { value = x }) (g ∙ ap unpackedOf there ∙ unpacked-word _ (word-small _) ∙ ap (λ (part : List ℕ). valueOf (wordOf part)) field)
+      ap (λ (x : Value). record { value = x }) (g ∙ ap unpackedOf there ∙ unpacked-word _ (field-small (lineOf deck (i / 6 + 1)) (i % 6 + 1)) ∙ ap (λ (part : List ℕ). valueOf (wordOf part)) field)
 
 pub none-kept : replicate maxFields 0 ≡ packedFields []
 unfolding linesOf

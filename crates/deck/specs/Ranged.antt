@@ -3,6 +3,7 @@
 -- Assumes nothing.
 use mathlib.Core.Path.{_≡_}
 use Prim.Native.Nat.{ℕ, _≤_, _<_}
+use mathlib.Core.Logic.{_⊎_}
 use mathlib.Core.Bool.{true, not, _||_}
 use lib.IntN.{ℤ}
 use Rattle.slots.specs.Slots.{Slot, ruleFor}
@@ -15,11 +16,12 @@ use Rattle.deck.specs.declared.Case.{Case}
 use Rattle.deck.specs.declared.Value.{Value}
 use Rattle.deck.specs.declared.Value.the-variants.{Absent, Printed}
 
--- what a field may spell: twelve digits, and a power of ten from -111 to 99
+-- what a field may spell: twelve digits, and a power of ten from -111 to 99; below -11 only by an exponent, which leaves columns for eight digits
 pub record Spelled (digits : ℕ) (power : ℤ) : Type 0 where
   pub twelve : digits < 1000000000000
   pub high : above power ≤ 99
   pub low : below power ≤ 111
+  pub fine : (below power ≤ 11) ⊎ (digits < 100000000)
 
 -- what a slot's rule asks of its value; no value is right where - is allowed, and in a later slot
 abbrev pub Fits : Rule → Value → Type 0

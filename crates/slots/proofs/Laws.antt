@@ -16,7 +16,7 @@ use Rattle.slots.specs.declared.Owner.the-variants.{Site, Chemical, Rece
 use Rattle.slots.specs.declared.Rule.{Rule}
 use Rattle.slots.specs.declared.Sort.{Sort}
 use Rattle.slots.specs.declared.Sort.the-variants.{Ordinary, Composite}
-use Rattle.slots.specs.Slots.{Entry, _is_, _inComposite_, vacant, Slot, unused, table, same, isIn, placeIn, entryRule, ruleIn, ruleAt, lineRules, ownerOf, placeOf, ruleOf, ruleFor}
+use Rattle.slots.specs.Slots.{Entry, _is_, _inOrdinary_, _inComposite_, Slot, unused, table, same, isIn, placeIn, entryRule, ruleIn, ruleAt, lineRules, ownerOf, placeOf, ruleOf, ruleFor}
 
 -- past the table's end
 pub later-rule : (sort : Sort) (o : Owner) (k : ℕ) → length (map (ruleIn sort) (table o)) ≤ k → ruleAt sort o k ≡ unused
@@ -53,8 +53,8 @@ place-most : (es : List Entry) (s : Slot) → placeIn es s ≤ length es
 unfolding placeIn
 place-most [] s = le-refl 0
 place-most ((name is rule) ∷ es) s = most-of (same name s) (placeIn es s) (length es) (place-most es s)
+place-most ((name inOrdinary rule) ∷ es) s = most-of (same name s) (placeIn es s) (length es) (place-most es s)
 place-most ((name inComposite rule) ∷ es) s = most-of (same name s) (placeIn es s) (length es) (place-most es s)
-place-most (vacant ∷ es) s = omega (arith, place-most es s)
 
 below-of : (t u : Bool) (p n : ℕ) → (u ≡ true → p < n) → cond t true u ≡ true → cond t 0 (suc p) < suc n
 below-of true u p n l h = omega arith
@@ -64,8 +64,8 @@ place-below : (es : List Entry) (s : Slot) → isIn es s ≡ true → placeIn es
 unfolding placeIn isIn
 place-below [] s h = absurd (false≢true h)
 place-below ((name is rule) ∷ es) s h = below-of (same name s) (isIn es s) (placeIn es s) (length es) (place-below es s) h
+place-below ((name inOrdinary rule) ∷ es) s h = below-of (same name s) (isIn es s) (placeIn es s) (length es) (place-below es s) h
 place-below ((name inComposite rule) ∷ es) s h = below-of (same name s) (isIn es s) (placeIn es s) (length es) (place-below es s) h
-place-below (vacant ∷ es) s h = omega (arith, place-below es s h)
 
 -- a site's slot lies in its two lines, any other in its four
 unfoldable pub places : Owner → ℕ
@@ -117,9 +117,10 @@ most-rule s = few-each (map entryRule (table (ownerOf s))) (few-all (ownerOf s))
 entry-cases : (sort : Sort) (e : Entry) → (ruleIn sort e ≡ entryRule e) ⊎ (ruleIn sort e ≡ unused)
 unfolding ruleIn entryRule
 entry-cases sort (name is rule) = inl refl
+entry-cases Ordinary (name inOrdinary rule) = inl refl
+entry-cases Composite (name inOrdinary rule) = inr refl
 entry-cases Ordinary (name inComposite rule) = inr refl
 entry-cases Composite (name inComposite rule) = inl refl
-entry-cases sort vacant = inl refl
 
 list-cases : (sort : Sort) (es : List Entry) (k : ℕ) →
     (getD (map (ruleIn sort) es) k unused ≡ getD (map entryRule es) k unused) ⊎ (getD (map (ruleIn sort) es) k unused ≡ unused)

@@ -46,13 +46,14 @@ slope = record { used = true; dash = true; zero = true; most = 1000000000 }
 abbrev pub unused : Rule
 unused = record { used = false; dash = false; zero = false; most = 0 }
 
--- a slot of every deck; one of a composite's deck, in others a later slot; no slot yet
+-- a slot of every deck; one of an ordinary deck, in a composite's a later slot; one of a composite's deck, in an ordinary one a later slot
 infix 95 _is_
+infix 95 _inOrdinary_
 infix 95 _inComposite_
 pub data Entry : Type 0 where
   _is_ : Slot → Rule → Entry
+  _inOrdinary_ : Slot → Rule → Entry
   _inComposite_ : Slot → Rule → Entry
-  vacant : Entry
 
 -- the slots of a record, from its first; what follows them are later slots
 unfoldable pub table : Owner → List Entry
@@ -70,7 +71,7 @@ table Receptor =
     "BW" is positive ∷ "ED" is positive ∷ "ATc" is positive ∷ "IRinh" is ordinary ∷ "ETinh" is share ∷ "EFinh" is days
     ∷ "IRsoil" is ordinary ∷ "ETsoil" is share ∷ "EFs" is days ∷ "EFw" is days ∷ "SAb" is ordinary ∷ "SAFb" is ordinary
     ∷ "SAh" is ordinary ∷ "SAFh" is ordinary ∷ "ETderm" is share ∷ "IRag" is ordinary ∷ "Fag" is share ∷ "IRbg" is ordinary
-    ∷ "Fbg" is share ∷ "WP" is share ∷ "EFp" is days ∷ vacant ∷ "years" inComposite positive
+    ∷ "Fbg" is share ∷ "WP" is share ∷ "EFp" is days ∷ "T2" inOrdinary positive ∷ "years" inComposite positive
     ∷ []
 
 -- two names are spelled alike
@@ -84,26 +85,27 @@ same (c ◂ s) (d ◂ t) = cond (eqb (code c) (code d)) (same s t) false
 unfoldable pub isIn : List Entry → Slot → Bool
 isIn [] s = false
 isIn ((name is rule) ∷ rest) s = cond (same name s) true (isIn rest s)
+isIn ((name inOrdinary rule) ∷ rest) s = cond (same name s) true (isIn rest s)
 isIn ((name inComposite rule) ∷ rest) s = cond (same name s) true (isIn rest s)
-isIn (vacant ∷ rest) s = isIn rest s
 
 unfoldable pub placeIn : List Entry → Slot → ℕ
 placeIn [] s = 0
 placeIn ((name is rule) ∷ rest) s = cond (same name s) 0 (suc (placeIn rest s))
+placeIn ((name inOrdinary rule) ∷ rest) s = cond (same name s) 0 (suc (placeIn rest s))
 placeIn ((name inComposite rule) ∷ rest) s = cond (same name s) 0 (suc (placeIn rest s))
-placeIn (vacant ∷ rest) s = suc (placeIn rest s)
 
 -- an entry's rule as written, and in a deck of this sort
 unfoldable pub entryRule : Entry → Rule
 entryRule (name is rule) = rule
+entryRule (name inOrdinary rule) = rule
 entryRule (name inComposite rule) = rule
-entryRule vacant = unused
 
 unfoldable pub ruleIn : Sort → Entry → Rule
 ruleIn sort (name is rule) = rule
+ruleIn Ordinary (name inOrdinary rule) = rule
+ruleIn Composite (name inOrdinary rule) = unused
 ruleIn Ordinary (name inComposite rule) = unused
 ruleIn Composite (name inComposite rule) = rule
-ruleIn sort vacant = unused
 
 -- the rule of a record's place, from 0
 unfoldable pub ruleAt : Sort → Owner → ℕ → Rule

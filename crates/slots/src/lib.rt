@@ -141,6 +141,8 @@ pub const WP: usize = 19;
 
 pub const EF_P: usize = 20;
 
+pub const T2: usize = 21;
+
 pub const YEARS: usize = 22;
 
 const PLAIN: Rule = Rule {
@@ -221,7 +223,7 @@ fn last_rules(sort: Sort) -> [Rule; FIELDS]
     ensures { λ r. ⌜ r ≡ lineRules sort Owner.Receptor 3 ⌝ }
 {
     match sort {
-        Sort::Ordinary => [SHARE, SHARE, DAYS, UNUSED, UNUSED, UNUSED],
+        Sort::Ordinary => [SHARE, SHARE, DAYS, POSITIVE, UNUSED, UNUSED],
         Sort::Composite => [SHARE, SHARE, DAYS, UNUSED, POSITIVE, UNUSED],
     }
 }

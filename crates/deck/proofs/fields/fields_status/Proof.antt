@@ -14,7 +14,7 @@ use Rattle.deck.specs.Inner.{Small, packedIn}
 use Rattle.deck.specs.declared.Status.the-variants.{Read}
 use Rattle.deck.proofs.First.{turn-on, turn-out, fieldBy, field-turn, fields-by}
 use Rattle.deck.proofs.Scan.{never}
-use Rattle.deck.proofs.Accepted.{word-small}
+use Rattle.deck.proofs.Accepted.{field-small}
 use Rattle.deck.proofs.Packed.{fields-more, fields-all}
 use Rattle.deck.proofs.fields.fields_status.Statement.{statement}
 use Rattle.deck.proofs.fields.fields_status.Tie as tie
@@ -73,7 +73,8 @@ returns c =
     )
 
 packed-requires : tie.Need-packed-requires Inv-loop μ-loop
-packed-requires c κs = subst Small (sym (c .before .before .before .word .ensures)) (word-small _)
+packed-requires c κs =
+    subst Small (sym (c .before .before .before .word .ensures ∙ ap wordOf (c .before .before .before .before .field-part .ensures))) (field-small _ _)
 
 mul-values : tie.Need-mul-values Inv-loop μ-loop
 mul-values c = omega arith
