@@ -1,54 +1,112 @@
--- Document 01's checked figure x = 0: φ and g are 1. Assumes nothing.
-use mathlib.Core.Path.{_≡_, _∙_, ap}
+-- Document 01's checked figure x = 0: φ and g are 1; and P4's: ψ and h are 1/2. Assumes nothing.
+use mathlib.Core.Path.{_≡_, _∙_, ap, ap₂}
 use mathlib.Core.Bool.{true}
 use Prim.Native.Nat.{ℕ, zero, suc, _+_, _≤_}
 use native.Mathlib.Omega.{arith}
-use lib.Dec.{lit≤}
-use lib.IntN.{pos}
+use lib.Dec.{lit≤, lit<}
+use lib.IntN.{pos, negsuc}
 use Rattle.pair.specs.declared.Pair.{Pair}
 use Rattle.pair.specs.Number.{isPair}
-use Rattle.pair.specs.Calls.{Outcome, is, after, afterOne, zeroPair, onePair, entry, sum, quotient}
-use Rattle.pair.proofs.Promises.{zero-pair, one-pair, one-entry, entry-answered, entry-around, entry-above, around-pair, scaled-proper, sum-zero, product-zero, zero-quotient, quotient-one}
-use Rattle.equations.specs.Formula.{read, pairs}
-use Rattle.equations.specs.Series.{terms, fromZero, pairSeries}
-use Rattle.equations.specs.Page.{x, g}
-use Rattle.equations.specs.Readings.{Inputs, letters, plain, asAnswers, worked}
-use Rattle.equations.proofs.LineLaws.{x-plain}
+use Rattle.pair.specs.Calls.{Outcome, is, after, afterOne, zeroPair, onePair, entry, sum, product, quotient}
+use Rattle.pair.proofs.Promises.{zero-pair, one-pair, one-entry, entry-answered, entry-around, entry-above, around-pair, scaled-proper, sum-zero, product-zero, zero-product, zero-quotient, quotient-one, entry-written}
+use Rattle.equations.specs.Formula.{Series, phi, psi, read, pairs}
+use Rattle.equations.specs.Series.{first, step, terms, fromZero, pairSeries}
+use Rattle.equations.specs.Page.{x, x′, gAt, g, h}
+use Rattle.equations.specs.Readings.{Inputs, Summed, letters, plainWith, plain, summedAt, asAnswers, worked}
+use Rattle.equations.proofs.Plain.{x-plain}
+
+-- a whole number, by which may be divided
+record Whole (m : ℕ) : Type 0 where
+  pair : Pair
+  told : entry m (pos 0) ≡ is pair
+  is-pair : isPair pair ≡ true
+
+whole : (m : ℕ) → m ≤ 2000 → Whole m
+whole m h =
+    let d = entry-answered m (pos 0) (omega arith) (lit≤ tt) in
+    record { pair = d .0; told = d .1; is-pair = around-pair (entry-around m (pos 0) (d .0) (d .1)) (scaled-proper m (pos 0)) }
+
+zero-over : (m : ℕ) → 1 ≤ m → m ≤ 2000 → after quotient (is zeroPair) (entry m (pos 0)) ≡ is zeroPair
+unfolding after
+zero-over m l h =
+    let d : Whole m = whole m h in
+    rw (d .told) (zero-quotient (d .pair) (d .is-pair) (entry-above m (pos 0) (d .pair) (d .told) l))
+
+zero-times : (m : ℕ) → m ≤ 2000 → after product (is zeroPair) (entry m (pos 0)) ≡ is zeroPair
+unfolding after
+zero-times m h = let d : Whole m = whole m h in rw (d .told) (zero-product (d .pair) (d .is-pair))
+
+times-zero : (p : Pair) → isPair p ≡ true → after product (is p) (is zeroPair) ≡ is zeroPair
+unfolding after
+times-zero p v = product-zero p v
 
 -- At x = 0 a term after a pair is 0.
-next-term : (n : ℕ) (p : Pair) → n ≤ 1000 → isPair p ≡ true → terms pairs (is zeroPair) n .term ≡ is p → terms pairs (is zeroPair) (suc n) .term ≡ is zeroPair
-unfolding terms pairs after
-next-term n p h v t =
-    let d = entry-answered (n + 2) (pos 0) (omega arith) (lit≤ tt) in
-    let q : Pair = d .0 in
-    rw (t, d .1, product-zero p v)
-    (zero-quotient q (around-pair (entry-around (n + 2) (pos 0) q (d .1)) (scaled-proper (n + 2) (pos 0))) (entry-above (n + 2) (pos 0) q (d .1) (omega arith)))
+next-term : (s : Series) (n : ℕ) (p : Pair) → n ≤ 1000 → isPair p ≡ true → terms pairs s (is zeroPair) n .term ≡ is p → terms pairs s (is zeroPair) (suc n) .term ≡ is zeroPair
+next-term phi n p h v t =
+    unfold terms step pairs in
+    ap (λ (o : Outcome Pair). after quotient o (entry (n + 2) (pos 0))) (ap (λ (o : Outcome Pair). after product o (is zeroPair)) t ∙ times-zero p v)
+    ∙ zero-over (n + 2) (omega arith) (omega arith)
+next-term psi n p h v t =
+    unfold terms step pairs in
+    ap (λ (o : Outcome Pair). after quotient (after quotient (after product o (entry (n + 2) (pos 0))) (entry (n + 1) (pos 0))) (entry (n + 3) (pos 0))) (ap (λ (o : Outcome Pair). after product o (is zeroPair)) t ∙ times-zero p v)
+    ∙ ap (λ (o : Outcome Pair). after quotient (after quotient o (entry (n + 1) (pos 0))) (entry (n + 3) (pos 0))) (zero-times (n + 2) (omega arith))
+    ∙ ap (λ (o : Outcome Pair). after quotient o (entry (n + 3) (pos 0))) (zero-over (n + 1) (omega arith) (omega arith))
+    ∙ zero-over (n + 3) (omega arith) (omega arith)
 
--- So every term from the second on is 0, and the sum stays 1.
-term-at-zero : (n : ℕ) → n ≤ 1000 → terms pairs (is zeroPair) (suc n) .term ≡ is zeroPair
+-- the first term, 1 or 1/2
+unfoldable pub firstPair : Series → Pair
+firstPair phi = onePair
+firstPair psi = record { low = record { significand = 500000000; exponent = negsuc 8 }; high = record { significand = 500000000; exponent = negsuc 8 } }
+
+pub first-is : (s : Series) → (first pairs s ≡ is (firstPair s)) × (isPair (firstPair s) ≡ true)
+unfolding first pairs firstPair
+first-is phi = (one-entry, one-pair .0)
+first-is psi =
+    let e : entry 5 (negsuc 0) ≡ is (firstPair psi) = unfold firstPair in entry-written 5 8 (negsuc 0) (lit≤ tt) (lit≤ tt) (lit≤ tt) in
+    (e, around-pair (entry-around 5 (negsuc 0) (firstPair psi) e) (scaled-proper 5 (negsuc 0)))
+
+-- So every term from the second on is 0, and the sum stays the first.
+term-at-zero : (s : Series) (n : ℕ) → n ≤ 1000 → terms pairs s (is zeroPair) (suc n) .term ≡ is zeroPair
+term-at-zero s zero h = next-term s 0 (firstPair s) h (first-is s .1) (unfold terms in first-is s .0)
+term-at-zero s (suc n) h = next-term s (suc n) zeroPair h (zero-pair .0) (term-at-zero s n (omega arith))
+
+total-at-zero : (s : Series) (n : ℕ) → n ≤ 1000 → terms pairs s (is zeroPair) n .total ≡ is (firstPair s)
 unfolding terms pairs
-term-at-zero zero h = next-term 0 onePair h (one-pair .0) one-entry
-term-at-zero (suc n) h = next-term (suc n) zeroPair h (zero-pair .0) (term-at-zero n (omega arith))
+total-at-zero s zero h = first-is s .0
+total-at-zero s (suc n) h = next (total-at-zero s n (omega arith)) (term-at-zero s n (omega arith))
+  where
+    next : terms pairs s (is zeroPair) n .total ≡ is (firstPair s) → terms pairs s (is zeroPair) (suc n) .term ≡ is zeroPair → terms pairs s (is zeroPair) (suc n) .total ≡ is (firstPair s)
+    next a b = ap₂ (after sum) a b ∙ (unfold after in sum-zero (firstPair s) (first-is s .1))
 
-total-at-zero : (n : ℕ) → n ≤ 1000 → terms pairs (is zeroPair) n .total ≡ is onePair
-unfolding terms pairs after
-total-at-zero zero h = one-entry
-total-at-zero (suc n) h = rw (total-at-zero n (omega arith), term-at-zero n (omega arith)) (sum-zero onePair (one-pair .0))
-
--- φ at x = 0 is 1.
-pub series-at-zero : pairSeries (is zeroPair) ≡ is onePair
+-- φ at x = 0 is 1, and ψ is 1/2.
+pub series-at-zero : (s : Series) → pairSeries s (is zeroPair) ≡ is (firstPair s)
 unfolding pairSeries fromZero after afterOne zeroPair
-series-at-zero = rw (total-at-zero 255 (lit≤ tt), term-at-zero 254 (lit≤ tt)) (sum-zero onePair (one-pair .0))
+series-at-zero s = rw (total-at-zero s 255 (lit≤ tt), term-at-zero s 254 (lit≤ tt)) (sum-zero (firstPair s) (first-is s .1))
 
 one-over : after quotient (entry 1 (pos 0)) (after sum (after quotient (entry 1 (pos 0)) (is onePair)) (is zeroPair)) ≡ is onePair
 unfolding after
 one-over = rw (one-entry, quotient-one onePair (one-pair .0), sum-zero onePair (one-pair .0)) (quotient-one onePair (one-pair .0))
 
--- g at x = 0 is 1.
-pub g-at-zero : (env : Inputs Pair) → plain pairs (asAnswers env .value) x ≡ is zeroPair → worked env g ≡ is onePair
-unfolding worked read pairs letters g
-g-at-zero env h =
-    let o : Outcome Pair = pairSeries (plain pairs (asAnswers env .value) x) in
-    let e : o ≡ is onePair = ap pairSeries h ∙ series-at-zero in
-    let d : read pairs (letters (asAnswers env) o) x ≡ is zeroPair = x-plain pairs (asAnswers env) o ∙ h in
-    rw (d, e) one-over
+half-over : after quotient (is (firstPair psi)) (after sum (entry 1 (pos 0)) (after product (is zeroPair) (is onePair))) ≡ is (firstPair psi)
+unfolding after
+half-over = rw (one-entry, zero-product onePair (one-pair .0), sum-zero onePair (one-pair .0)) (quotient-one (firstPair psi) (first-is psi .1))
+
+-- g at x = 0 is 1, and h is 1/2.
+module _ (env : Inputs Pair) (zero-x : plain pairs (asAnswers env .value) x ≡ is zeroPair) where
+  sums : Summed (Outcome Pair)
+  sums = summedAt pairSeries (plain pairs (asAnswers env .value) x) (plainWith pairs (asAnswers env .value) (asAnswers env .later) x′)
+
+  series-is : (s : Series) → sums .at-x s ≡ is (firstPair s)
+  unfolding sums summedAt
+  series-is s = ap (pairSeries s) zero-x ∙ series-at-zero s
+
+  x-is : read pairs (letters (asAnswers env) sums) x ≡ is zeroPair
+  x-is = x-plain pairs (asAnswers env) sums ∙ zero-x
+
+  pub g-at-zero : worked env g ≡ is onePair
+  unfolding worked read pairs letters g gAt sums summedAt firstPair
+  g-at-zero = rw (x-is, series-is phi) one-over
+
+  pub h-at-zero : worked env h ≡ is (firstPair psi)
+  unfolding worked read pairs letters h sums summedAt firstPair
+  h-at-zero = rw (x-is, series-is phi, series-is psi) half-over

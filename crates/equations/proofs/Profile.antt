@@ -186,6 +186,16 @@ good-more P Q h w above g =
       held = g .held;
     }
 
+-- What holds a fraction holds its equals.
+pub good-equal : (P : Profile) {o : Outcome Pair} {x y : Fraction} → Good P o x → Proper y → promises._=ᶠ_ x y → Good P o y
+good-equal P g p e =
+    record {
+      answer = g .answer;
+      told = g .told;
+      fits = g .fits;
+      held = promises.holds-equal (g .answer) (g .held) p (record { across = omega (arith, e .across) }) (record { across = omega (arith, e .across) });
+    }
+
 -- A constant.
 place-up : (n : ℕ) → place (pos n) ≡ depth + n
 unfolding place

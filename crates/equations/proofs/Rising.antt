@@ -1,5 +1,5 @@
--- Where a formula rises with some letters: the marked letters stand neither in a divisor nor in 1 −. Then each end of its pair reading
--- rises with them. Assumes nothing.
+-- Where a formula rises with some letters: the marked letters stand neither in a divisor nor in a difference. Then each end of its pair
+-- reading rises with them. Assumes nothing.
 use mathlib.Core.Path.{_≡_, refl, sym, _∙_, ap, ap₂}
 use mathlib.Core.Bool.{Bool, true, false, _&&_, not}
 use Prim.Native.Nat.{ℕ}
@@ -15,14 +15,16 @@ use Rattle.equations.specs.declared.Pathway.{Pathway}
 use Rattle.equations.specs.declared.Pathway.the-variants.{Air, SoilSummer, SoilWinter, Skin, AboveGround, BelowGround}
 use Rattle.equations.specs.declared.Effect.{Effect}
 use Rattle.equations.specs.declared.Effect.the-variants.{Hazard, Cancer}
+use Rattle.equations.specs.declared.Stay.{Stay}
+use Rattle.equations.specs.declared.Stay.the-variants.{Within, Beyond}
 use Rattle.slots.specs.Slots.{Slot, same}
-use Rattle.equations.specs.Formula.{Letter, slot, rest, phi, Formula, letter, constant, _⊕_, _⊗_, _⊘_, read, pairs}
+use Rattle.equations.specs.Formula.{Series, phi, Letter, slot, rest, later, series, phi′, Formula, letter, constant, _⊕_, _⊗_, _⊘_, read, pairs}
 use Rattle.equations.specs.Series.{pairSeries}
 use Rattle.equations.specs.Page as page
-use Rattle.equations.specs.Page.{x}
-use Rattle.equations.specs.Readings.{Inputs, letters, plain, asAnswers, worked}
+use Rattle.equations.specs.Page.{x, x′}
+use Rattle.equations.specs.Readings.{Inputs, Summed, letters, noSeries, plainWith, plain, summedAt, asAnswers, worked}
 use Rattle.equations.proofs.Profile.{both}
-use Rattle.equations.proofs.LineLaws.{x-plain}
+use Rattle.equations.proofs.Plain.{x-plain, x′-plain}
 
 -- no marked letter stands in the formula
 unfoldable pub steady : (Letter → Bool) → Formula → Bool
@@ -32,11 +34,13 @@ steady mark (f ⊕ g) = steady mark f && steady mark g
 steady mark (f ⊗ g) = steady mark f && steady mark g
 steady mark (f ⊘ g) = steady mark f && steady mark g
 
--- none stands in a divisor or in 1 −
+-- none stands in a divisor, in a difference or in a series
 unfoldable pub risingLetter : (Letter → Bool) → Letter → Bool
 risingLetter mark (slot s) = true
 risingLetter mark (rest s) = not (mark (rest s))
-risingLetter mark phi = true
+risingLetter mark later = not (mark later)
+risingLetter mark (series s) = not (mark (series s))
+risingLetter mark phi′ = not (mark phi′)
 
 unfoldable pub rising : (Letter → Bool) → Formula → Bool
 rising mark (letter l) = risingLetter mark l
@@ -104,24 +108,32 @@ module _ (mark : Letter → Bool) (env env' : Letter → Outcome Pair) (alike : 
       (formula-rises f (t .0) (c .first) (d .first) (c .first-is) (d .first-is))
       (rw e (ends-itself (c .second)))
 
--- marked slots, and with them 1 less their values
+-- marked slots, and with them 1 less their values; neither T2 − tD nor a series
 unfoldable pub marked : (Slot → Bool) → Letter → Bool
-marked mark = letters (record { value = mark; rest = mark }) false
+marked mark = letters (record { value = mark; rest = mark; later = false }) (record { at-x = λ s. false; at-x′ = false })
 
 -- the inputs are alike but for the marked slots
 pub record Alike (mark : Slot → Bool) (env env' : Inputs Pair) : Type 0 where
   pub value : (s : Slot) → mark s ≡ false → env .value s ≡ env' .value s
   pub rest : (s : Slot) → mark s ≡ false → env .rest s ≡ env' .rest s
+  pub later : env .later ≡ env' .later
 
--- Where the marked slots do not stand in x, a formula rises with them as it is worked.
-module _ (mark : Slot → Bool) (free : steady (marked mark) x ≡ true) (env env' : Inputs Pair) (alike : Alike mark env env') (risen : (s : Slot) → _≤ₑ_ (env .value s) (env' .value s)) where
-  letter-same : (o o' : Outcome Pair) → o ≡ o' → (l : Letter) → marked mark l ≡ false → letters (asAnswers env) o l ≡ letters (asAnswers env') o' l
+-- the series' values are the same
+record SameSums (o o' : Summed (Outcome Pair)) : Type 0 where
+  at-x : (s : Series) → o .at-x s ≡ o' .at-x s
+  at-x′ : o .at-x′ ≡ o' .at-x′
+
+-- Where the marked slots stand neither in x nor in x′, a formula rises with them as it is worked.
+module _ (mark : Slot → Bool) (free : (steady (marked mark) x ≡ true) × (steady (marked mark) x′ ≡ true)) (env env' : Inputs Pair) (alike : Alike mark env env') (risen : (s : Slot) → _≤ₑ_ (env .value s) (env' .value s)) where
+  letter-same : (o o' : Summed (Outcome Pair)) → SameSums o o' → (l : Letter) → marked mark l ≡ false → letters (asAnswers env) o l ≡ letters (asAnswers env') o' l
   unfolding letters marked asAnswers
   letter-same o o' e (slot s) h = ap (λ (p : Pair). is p) (alike .value s h)
   letter-same o o' e (rest s) h = ap (λ (p : Pair). is p) (alike .rest s h)
-  letter-same o o' e phi h = e
+  letter-same o o' e later h = ap (λ (p : Pair). is p) (alike .later)
+  letter-same o o' e (series s) h = e .at-x s
+  letter-same o o' e phi′ h = e .at-x′
 
-  letter-risen : (o o' : Outcome Pair) → o ≡ o' → (l : Letter) → risingLetter (marked mark) l ≡ true → (p p' : Pair) → letters (asAnswers env) o l ≡ is p → letters (asAnswers env') o' l ≡ is p' → _≤ₑ_ p p'
+  letter-risen : (o o' : Summed (Outcome Pair)) → SameSums o o' → (l : Letter) → risingLetter (marked mark) l ≡ true → (p p' : Pair) → letters (asAnswers env) o l ≡ is p → letters (asAnswers env') o' l ≡ is p' → _≤ₑ_ p p'
   unfolding letters marked asAnswers risingLetter
   letter-risen o o' e (slot s) t p p' h h' =
       let i : env .value s ≡ p = cc in
@@ -129,52 +141,70 @@ module _ (mark : Slot → Bool) (free : steady (marked mark) x ≡ true) (env en
       rw (← i, ← j) (risen s)
   letter-risen o o' e (rest s) t p p' h h' =
       rw (same-pair p p' (sym (ap (λ (q : Pair). is q) (alike .rest s (not-true (mark s) t))) ∙ h) h') (ends-itself p')
-  letter-risen o o' e phi t p p' h h' = rw (same-pair p p' (sym e ∙ h) h') (ends-itself p')
+  letter-risen o o' e later t p p' h h' = rw (same-pair p p' (sym (ap (λ (q : Pair). is q) (alike .later)) ∙ h) h') (ends-itself p')
+  letter-risen o o' e (series s) t p p' h h' = rw (same-pair p p' (sym (e .at-x s) ∙ h) h') (ends-itself p')
+  letter-risen o o' e phi′ t p p' h h' = rw (same-pair p p' (sym (e .at-x′) ∙ h) h') (ends-itself p')
+
+  same-plain : (f : Formula) → steady (marked mark) f ≡ true → read pairs (letters (asAnswers env) (noSeries pairs)) f ≡ read pairs (letters (asAnswers env') (noSeries pairs)) f
+  same-plain f h =
+      let e : SameSums (noSeries pairs) (noSeries pairs) = record { at-x = λ s. refl; at-x′ = refl } in
+      steady-same (marked mark) (letters (asAnswers env) (noSeries pairs)) (letters (asAnswers env') (noSeries pairs)) (letter-same (noSeries pairs) (noSeries pairs) e) (letter-risen (noSeries pairs) (noSeries pairs) e) f h
 
   x-same : plain pairs (asAnswers env .value) x ≡ plain pairs (asAnswers env' .value) x
-  x-same =
-      let one : Outcome Pair = pairs .number 1 (pos 0) in
-      sym (x-plain pairs (asAnswers env) one)
-      ∙ steady-same (marked mark) (letters (asAnswers env) one) (letters (asAnswers env') one) (letter-same one one refl) (letter-risen one one refl) x free
-      ∙ x-plain pairs (asAnswers env') one
+  x-same = sym (x-plain pairs (asAnswers env) (noSeries pairs)) ∙ same-plain x (free .0) ∙ x-plain pairs (asAnswers env') (noSeries pairs)
+
+  x′-same : plainWith pairs (asAnswers env .value) (asAnswers env .later) x′ ≡ plainWith pairs (asAnswers env' .value) (asAnswers env' .later) x′
+  x′-same = sym (x′-plain pairs (asAnswers env) (noSeries pairs)) ∙ same-plain x′ (free .1) ∙ x′-plain pairs (asAnswers env') (noSeries pairs)
 
   pub worked-rises : (f : Formula) → rising (marked mark) f ≡ true → (r r' : Pair) → worked env f ≡ is r → worked env' f ≡ is r' → _≤ₑ_ r r'
-  unfolding worked
+  unfolding worked summedAt
   worked-rises f h r r' a b =
-      let o : Outcome Pair = pairSeries (plain pairs (asAnswers env .value) x) in
-      let o' : Outcome Pair = pairSeries (plain pairs (asAnswers env' .value) x) in
-      let e : o ≡ o' = ap pairSeries x-same in
+      let o : Summed (Outcome Pair) = summedAt pairSeries (plain pairs (asAnswers env .value) x) (plainWith pairs (asAnswers env .value) (asAnswers env .later) x′) in
+      let o' : Summed (Outcome Pair) = summedAt pairSeries (plain pairs (asAnswers env' .value) x) (plainWith pairs (asAnswers env' .value) (asAnswers env' .later) x′) in
+      let e : SameSums o o' = record { at-x = λ s. ap (pairSeries s) x-same; at-x′ = ap (pairSeries phi) x′-same } in
       formula-rises (marked mark) (letters (asAnswers env) o) (letters (asAnswers env') o') (letter-same o o' e) (letter-risen o o' e) f h r r' a b
 
 -- The emission rate Q
 unfoldable pub emission : Slot → Bool
 emission s = same "Q" s
 
-x-steady : steady (marked emission) x ≡ true
-unfolding steady marked letters emission same x page.k page.u page.kse page.ksr page.ksl
-x-steady = refl
+x-steady : (steady (marked emission) x ≡ true) × (steady (marked emission) x′ ≡ true)
+unfolding steady marked letters emission same x x′ page.k page.u page.kse page.ksr page.ksl
+x-steady = (refl, refl)
 
-line-rising : (e : Effect) (p : Pathway) → rising (marked emission) (page.line e p) ≡ true
-unfolding rising risingLetter steady marked letters emission same page.line page.figureBy page.intake page.intakeBy page.factor page.medium page.byMedium page.exposure page.B page.AT page.reference page.referenceSlot page.byRoute page.A page.C page.D page.g page.aboveGround page.belowGround x page.k page.u page.kse page.ksr page.ksl
-line-rising Hazard Air = refl
-line-rising Hazard SoilSummer = refl
-line-rising Hazard SoilWinter = refl
-line-rising Hazard Skin = refl
-line-rising Hazard AboveGround = refl
-line-rising Hazard BelowGround = refl
-line-rising Cancer Air = refl
-line-rising Cancer SoilSummer = refl
-line-rising Cancer SoilWinter = refl
-line-rising Cancer Skin = refl
-line-rising Cancer AboveGround = refl
-line-rising Cancer BelowGround = refl
+line-rising : (e : Effect) (stay : Stay) (p : Pathway) → rising (marked emission) (page.line e stay p) ≡ true
+unfolding rising risingLetter steady marked letters emission same page.line page.figureBy page.intake page.intakeBy page.factor page.medium page.byMedium page.soil page.mean page.gathered page.exposure page.B page.AT page.reference page.referenceSlot page.byRoute page.A page.C page.D page.gAt page.g page.g′ page.h page.aboveGround page.belowGround x x′ page.k page.u page.kse page.ksr page.ksl
+line-rising Hazard Within Air = refl
+line-rising Hazard Within SoilSummer = refl
+line-rising Hazard Within SoilWinter = refl
+line-rising Hazard Within Skin = refl
+line-rising Hazard Within AboveGround = refl
+line-rising Hazard Within BelowGround = refl
+line-rising Hazard Beyond Air = refl
+line-rising Hazard Beyond SoilSummer = refl
+line-rising Hazard Beyond SoilWinter = refl
+line-rising Hazard Beyond Skin = refl
+line-rising Hazard Beyond AboveGround = refl
+line-rising Hazard Beyond BelowGround = refl
+line-rising Cancer Within Air = refl
+line-rising Cancer Within SoilSummer = refl
+line-rising Cancer Within SoilWinter = refl
+line-rising Cancer Within Skin = refl
+line-rising Cancer Within AboveGround = refl
+line-rising Cancer Within BelowGround = refl
+line-rising Cancer Beyond Air = refl
+line-rising Cancer Beyond SoilSummer = refl
+line-rising Cancer Beyond SoilWinter = refl
+line-rising Cancer Beyond Skin = refl
+line-rising Cancer Beyond AboveGround = refl
+line-rising Cancer Beyond BelowGround = refl
 
 -- Each end of every line rises with the printed Q, where all else is alike.
 pub line-rises : (env env' : Inputs Pair) → Alike emission env env' → (m m' : ℕ) (power power' : ℤ) → scaled m power ≤ᶠ scaled m' power' →
     ((s : Slot) → emission s ≡ true → (entry m power ≡ is (env .value s)) × (entry m' power' ≡ is (env' .value s))) →
-    (e : Effect) (p : Pathway) (r r' : Pair) → worked env (page.line e p) ≡ is r → worked env' (page.line e p) ≡ is r' → _≤ₑ_ r r'
-line-rises env env' alike m m' power power' more entered e p =
-    worked-rises emission x-steady env env' alike risen (page.line e p) (line-rising e p)
+    (e : Effect) (stay : Stay) (p : Pathway) (r r' : Pair) → worked env (page.line e stay p) ≡ is r → worked env' (page.line e stay p) ≡ is r' → _≤ₑ_ r r'
+line-rises env env' alike m m' power power' more entered e stay p =
+    worked-rises emission x-steady env env' alike risen (page.line e stay p) (line-rising e stay p)
   where
     at : (s : Slot) (t : Bool) → emission s ≡ t → _≤ₑ_ (env .value s) (env' .value s)
     at s true h = entry-rises m m' power power' (env .value s) (env' .value s) (entered s h .0) (entered s h .1) more

@@ -8,11 +8,17 @@ use Rattle.pair.specs.Calls.{Outcome, after, entry, sum, product, quotient}
 use Rattle.pair.specs.Promises.{scaled}
 use Rattle.slots.specs.Slots.{Slot}
 
--- A letter stands for the value of a slot, for 1 less that value, or for the series φ at x.
+-- φ and ψ (Series.antt)
+pub data Series : Type 0 where
+  phi psi : Series
+
+-- A letter stands for the value of a slot, for 1 less that value, for T2 − tD, for a series at x, or for φ at k × (T2 − tD).
 pub data Letter : Type 0 where
   slot : Slot → Letter
   rest : Slot → Letter
-  phi : Letter
+  later : Letter
+  series : Series → Letter
+  phi′ : Letter
 
 -- The written operations: ⊕, ⊗ and ⊘ are document 01's +, × and /.
 infixl 65 _⊕_
@@ -23,9 +29,12 @@ pub data Formula : Type 0 where
   constant : ℕ → ℤ → Formula
   _⊕_ _⊗_ _⊘_ : Formula → Formula → Formula
 
--- 1 less a slot's value: document 01's only subtraction. It is taken from what is printed, so it is a letter and no operation.
+-- 1 less a slot's value, and T2 − tD: the only subtractions. Each is taken from what is printed, so it is a letter and no operation.
 abbrev pub 1− : Slot → Formula
 1− s = letter (rest s)
+
+abbrev pub T2−tD : Formula
+T2−tD = letter later
 
 -- What a reading makes of the operations.
 pub record Algebra (A : Type 0) : Type 1 where

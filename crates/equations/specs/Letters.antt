@@ -1,5 +1,5 @@
 -- Document 01's letters, for the page of formulas: each stands for the slot of its own name in the table of slots.
-use Rattle.equations.specs.Formula.{Formula, letter, slot, phi}
+use Rattle.equations.specs.Formula.{Formula, letter, slot, series, phi, psi, phi′}
 
 -- Site
 abbrev pub Zs : Formula
@@ -154,6 +154,16 @@ WP = letter (slot "WP")
 abbrev pub EFp : Formula
 EFp = letter (slot "EFp")
 
+abbrev pub T2 : Formula
+T2 = letter (slot "T2")
+
 -- the series at x
 abbrev pub φ : Formula
-φ = letter phi
+φ = letter (series phi)
+
+abbrev pub ψ : Formula
+ψ = letter (series psi)
+
+-- φ at k × (T2 − tD)
+abbrev pub φ′ : Formula
+φ′ = letter phi′

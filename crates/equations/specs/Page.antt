@@ -1,13 +1,15 @@
--- Document 01, "Loss and series", "Media" and "Six pathways": every formula, once, in its order and with its letters.
+-- Document 01, "Loss and series", "Media" and "Six pathways", with document 02's P4: every formula, once, in its order and with its letters.
 -- ⊗ and ⊘ bind alike and from the left, then ⊕ from the left.
 use lib.IntN.{pos, negsuc}
 use Rattle.equations.specs.declared.Pathway.{Pathway}
 use Rattle.equations.specs.declared.Pathway.the-variants.{Air, SoilSummer, SoilWinter, Skin, AboveGround, BelowGround}
 use Rattle.equations.specs.declared.Effect.{Effect}
 use Rattle.equations.specs.declared.Effect.the-variants.{Hazard, Cancer}
+use Rattle.equations.specs.declared.Stay.{Stay}
+use Rattle.equations.specs.declared.Stay.the-variants.{Within, Beyond}
 use Rattle.slots.specs.Slots.{Slot}
-use Rattle.equations.specs.Formula.{Formula, letter, slot, constant, 1−, _⊕_, _⊗_, _⊘_}
-use Rattle.equations.specs.Letters.{Zs, BD, tD, θ, Xe, SD, ER, RO, R, VG, FRsnow, Q, HgA, HgD, Fv, Cyv, Cyp, Dydv, Dywv, Dydp, Dywp, Kds, ksg, ksv, Br, RCF, AFinh, AForal, AFderm, BW, ED, ATc, IRinh, ETinh, EFinh, IRsoil, ETsoil, EFs, EFw, SAb, SAFb, SAh, SAFh, ETderm, IRag, Fag, IRbg, Fbg, WP, EFp, φ}
+use Rattle.equations.specs.Formula.{Formula, letter, slot, constant, 1−, T2−tD, _⊕_, _⊗_, _⊘_}
+use Rattle.equations.specs.Letters.{Zs, BD, tD, θ, Xe, SD, ER, RO, R, VG, FRsnow, Q, HgA, HgD, Fv, Cyv, Cyp, Dydv, Dywv, Dydp, Dywp, Kds, ksg, ksv, Br, RCF, AFinh, AForal, AFderm, BW, ED, ATc, IRinh, ETinh, EFinh, IRsoil, ETsoil, EFs, EFw, SAb, SAFb, SAh, SAFh, ETderm, IRag, Fag, IRbg, Fbg, WP, EFp, T2, φ, ψ, φ′}
 
 -- Constants: 1, 0.1, 100, 1000, 365 and 0.000001
 abbrev pub unity : Formula
@@ -51,9 +53,22 @@ k = ksg ⊕ kse ⊕ ksr ⊕ ksl ⊕ ksv
 unfoldable pub x : Formula
 x = k ⊗ tD
 
--- φ is the series at x (Series.antt)
+-- φ and ψ are the series at x (Series.antt)
+unfoldable pub gAt : Formula → Formula → Formula
+gAt series exponent = unity ⊘ (unity ⊘ series ⊕ exponent)
+
 unfoldable pub g : Formula
-g = unity ⊘ (unity ⊘ φ ⊕ x)
+g = gAt φ x
+
+unfoldable pub h : Formula
+h = ψ ⊘ (unity ⊕ x ⊗ φ)
+
+-- k × (T2 − tD), and g at it; φ′ is the series φ there
+unfoldable pub x′ : Formula
+x′ = k ⊗ T2−tD
+
+unfoldable pub g′ : Formula
+g′ = gAt φ′ x′
 
 -- Media: air in mg/m³, yearly deposition, soil and produce in mg/kg
 unfoldable pub A : Formula
@@ -62,14 +77,29 @@ A = Q ⊗ HgA ⊗ (Fv ⊗ Cyv ⊕ 1−Fv ⊗ Cyp) ⊘ thousand
 unfoldable pub D : Formula
 D = hundred ⊗ HgD ⊗ Q ⊘ (Zs ⊗ BD) ⊗ (Fv ⊗ (Dydv ⊕ Dywv) ⊕ (Dydp ⊕ Dywp) ⊗ 1−Fv)
 
+-- the highest year's soil
 unfoldable pub C : Formula
 C = D ⊗ tD ⊗ g
 
-unfoldable pub aboveGround : Formula
-aboveGround = C ⊗ Br
+-- the soil's mean over the exposure: T2 within tD, or beyond it
+unfoldable pub gathered : Formula
+gathered = D ⊗ tD ⊗ tD ⊗ h
 
-unfoldable pub belowGround : Formula
-belowGround = C ⊗ RCF ⊗ VG ⊘ Kds
+unfoldable pub mean : Stay → Formula
+mean Within = D ⊗ tD ⊗ h
+mean Beyond = (gathered ⊕ C ⊗ T2−tD ⊗ g′) ⊘ T2
+
+-- hazard takes the highest year's, cancer the mean
+unfoldable pub soil : Effect → Stay → Formula
+soil Hazard stay = C
+soil Cancer stay = mean stay
+
+-- produce, in its soil
+unfoldable pub aboveGround : Formula → Formula
+aboveGround soil = soil ⊗ Br
+
+unfoldable pub belowGround : Formula → Formula
+belowGround soil = soil ⊗ RCF ⊗ VG ⊘ Kds
 
 -- Six pathways: the intake factor, its medium, and the reference value
 unfoldable pub AT : Effect → Formula
@@ -91,7 +121,7 @@ exposure BelowGround = IRbg ⊗ Fbg ⊗ WP ⊗ AForal ⊗ EFp ⊗ ED
 unfoldable pub factor : Effect → Pathway → Formula
 factor e p = exposure p ⊘ B e
 
--- A for 1, C for 2 to 4, the produce for 5 and 6
+-- A for 1, the soil for 2 to 4, the produce for 5 and 6
 unfoldable pub byMedium : {A : Type 0} → Pathway → A → A → A → A → A
 byMedium Air air soil above below = air
 byMedium SoilSummer air soil above below = soil
@@ -100,15 +130,15 @@ byMedium Skin air soil above below = soil
 byMedium AboveGround air soil above below = above
 byMedium BelowGround air soil above below = below
 
-unfoldable pub medium : Pathway → Formula
-medium p = byMedium p A C aboveGround belowGround
+unfoldable pub medium : Effect → Stay → Pathway → Formula
+medium e stay p = byMedium p A (soil e stay) (aboveGround (soil e stay)) (belowGround (soil e stay))
 
 -- Intake = intake factor × its medium, in any reading of ×
 unfoldable pub intakeBy : {A : Type 0} → (A → A → A) → A → A → A
 intakeBy times factor medium = times factor medium
 
-unfoldable pub intake : Effect → Pathway → Formula
-intake e p = intakeBy _⊗_ (factor e p) (medium p)
+unfoldable pub intake : Effect → Stay → Pathway → Formula
+intake e stay p = intakeBy _⊗_ (factor e p) (medium e stay p)
 
 -- Pathway 1 takes RfDi and CSFi, the rest RfDo and CSFo.
 unfoldable pub byRoute : {A : Type 0} → Pathway → A → A → A
@@ -131,5 +161,5 @@ unfoldable pub figureBy : {A : Type 0} → (A → A → A) → (A → A → A) �
 figureBy times over Hazard intake rfd = over intake rfd
 figureBy times over Cancer intake csf = times intake csf
 
-unfoldable pub line : Effect → Pathway → Formula
-line e p = figureBy _⊗_ _⊘_ e (intake e p) (reference e p)
+unfoldable pub line : Effect → Stay → Pathway → Formula
+line e stay p = figureBy _⊗_ _⊘_ e (intake e stay p) (reference e p)

@@ -23,6 +23,12 @@ pub enum Effect {
     Cancer,
 }
 
+// How long a receptor is exposed, T2, against the deposition, tD: T2 ≤ tD, or T2 above tD.
+pub enum Stay {
+    Within,
+    Beyond,
+}
+
 // The values of a record's slots as pairs, by the places of the crate `slots`.
 pub struct Values {
     pub list: [Pair; SLOTS],
