@@ -1,4 +1,7 @@
 -- The crate's laws. Assumes nothing.
 mod Passing
 mod Moderate
+mod Sofar
+mod Soils
+pub mod Means
 pub mod Figures

@@ -8,7 +8,6 @@ use Rattle.pair.specs.Number.{isPair}
 use Rattle.pair.specs.Calls.{Outcome, is, refused, provided, checked, compared}
 use Rattle.equations.specs.Ranges.{sixtyFour}
 use Rattle.media.specs.Media.{bounded, slow, given}
-use Rattle.media.specs.declared.Media.{Media}
 
 pub is-not-refused : {A : Type 0} {B : Type 0} (p : A) (n : ℕ) → refused n ≡ is p → B
 is-not-refused {A} p n h = absurd (never h)
@@ -31,11 +30,11 @@ unfolding slow
 slow-is (is q) p h = bounded-is (compared (q .high) sixtyFour) q p h
 slow-is (refused n) p h = h
 
-pub given-is : (o : Outcome Pair) (p : Pair) (m : Outcome Media) → o ≡ is p → m ≡ given o m
+pub given-is : {A : Type 0} (o : Outcome Pair) (p : Pair) (m : Outcome A) → o ≡ is p → m ≡ given o m
 unfolding given
 given-is o p m h = ap (λ (t : Outcome Pair). given t m) (sym h)
 
-pub given-refused : (o : Outcome Pair) (n : ℕ) (m : Outcome Media) → o ≡ refused n → refused n ≡ given o m
+pub given-refused : {A : Type 0} (o : Outcome Pair) (n : ℕ) (m : Outcome A) → o ≡ refused n → refused n ≡ given o m
 unfolding given
 given-refused o n m h = ap (λ (t : Outcome Pair). given t m) (sym h)
 

@@ -1,11 +1,17 @@
--- The media of document 01 by the working rule: x, refused by 41 where its high end is above 64, and the four concentrations.
+-- The media of document 01 by the working rule: x, refused by 41 where its high end is above 64, and the four concentrations; and those
+-- that cancer takes (document 02, P4), whose soil is the mean over the exposure.
 use mathlib.Core.Bool.{Bool, true, false}
+use lib.IntN.{pos}
 use Rattle.pair.specs.declared.Pair.{Pair}
-use Rattle.pair.specs.Calls.{Outcome, is, refused, compared, zeroPair}
+use Rattle.pair.specs.Calls.{Outcome, is, refused, compared, zeroPair, onePair, product}
 use Rattle.slots.specs.Slots.{Slot}
 use Rattle.equations.specs.declared.Values.{Values}
-use Rattle.equations.specs.Formula.{Formula, pairs}
-use Rattle.equations.specs.Page.{x, A, C, aboveGround, belowGround}
+use Rattle.equations.specs.declared.Stay.{Stay}
+use Rattle.equations.specs.declared.Stay.the-variants.{Within, Beyond}
+use Rattle.equations.specs.Formula.{Formula, phi, pairs}
+use Rattle.equations.specs.Series.{pairSeries}
+use Rattle.equations.specs.Letters.{Br, RCF, VG, Kds}
+use Rattle.equations.specs.Page.{k, x, A, C, mean, gathered, aboveGround, belowGround}
 use Rattle.equations.specs.Ranges.{sixtyFour}
 use Rattle.equations.specs.Readings.{Inputs, plain, worked, inputs, noValues}
 use Rattle.media.specs.declared.Media.{Media}
@@ -13,13 +19,16 @@ use Rattle.media.specs.declared.Bounded.{Bounded}
 use Rattle.media.specs.declared.Bounded.the-variants as Bounds
 use Rattle.media.specs.declared.Found.{Found}
 use Rattle.media.specs.declared.Found.the-variants as Founds
+use Rattle.media.specs.declared.Ground.{Ground}
+use Rattle.media.specs.declared.Grounded.{Grounded}
+use Rattle.media.specs.declared.Grounded.the-variants as Grounds
 
 -- what the media are worked from: the values of a site and a chemical, and the particle share 1 − Fv, which is taken from the printed
--- digits. No formula here has a slot of a receptor, or 1 less another slot.
+-- digits. No formula here has a slot of a receptor or T2 − tD, or 1 less another slot.
 unfoldable pub mediaInputs : Values → Values → Pair → Inputs Pair
-mediaInputs s c particles = record { value = inputs s c noValues; rest = λ i. particles }
+mediaInputs s c particles = record { value = inputs s c noValues; rest = λ i. particles; later = onePair }
 
--- a formula with neither φ nor 1 −, and any formula
+-- a formula with neither a series nor 1 −, and any formula
 unfoldable pub ofSlots : Values → Values → Formula → Outcome Pair
 ofSlots s c f = plain pairs (λ i. is (inputs s c noValues i)) f
 
@@ -36,6 +45,11 @@ unfoldable pub found : Found → Outcome Media
 found (Founds.Is m) = is m
 found Founds.TooFast = refused 41
 found Founds.Refused = refused 53
+
+unfoldable pub grounded : Grounded → Outcome Ground
+grounded (Grounds.Is g) = is g
+grounded Grounds.TooFast = refused 41
+grounded Grounds.Refused = refused 53
 
 -- x, where its high end is at most 64
 unfoldable pub bounded : Outcome Bool → Pair → Outcome Pair
@@ -58,13 +72,48 @@ four (is a) (is c) (refused n) y = refused n
 four (is a) (refused n) y z = refused n
 four (refused n) x y z = refused n
 
+-- the media with this soil
+unfoldable pub mediaIn : Inputs Pair → Formula → Outcome Media
+mediaIn env soil = four (worked env A) (worked env soil) (worked env (aboveGround soil)) (worked env (belowGround soil))
+
 -- what a chemical leaves in the media, given x
-unfoldable pub given : Outcome Pair → Outcome Media → Outcome Media
+unfoldable pub given : {A : Type 0} → Outcome Pair → Outcome A → Outcome A
 given (is p) m = m
 given (refused n) m = refused n
 
 unfoldable pub mediaOf : Inputs Pair → Outcome Media
-mediaOf env = given (exponentOf (env .value)) (four (worked env A) (worked env C) (worked env aboveGround) (worked env belowGround))
+mediaOf env = given (exponentOf (env .value)) (mediaIn env C)
+
+-- ---- the ground: what a chemical's soil is worked from, whatever the receptor. Its loss is k, its media are those of the highest year and
+-- those of an exposure within the deposition; what was gathered is what the mean beyond the deposition begins with.
+unfoldable pub groundFrom : Outcome Pair → Outcome Pair → Outcome Media → Outcome Media → Outcome Ground
+groundFrom (is l) (is g) (is m) (is n) = is (record { loss = l; gathered = g; highest = m; within = n })
+groundFrom (is l) (is g) (is m) (refused n) = refused n
+groundFrom (is l) (is g) (refused n) y = refused n
+groundFrom (is l) (refused n) y z = refused n
+groundFrom (refused n) x y z = refused n
+
+unfoldable pub groundOf : Inputs Pair → Outcome Ground
+groundOf env = given (exponentOf (env .value)) (groundFrom (worked env k) (worked env gathered) (mediaIn env C) (mediaIn env (mean Within)))
+
+-- ---- the media of a receptor's cancer, from the ground: T2 within the deposition, or beyond it, where k × (T2 − tD) is refused as x is.
+-- `mean-media` (proofs/Means.antt) holds it to the page.
+unfoldable pub grownIn : Values → Values → Outcome Pair → Outcome Pair → Outcome Media
+grownIn s c air soil =
+    four air soil (pairs .times soil (ofSlots s c Br)) (pairs .over (pairs .times (pairs .times soil (ofSlots s c RCF)) (ofSlots s c VG)) (ofSlots s c Kds))
+
+unfoldable pub gFor : Outcome Pair → Outcome Pair
+gFor x′ = pairs .over (pairs .number 1 (pos 0)) (pairs .plus (pairs .over (pairs .number 1 (pos 0)) (pairSeries phi x′)) x′)
+
+unfoldable pub soilBeyond : Ground → Outcome Pair → Pair → Pair → Outcome Pair
+soilBeyond ground x′ T2 later =
+    pairs .over (pairs .plus (is (ground .gathered)) (pairs .times (pairs .times (is (ground .highest .soil .0)) (is later)) (gFor x′))) (is T2)
+
+unfoldable pub meanMedia : Ground → Values → Values → Stay → Pair → Pair → Outcome Media
+meanMedia ground s c Within T2 later = is (ground .within)
+meanMedia ground s c Beyond T2 later =
+    let x′ : Outcome Pair = product (ground .loss) later in
+    given (slow x′) (grownIn s c (is (ground .highest .air .0)) (soilBeyond ground x′ T2 later))
 
 -- no chemical: 0 in each
 unfoldable pub noMedia : Media

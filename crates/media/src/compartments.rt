@@ -1,7 +1,12 @@
 //! Air, deposition, soil and produce (document 01, "Media").
+use crate::Bounded;
 use crate::Conc;
 use crate::Found;
+use crate::Ground;
+use crate::Grounded;
 use crate::Media;
+use crate::slow;
+use crate::terms::mean_of_terms;
 use crate::terms::sum_of_terms;
 use equations::Values;
 use pair::Answer;
@@ -25,10 +30,12 @@ use slots::VG;
 use slots::ZS;
 ghost use mathlib.Core.Path.{_≡_};
 ghost use Rattle.pair.specs.Calls.{answer, is};
-ghost use Rattle.equations.specs.Series.{pairSeries};
+ghost use lib.IntN.{pos};
+ghost use Rattle.equations.specs.declared.Stay.the-variants.{Within, Beyond};
+ghost use Rattle.equations.specs.Formula.{pairs};
 ghost use Rattle.equations.specs.Page as page;
-ghost use Rattle.equations.specs.Page.{x, g, D, C, aboveGround, belowGround};
-ghost use Rattle.media.specs.Media.{ofSlots, ofMedia, found, four};
+ghost use Rattle.equations.specs.Page.{k, x, D, C, mean, gathered};
+ghost use Rattle.media.specs.Media.{mediaInputs, ofSlots, ofMedia, found, grounded, four, mediaIn, groundFrom, grownIn, soilBeyond, meanMedia};
 
 // A. particles is 1 − Fv.
 fn air(s: Values, c: Values, particles: Pair) -> Answer
@@ -57,23 +64,20 @@ fn deposition(s: Values, c: Values, particles: Pair) -> Answer
         .times(both)
 }
 
-// g. e is x and phi the series at x.
-fn build_up(s: Values, c: Values, particles: Pair, e: Pair, phi: Answer) -> Answer
-    requires { ⌜ is e ≡ ofSlots s c x ⌝ }
-    requires { ⌜ answer phi ≡ pairSeries (ofSlots s c x) ⌝ }
-    ensures { λ r. ⌜ answer r ≡ ofMedia s c particles g ⌝ }
+// g, from the series and x.
+fn build_up(phi: Answer, e: Pair) -> Answer
+    ensures { λ r. ⌜ answer r ≡ pairs .over (pairs .number 1 (pos 0)) (pairs .plus (pairs .over (pairs .number 1 (pos 0)) (answer phi)) (is e)) ⌝ }
 {
     let one = Pair::entry(1, 0);
     one.over(one.over(phi).plus(e.answer()))
 }
 
-// C.
-fn soil(s: Values, c: Values, particles: Pair, e: Pair) -> Answer
-    requires { ⌜ is e ≡ ofSlots s c x ⌝ }
-    ensures { λ r. ⌜ answer r ≡ ofMedia s c particles C ⌝ }
+// h, from the two series and x.
+fn mean_build_up(phi: Answer, psi: Answer, e: Pair) -> Answer
+    ensures { λ r. ⌜ answer r ≡ pairs .over (answer psi) (pairs .plus (pairs .number 1 (pos 0)) (pairs .times (is e) (answer phi))) ⌝ }
 {
-    let g = build_up(s, c, particles, e, sum_of_terms(e));
-    deposition(s, c, particles).times(s.at(TD)).times(g)
+    let one = Pair::entry(1, 0);
+    psi.over(one.plus(e.answer().times(phi)))
 }
 
 // The four concentrations, or the refusal among them.
@@ -100,13 +104,96 @@ fn all(air: Answer, soil: Answer, above: Answer, below: Answer) -> Found
     })
 }
 
+// The media with this soil: produce grows in it.
+fn grown(s: Values, c: Values, air: Answer, soil: Answer) -> Found
+    ensures { λ r. ⌜ found r ≡ grownIn s c (answer air) (answer soil) ⌝ }
+{
+    let leaves = soil.times(c.at(BR));
+    let roots = soil.times(c.at(RCF)).times(s.at(VG)).over(c.at(KDS));
+    all(air, soil, leaves, roots)
+}
+
 // particles is 1 − Fv, and e is x.
 pub(crate) fn leave(s: Values, c: Values, particles: Pair, e: Pair) -> Found
     requires { ⌜ is e ≡ ofSlots s c x ⌝ }
-    ensures { λ r. ⌜ found r ≡ four (ofMedia s c particles page.A) (ofMedia s c particles C) (ofMedia s c particles aboveGround) (ofMedia s c particles belowGround) ⌝ }
+    ensures { λ r. ⌜ found r ≡ mediaIn (mediaInputs s c particles) C ⌝ }
 {
-    let ground = soil(s, c, particles, e);
-    let leaves = ground.times(c.at(BR));
-    let roots = ground.times(c.at(RCF)).times(s.at(VG)).over(c.at(KDS));
-    all(air(s, c, particles), ground, leaves, roots)
+    let g = build_up(sum_of_terms(e), e);
+    let soil = deposition(s, c, particles).times(s.at(TD)).times(g);
+    grown(s, c, air(s, c, particles), soil)
+}
+
+// The ground, or the refusal among its parts.
+fn ground_from(loss: Answer, gathered: Answer, highest: Found, within: Found) -> Grounded
+    ensures { λ r. ⌜ grounded r ≡ groundFrom (answer loss) (answer gathered) (found highest) (found within) ⌝ }
+{
+    let Answer::Is(l) = loss else {
+        return Grounded::Refused;
+    };
+    let Answer::Is(g) = gathered else {
+        return Grounded::Refused;
+    };
+    match highest {
+        Found::Is(m) => ground_with(l, g, m, within),
+        Found::TooFast => Grounded::TooFast,
+        Found::Refused => Grounded::Refused,
+    }
+}
+
+fn ground_with(loss: Pair, gathered: Pair, highest: Media, within: Found) -> Grounded
+    ensures { λ r. ⌜ grounded r ≡ groundFrom (is loss) (is gathered) (is highest) (found within) ⌝ }
+{
+    match within {
+        Found::Is(m) => Grounded::Is(Ground {
+            loss,
+            gathered,
+            highest,
+            within: m,
+        }),
+        Found::TooFast => Grounded::TooFast,
+        Found::Refused => Grounded::Refused,
+    }
+}
+
+// particles is 1 − Fv, loss is k and e is x.
+pub(crate) fn lay(s: Values, c: Values, particles: Pair, loss: Answer, e: Pair) -> Grounded
+    requires { ⌜ is e ≡ ofSlots s c x ⌝ }
+    requires { ⌜ answer loss ≡ ofSlots s c k ⌝ }
+    ensures { λ r. ⌜ grounded r ≡ groundFrom (ofMedia s c particles k) (ofMedia s c particles gathered) (mediaIn (mediaInputs s c particles) C) (mediaIn (mediaInputs s c particles) (mean Within)) ⌝ }
+{
+    let phi = sum_of_terms(e);
+    let g = build_up(phi, e);
+    let h = mean_build_up(phi, mean_of_terms(e), e);
+    let laid = deposition(s, c, particles).times(s.at(TD));
+    let breathed = air(s, c, particles);
+    let highest = grown(s, c, breathed, laid.times(g));
+    let within = grown(s, c, breathed, laid.times(h));
+    ground_from(loss, laid.times(s.at(TD)).times(h), highest, within)
+}
+
+// The mean over an exposure that goes beyond the deposition. e is k × (T2 − tD).
+fn soil_beyond(ground: Ground, e: Pair, exposure: Pair, later: Pair) -> Answer
+    ensures { λ r. ⌜ answer r ≡ soilBeyond ground (is e) exposure later ⌝ }
+{
+    let g = build_up(sum_of_terms(e), e);
+    let highest = ground.highest.soil.pair();
+    let left = highest.product(later).times(g);
+    let gathered = ground.gathered.answer();
+    gathered.plus(left).over(exposure.answer())
+}
+
+pub(crate) fn beyond(ground: Ground, s: Values, c: Values, exposure: Pair, later: Pair) -> Found
+    ensures { λ r. ⌜ found r ≡ meanMedia ground s c Beyond exposure later ⌝ }
+{
+    let breathed = ground.highest.air.pair();
+    match slow(ground.loss.product(later)) {
+        Bounded::Is(e) => grown(
+            s,
+            c,
+            breathed.answer(),
+            soil_beyond(ground, e, exposure, later),
+        ),
+        Bounded::TooFast => Found::TooFast,
+        Bounded::Refused => Found::Refused,
+    }
 }

@@ -3,16 +3,23 @@ mod compartments;
 mod loss;
 mod terms;
 
+use crate::compartments::beyond;
+use crate::compartments::lay;
 use crate::compartments::leave;
 use crate::loss::exponent_of;
+use crate::loss::loss_rate;
+use crate::terms::mean_of_terms;
 use crate::terms::sum_of_terms;
+use equations::Stay;
 use equations::Values;
 use pair::Answer;
 use pair::Number;
 use pair::Order;
 use pair::Pair;
+use slots::TD;
 ghost use mathlib.Core.Path.{_≡_};
 ghost use Rattle.pair.specs.Calls as calls;
+ghost use Rattle.equations.specs.Formula.{phi, psi};
 ghost use Rattle.equations.specs.Series.{pairSeries};
 ghost use Rattle.equations.specs.Readings.{inputs, noValues};
 ghost use Rattle.media.specs.Media as specs;
@@ -64,13 +71,29 @@ pub enum Found {
     Refused,
 }
 
+// What a chemical's soil is worked from, whatever the receptor: k, what the mean over an exposure beyond the deposition begins with,
+// D × tD × tD × h, and the media of the highest year and of an exposure within the deposition.
+pub struct Ground {
+    pub loss: Pair,
+    pub gathered: Pair,
+    pub highest: Media,
+    pub within: Media,
+}
+
+// The ground, or why there is none, as for x.
+pub enum Grounded {
+    Is(Ground),
+    TooFast,
+    Refused,
+}
+
 const SIXTY_FOUR: Number = Number {
     significand: 640_000_000,
     exponent: -7,
 };
 
 // x, unless its high end is above 64.
-fn slow(x: Answer) -> Bounded
+pub(crate) fn slow(x: Answer) -> Bounded
     ensures { λ r. ⌜ specs.exponent r ≡ specs.slow (calls.answer x) ⌝ }
 {
     let Answer::Is(p) = x else {
@@ -92,9 +115,16 @@ pub fn exponent(site: Values, chemical: Values) -> Bounded
 
 // φ at x.
 pub fn series(x: Pair) -> Answer
-    ensures { λ r. ⌜ calls.answer r ≡ pairSeries (calls.is x) ⌝ }
+    ensures { λ r. ⌜ calls.answer r ≡ pairSeries phi (calls.is x) ⌝ }
 {
     sum_of_terms(x)
+}
+
+// ψ at x.
+pub fn mean_series(x: Pair) -> Answer
+    ensures { λ r. ⌜ calls.answer r ≡ pairSeries psi (calls.is x) ⌝ }
+{
+    mean_of_terms(x)
 }
 
 // The concentrations that a chemical leaves in the media. particles is 1 − Fv, from the printed digits.
@@ -105,5 +135,35 @@ pub fn concentrations(site: Values, chemical: Values, particles: Pair) -> Found
         Bounded::Is(x) => leave(site, chemical, particles, x),
         Bounded::TooFast => Found::TooFast,
         Bounded::Refused => Found::Refused,
+    }
+}
+
+// The ground that a chemical leaves, for every receptor. particles is 1 − Fv, from the printed digits.
+pub fn ground_of(site: Values, chemical: Values, particles: Pair) -> Grounded
+    ensures { λ r. ⌜ specs.grounded r ≡ specs.groundOf (specs.mediaInputs site chemical particles) ⌝ }
+{
+    let loss = loss_rate(site, chemical);
+    match slow(loss.times(site.at(TD))) {
+        Bounded::Is(x) => lay(site, chemical, particles, loss, x),
+        Bounded::TooFast => Grounded::TooFast,
+        Bounded::Refused => Grounded::Refused,
+    }
+}
+
+// The media of a receptor's cancer: its soil is the mean over the exposure T2, which later passes the deposition by.
+pub fn mean_concentrations(
+    ground: Ground,
+    site: Values,
+    chemical: Values,
+    stay: Stay,
+    exposure: Pair,
+    later: Pair,
+) -> Found
+    ensures { λ r. ⌜ specs.found r ≡ specs.meanMedia ground site chemical stay exposure later ⌝ }
+{
+    let within = ground.within;
+    match stay {
+        Stay::Within => Found::Is(within),
+        Stay::Beyond => beyond(ground, site, chemical, exposure, later),
     }
 }

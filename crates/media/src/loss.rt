@@ -41,7 +41,7 @@ fn washed(flow: Answer, water: Answer, retained: Answer) -> Answer
 }
 
 // k, the rates of loss added up.
-fn loss_rate(s: Values, c: Values) -> Answer
+pub(crate) fn loss_rate(s: Values, c: Values) -> Answer
     ensures { λ r. ⌜ answer r ≡ ofSlots s c k ⌝ }
 {
     let theta = s.at(THETA);

@@ -1,18 +1,34 @@
-//! The series φ (document 01, "Loss and series"): 256 terms, of which those are worked that change more than the last figure.
+//! The series φ (document 01, "Loss and series") and ψ (document 02, P4): 256 terms, of which those are worked that change more than the
+//! last figure.
 use pair::Answer;
 use pair::Number;
 use pair::Order;
 use pair::Pair;
+use pair::Partial;
 ghost use mathlib.Core.Path.{_≡_};
 ghost use mathlib.Core.Bool.{true};
-ghost use Rattle.pair.specs.Calls.{answer, is, after, afterOne, sum, compared, absorbs, zeroPair};
-ghost use Rattle.equations.specs.Series.{fromZero, pairSeries};
+ghost use Prim.Native.Nat.{_+_, _<_};
+ghost use lib.IntN.{pos};
+ghost use Rattle.pair.specs.Calls.{answer, is, after, afterOne, sum, compared, absorbs, zeroPair, entry, partial};
+ghost use Rattle.equations.specs.Formula.{phi, psi, pairs};
+ghost use Rattle.equations.specs.Series.{step, fromZero, pairSeries};
 ghost use Rattle.media.specs.Inner.{Moderate};
 
 // x from here on leaves no term out of the exponents' reach.
 const LEAST: Number = Number {
     significand: 100_000_000,
     exponent: -300,
+};
+
+const HALF: Pair = Pair {
+    low: Number {
+        significand: 500_000_000,
+        exponent: -9,
+    },
+    high: Number {
+        significand: 500_000_000,
+        exponent: -9,
+    },
 };
 
 fn is_at_most(a: Number, b: Number) -> bool
@@ -53,7 +69,7 @@ fn is_moderate(x: Pair) -> bool
     is_at_most(LEAST, low)
 }
 
-// Whether every term after this one is absorbed by the total, as this one is: x is at most what divided it, so that they shrink.
+// Whether every term after this one is absorbed by the total, as this one is: x is so small against the divisors that they shrink.
 fn is_settled(x: Pair, term: Pair, total: Pair, divisor: Pair) -> bool
     ensures { λ r. ⌜ (r ≡ true → (absorbs total term ≡ true) × (compared (x .high) (divisor .low) ≡ is true) × Moderate x) ⌝ }
 {
@@ -76,8 +92,43 @@ fn closed(total: Pair, last: Pair) -> Answer
     total.sum(Pair { low, high })
 }
 
+// ψ's next term. whole is n + 2.
+fn mean_term(term: Pair, x: Pair, n: u64, whole: Pair) -> Answer
+    requires { ⌜ n < 255 ⌝ }
+    requires { ⌜ entry (n + 2) (pos 0) ≡ is whole ⌝ }
+    ensures { λ r. ⌜ answer r ≡ step pairs psi (is x) n (is term) ⌝ }
+{
+    let led = term.answer()
+        .times(x.answer())
+        .times_over(whole, Pair::entry(n + 1, 0));
+    led.over(Pair::entry(n + 3, 0))
+}
+
+// A term, and the total with it.
+fn with_term(total: Pair, term: Answer) -> Partial
+    ensures { λ r. ⌜ r ≡ partial (answer term) (after sum (is total) (answer term)) ⌝ }
+{
+    let none = Partial {
+        worked: false,
+        term: Pair::ZERO,
+        total: Pair::ZERO,
+    };
+    let Answer::Is(t) = term else {
+        return none;
+    };
+    let Answer::Is(s) = total.sum(t) else {
+        return none;
+    };
+    Partial {
+        worked: true,
+        term: t,
+        total: s,
+    }
+}
+
+// φ.
 pub(crate) fn sum_of_terms(x: Pair) -> Answer
-    ensures { λ r. ⌜ answer r ≡ pairSeries (is x) ⌝ }
+    ensures { λ r. ⌜ answer r ≡ pairSeries phi (is x) ⌝ }
 {
     if is_none(x) {
         return Pair::ONE.answer();
@@ -86,20 +137,50 @@ pub(crate) fn sum_of_terms(x: Pair) -> Answer
     let mut total = Pair::ONE;
     let mut n: u64 = 0;
     while n < 255 {
-        let Answer::Is(divisor) = Pair::entry(n + 2, 0) else {
+        let Answer::Is(whole) = Pair::entry(n + 2, 0) else {
             return Answer::Refused;
         };
-        let next = term.next_term(total, x, divisor);
+        let next = term.next_term(total, x, whole);
         if !next.worked {
             return Answer::Refused;
         }
         let t = next.term;
         let s = next.total;
-        if is_settled(x, t, s, divisor) {
+        if is_settled(x, t, s, whole) {
             return s.raised((255 - n) as u8);
         }
         term = t;
         total = s;
+        n += 1;
+    }
+    closed(total, term)
+}
+
+// ψ: a loop of its own, since one loop that chose the step would slow φ down.
+pub(crate) fn mean_of_terms(x: Pair) -> Answer
+    ensures { λ r. ⌜ answer r ≡ pairSeries psi (is x) ⌝ }
+{
+    if is_none(x) {
+        return HALF.answer();
+    }
+    let mut term = HALF;
+    let mut total = HALF;
+    let mut n: u64 = 0;
+    while n < 255 {
+        let Answer::Is(whole) = Pair::entry(n + 2, 0) else {
+            return Answer::Refused;
+        };
+        let next = with_term(total, mean_term(term, x, n, whole));
+        if !next.worked {
+            return Answer::Refused;
+        }
+        let t = next.term;
+        let sum = next.total;
+        if is_settled(x, t, sum, whole) {
+            return sum.raised((255 - n) as u8);
+        }
+        term = t;
+        total = sum;
         n += 1;
     }
     closed(total, term)

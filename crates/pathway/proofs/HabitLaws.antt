@@ -12,7 +12,7 @@ use Rattle.equations.specs.declared.Effect.the-variants.{Hazard, Cancer}
 use Rattle.equations.specs.declared.Values.{Values}
 use Rattle.equations.specs.Formula.{read, pairs}
 use Rattle.equations.specs.Page.{AT, B, exposure, factor, intakeBy, figureBy}
-use Rattle.equations.specs.Readings.{plain, letters, inputs, byOwner, valueIn, noValues}
+use Rattle.equations.specs.Readings.{plain, plainWith, letters, inputs, byOwner, valueIn, noValues}
 use Rattle.media.specs.declared.Conc.{Conc}
 use Rattle.slots.specs.Slots.{table, same, isIn, placeIn, ownerOf, placeOf}
 use Rattle.pathway.specs.declared.Factor.{Factor}
@@ -21,13 +21,13 @@ use Rattle.pathway.specs.Lines.{some, workedFor, factorOf, doseOf, figur
 
 -- a receptor's letters are read alike with any site and chemical
 pub base-alike : (s c r : Values) (e : Effect) → workedOf r (B e) ≡ workedFor s c r (B e)
-unfolding workedOf workedFor plain read letters inputs byOwner valueIn ownerOf placeOf table same isIn placeIn pairs B AT
+unfolding workedOf workedFor plain plainWith read letters inputs byOwner valueIn ownerOf placeOf table same isIn placeIn pairs B AT
 base-alike s c r Hazard = refl
 base-alike s c r Cancer = refl
 
 -- an exposure is what it begins with, the share absorbed and what it goes on with
 pub begun-exposure : (s c r : Values) (p : Pathway) → onward (after product) (workedFor s noValues r) p (is (shareOf p (absorbedOf c))) (workedOf r (begins p)) ≡ workedFor s c r (exposure p)
-unfolding onward begins exposure shareOf absorbedOf workedOf workedFor plain read letters inputs byOwner valueIn ownerOf placeOf table same isIn placeIn pairs
+unfolding onward begins exposure shareOf absorbedOf workedOf workedFor plain plainWith read letters inputs byOwner valueIn ownerOf placeOf table same isIn placeIn pairs
 begun-exposure s c r Air = refl
 begun-exposure s c r SoilSummer = refl
 begun-exposure s c r SoilWinter = refl
@@ -51,7 +51,7 @@ own-base r Hazard = refl
 own-base r Cancer = refl
 
 divided : (s c r : Values) (e : Effect) (p : Pathway) → after quotient (workedFor s c r (exposure p)) (workedFor s c r (B e)) ≡ workedFor s c r (factor e p)
-unfolding workedFor plain read pairs factor
+unfolding workedFor plain plainWith read pairs factor
 divided s c r e p = refl
 
 pub own-factor : (e : Effect) (p : Pathway) (s c r : Values) → factorWith (exposureWith (habitsOf r) p s (absorbedOf c) r) (baseIn (habitsOf r) e) ≡ factorOf e p s c r

@@ -60,7 +60,7 @@ unfoldable pub csfGiven : GivenCsf → Optional Csf
 csfGiven (Csfs.Is f) = some f
 csfGiven Csfs.Absent = none
 
--- a formula read from the values of a site, a chemical and a receptor; no factor has φ or 1 − in it
+-- a formula read from the values of a site, a chemical and a receptor; no factor has a series or a difference in it
 unfoldable pub workedFor : Values → Values → Values → Formula → Outcome Pair
 workedFor s c r f = plain pairs (λ n. is (inputs s c r n)) f
 
@@ -68,7 +68,7 @@ workedFor s c r f = plain pairs (λ n. is (inputs s c r n)) f
 unfoldable pub factorOf : Effect → Pathway → Values → Values → Values → Outcome Factor
 factorOf e p s c r = mapped (λ (q : Pair). record { 0 = q }) (workedFor s c r (factor e p))
 
--- A for 1, C for 2 to 4, the produce for 5 and 6
+-- A for 1, the soil for 2 to 4, the produce for 5 and 6
 unfoldable pub concentrationFor : Pathway → Media → Conc
 concentrationFor p m = byMedium p (m .air) (m .soil) (m .«above_ground») (m .«below_ground»)
 
@@ -105,13 +105,12 @@ pub record Figured : Type 0 where
 unfoldable pub figured : Line → Figured
 figured l = record { hazard = figure (l .hazard); cancer = figure (l .cancer) }
 
--- pathway 1 takes RfDi and CSFi, the rest RfDo and CSFo
-unfoldable pub figuresOf : Pathway → Values → Values → Values → Media → References → Figured
-figuresOf p s c r m refs =
-    let medium : Conc = concentrationFor p m in
+-- pathway 1 takes RfDi and CSFi, the rest RfDo and CSFo; hazard takes the media of the highest year, cancer those of the mean
+unfoldable pub figuresOf : Pathway → Values → Values → Values → Media → Media → References → Figured
+figuresOf p s c r highest mean refs =
     record {
-      hazard = quotientOf (doseOf (factorOf Hazard p s c r) medium) (byRoute p (refs .«rfd_i») (refs .«rfd_o»));
-      cancer = riskOf (doseOf (factorOf Cancer p s c r) medium) (byRoute p (refs .«csf_i») (refs .«csf_o»));
+      hazard = quotientOf (doseOf (factorOf Hazard p s c r) (concentrationFor p highest)) (byRoute p (refs .«rfd_i») (refs .«rfd_o»));
+      cancer = riskOf (doseOf (factorOf Cancer p s c r) (concentrationFor p mean)) (byRoute p (refs .«csf_i») (refs .«csf_o»));
     }
 
 -- ---- what a receptor's lines share
@@ -201,11 +200,10 @@ figureIfGiven e d (some v) = figureOf e d (some v)
 figureIfGiven e d none = is none
 
 -- a line's two figures, from what its receptor's lines share
-unfoldable pub figuresWith : Shared → Pathway → Values → Absorbed → Values → Media → References → Figured
-figuresWith h p s a r m refs =
-    let medium : Conc = concentrationFor p m in
+unfoldable pub figuresWith : Shared → Pathway → Values → Absorbed → Values → Media → Media → References → Figured
+figuresWith h p s a r highest mean refs =
     let exposure : Outcome Pair = exposureWith h p s a r in
     record {
-      hazard = figureIfGiven Hazard (doseOf (factorWith exposure (baseIn h Hazard)) medium) (rfdValue (rfdGiven (byRoute p (refs .«rfd_i») (refs .«rfd_o»))));
-      cancer = figureIfGiven Cancer (doseOf (factorWith exposure (baseIn h Cancer)) medium) (csfValue (csfGiven (byRoute p (refs .«csf_i») (refs .«csf_o»))));
+      hazard = figureIfGiven Hazard (doseOf (factorWith exposure (baseIn h Hazard)) (concentrationFor p highest)) (rfdValue (rfdGiven (byRoute p (refs .«rfd_i») (refs .«rfd_o»))));
+      cancer = figureIfGiven Cancer (doseOf (factorWith exposure (baseIn h Cancer)) (concentrationFor p mean)) (csfValue (csfGiven (byRoute p (refs .«csf_i») (refs .«csf_o»))));
     }

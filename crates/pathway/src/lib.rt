@@ -181,24 +181,27 @@ pub fn cancer(dose: Dose, csf: GivenCsf) -> Figure
     risk_of(Dosed::Is(dose), csf)
 }
 
-// Both figures of a line. What stands above B is worked once for the two.
+// Both figures of a line: hazard's from the media of the highest year, cancer's from those of the mean. What stands above B is worked once
+// for the two.
 pub fn figures(
     pathway: Pathway,
     site: Values,
     chemical: Values,
     receptor: Values,
-    media: Media,
+    highest: Media,
+    mean: Media,
     references: References,
 ) -> Line
-    ensures { λ r. ⌜ specs.figured r ≡ specs.figuresOf pathway site chemical receptor media references ⌝ }
+    ensures { λ r. ⌜ specs.figured r ≡ specs.figuresOf pathway site chemical receptor highest mean references ⌝ }
 {
     let exposure = exposure_of(site, chemical, receptor, pathway);
     let noncancer = factor_of(exposure, base_of(receptor, Effect::Hazard));
     let lifetime = factor_of(exposure, base_of(receptor, Effect::Cancer));
-    let medium = medium_of(pathway, media);
+    let at_most = medium_of(pathway, highest);
+    let on_average = medium_of(pathway, mean);
     Line {
-        hazard: quotient_of(dose_of(noncancer, medium), rfd_of(pathway, references)),
-        cancer: risk_of(dose_of(lifetime, medium), csf_of(pathway, references)),
+        hazard: quotient_of(dose_of(noncancer, at_most), rfd_of(pathway, references)),
+        cancer: risk_of(dose_of(lifetime, on_average), csf_of(pathway, references)),
     }
 }
 
@@ -236,10 +239,11 @@ pub fn figures_with(
     site: Values,
     absorbed: Absorbed,
     receptor: Values,
-    media: Media,
+    highest: Media,
+    mean: Media,
     references: References,
 ) -> Line
-    ensures { λ r. ⌜ specs.figured r ≡ specs.figuresWith (specs.shared habits) pathway site absorbed receptor media references ⌝ }
+    ensures { λ r. ⌜ specs.figured r ≡ specs.figuresWith (specs.shared habits) pathway site absorbed receptor highest mean references ⌝ }
 {
     let exposure = exposure_from(
         site,
@@ -250,9 +254,10 @@ pub fn figures_with(
     );
     let noncancer = habits.hazard;
     let lifetime = habits.cancer;
-    let medium = medium_of(pathway, media);
+    let at_most = medium_of(pathway, highest);
+    let on_average = medium_of(pathway, mean);
     Line {
-        hazard: hazard_from(exposure, noncancer, medium, rfd_of(pathway, references)),
-        cancer: cancer_from(exposure, lifetime, medium, csf_of(pathway, references)),
+        hazard: hazard_from(exposure, noncancer, at_most, rfd_of(pathway, references)),
+        cancer: cancer_from(exposure, lifetime, on_average, csf_of(pathway, references)),
     }
 }

@@ -1,20 +1,11 @@
 -- x decides whether the media are worked. Assumes nothing.
 use mathlib.Core.Path.{_≡_, sym, _∙_, ap}
-use Rattle.pair.specs.declared.Pair.{Pair}
-use Rattle.pair.specs.Calls.{Outcome}
 use Rattle.equations.specs.Page as page
-use Rattle.equations.specs.Page.{C, aboveGround, belowGround}
-use Rattle.media.specs.declared.Media.{Media}
-use Rattle.equations.specs.declared.Values.{Values}
-use Rattle.media.specs.Media.{exponent, found, slow, mediaInputs, ofSlots, ofMedia, four, given, exponentOf, mediaOf}
+use Rattle.media.specs.Media.{exponent, found, slow, mediaInputs, ofSlots, mediaIn, exponentOf, mediaOf}
 use Rattle.media.proofs.Passing.{slow-is, given-is, given-refused}
 use borrow.Author.Needs.{needs}
 use Rattle.media.proofs.concentrations.Statement.{statement}
 use Rattle.media.proofs.concentrations.Tie as tie
-
--- all four formulas
-four-of : Values → Values → Pair → Outcome Media
-four-of s c p = four (ofMedia s c p page.A) (ofMedia s c p C) (ofMedia s c p aboveGround) (ofMedia s c p belowGround)
 
 exponent-of-requires : tie.Need-exponent-of-requires
 exponent-of-requires c κs = search needs
@@ -39,28 +30,28 @@ enum-told-2 : tie.Need-enum-told-2
 enum-told-2 c = search needs
 
 returns : tie.Need-returns
-unfolding exponent found mediaOf mediaInputs exponentOf ofSlots ofMedia four-of
+unfolding exponent found mediaOf mediaInputs exponentOf ofSlots
 returns c =
     let a = c .before .before .before .before .before .before in
     let o = ofSlots (a .args .site) (a .args .chemical) page.x in
     let e : exponent (c .before .before .before .before .slow .result) ≡ slow o = c .before .before .before .before .slow .ensures ∙ ap slow (c .before .before .before .before .before .exponent-of .ensures) in
-    c .leave .ensures ∙ given-is (slow o) (c .before .before .x .given .0 .0) (four-of (a .args .site) (a .args .chemical) (a .args .particles)) (sym e ∙ ap exponent (c .before .before .x .given .1))
+    c .leave .ensures ∙ given-is (slow o) (c .before .before .x .given .0 .0) (mediaIn (mediaInputs (a .args .site) (a .args .chemical) (a .args .particles)) page.C) (sym e ∙ ap exponent (c .before .before .x .given .1))
 
 returns-2 : tie.Need-returns-2
-unfolding exponent found mediaOf mediaInputs exponentOf ofSlots ofMedia four-of
+unfolding exponent found mediaOf mediaInputs exponentOf ofSlots
 returns-2 c =
     let a = c .before .before .before .before in
     let o = ofSlots (a .args .site) (a .args .chemical) page.x in
     let e : exponent (c .before .before .slow .result) ≡ slow o = c .before .before .slow .ensures ∙ ap slow (c .before .before .before .exponent-of .ensures) in
-    given-refused (slow o) 41 (four-of (a .args .site) (a .args .chemical) (a .args .particles)) (sym e ∙ ap exponent (c .enum-told .given .1))
+    given-refused (slow o) 41 (mediaIn (mediaInputs (a .args .site) (a .args .chemical) (a .args .particles)) page.C) (sym e ∙ ap exponent (c .enum-told .given .1))
 
 returns-3 : tie.Need-returns-3
-unfolding exponent found mediaOf mediaInputs exponentOf ofSlots ofMedia four-of
+unfolding exponent found mediaOf mediaInputs exponentOf ofSlots
 returns-3 c =
     let a = c .before .before .before .before in
     let o = ofSlots (a .args .site) (a .args .chemical) page.x in
     let e : exponent (c .before .before .slow .result) ≡ slow o = c .before .before .slow .ensures ∙ ap slow (c .before .before .before .exponent-of .ensures) in
-    given-refused (slow o) 53 (four-of (a .args .site) (a .args .chemical) (a .args .particles)) (sym e ∙ ap exponent (c .enum-told2 .given .1))
+    given-refused (slow o) 53 (mediaIn (mediaInputs (a .args .site) (a .args .chemical) (a .args .particles)) page.C) (sym e ∙ ap exponent (c .enum-told2 .given .1))
 
 pub concentrations-spec : {M : Type 1} → statement M
 concentrations-spec =

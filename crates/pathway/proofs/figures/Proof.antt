@@ -4,7 +4,7 @@ use borrow.Author.Needs.{needs}
 use Rattle.equations.specs.declared.Effect.the-variants.{Hazard, Cancer}
 use Rattle.equations.specs.Formula.{read, pairs}
 use Rattle.equations.specs.Page.{factor}
-use Rattle.equations.specs.Readings.{plain}
+use Rattle.equations.specs.Readings.{plain, plainWith}
 use Rattle.pathway.specs.Lines.{workedFor, factorOf, figured, figuresOf}
 use Rattle.pathway.proofs.HabitLaws.{base-alike}
 use Rattle.pathway.proofs.figures.Statement.{statement}
@@ -28,6 +28,9 @@ factor-of-requires-2 c κs = search needs
 medium-of-requires : tie.Need-medium-of-requires
 medium-of-requires c κs = search needs
 
+medium-of-requires-2 : tie.Need-medium-of-requires-2
+medium-of-requires-2 c κs = search needs
+
 dose-of-requires : tie.Need-dose-of-requires
 dose-of-requires c κs = search needs
 
@@ -47,8 +50,8 @@ risk-of-requires : tie.Need-risk-of-requires
 risk-of-requires c κs = search needs
 
 returns : tie.Need-returns
-unfolding figured figuresOf factorOf workedFor plain read pairs factor
-returns c = rw (c .risk-of .ensures, c .before .csf-of .ensures, c .before .before .dose-of2 .ensures, c .before .before .before .quotient-of .ensures, c .before .before .before .before .rfd-of .ensures, c .before .before .before .before .before .dose-of .ensures, c .before .before .before .before .before .before .medium-of .ensures, c .before .before .before .before .before .before .before .factor-of2 .ensures, c .before .before .before .before .before .before .before .before .base-of2 .ensures, c .before .before .before .before .before .before .before .before .before .factor-of .ensures, c .before .before .before .before .before .before .before .before .before .before .base-of .ensures, c .before .before .before .before .before .before .before .before .before .before .before .exposure-of .ensures, base-alike (c .before .before .before .before .before .before .before .before .before .before .before .before .args .site) (c .before .before .before .before .before .before .before .before .before .before .before .before .args .chemical) (c .before .before .before .before .before .before .before .before .before .before .before .before .args .receptor) Hazard, base-alike (c .before .before .before .before .before .before .before .before .before .before .before .before .args .site) (c .before .before .before .before .before .before .before .before .before .before .before .before .args .chemical) (c .before .before .before .before .before .before .before .before .before .before .before .before .args .receptor) Cancer)
+unfolding figured figuresOf factorOf workedFor plain plainWith read pairs factor
+returns c = rw (c .risk-of .ensures, c .before .csf-of .ensures, c .before .before .dose-of2 .ensures, c .before .before .before .quotient-of .ensures, c .before .before .before .before .rfd-of .ensures, c .before .before .before .before .before .dose-of .ensures, c .before .before .before .before .before .before .medium-of2 .ensures, c .before .before .before .before .before .before .before .medium-of .ensures, c .before .before .before .before .before .before .before .before .factor-of2 .ensures, c .before .before .before .before .before .before .before .before .before .base-of2 .ensures, c .before .before .before .before .before .before .before .before .before .before .factor-of .ensures, c .before .before .before .before .before .before .before .before .before .before .before .base-of .ensures, c .before .before .before .before .before .before .before .before .before .before .before .before .exposure-of .ensures, base-alike (c .before .before .before .before .before .before .before .before .before .before .before .before .before .args .site) (c .before .before .before .before .before .before .before .before .before .before .before .before .before .args .chemical) (c .before .before .before .before .before .before .before .before .before .before .before .before .before .args .receptor) Hazard, base-alike (c .before .before .before .before .before .before .before .before .before .before .before .before .before .args .site) (c .before .before .before .before .before .before .before .before .before .before .before .before .before .args .chemical) (c .before .before .before .before .before .before .before .before .before .before .before .before .before .args .receptor) Cancer)
     refl
 
 pub figures-spec : {M : Type 1} → statement M
@@ -61,6 +64,7 @@ figures-spec =
     base-of-requires-2
     factor-of-requires-2
     medium-of-requires
+    medium-of-requires-2
     dose-of-requires
     rfd-of-requires
     quotient-of-requires

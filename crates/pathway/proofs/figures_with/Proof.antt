@@ -17,6 +17,9 @@ exposure-from-requires c κs = search needs
 medium-of-requires : tie.Need-medium-of-requires
 medium-of-requires c κs = search needs
 
+medium-of-requires-2 : tie.Need-medium-of-requires-2
+medium-of-requires-2 c κs = search needs
+
 rfd-of-requires : tie.Need-rfd-of-requires
 rfd-of-requires c κs = search needs
 
@@ -31,7 +34,7 @@ cancer-from-requires c κs = search needs
 
 returns : tie.Need-returns
 unfolding figured figuresWith exposureWith baseIn shared
-returns c = rw (c .cancer-from .ensures, c .before .csf-of .ensures, c .before .before .hazard-from .ensures, c .before .before .before .rfd-of .ensures, c .before .before .before .before .medium-of .ensures, c .before .before .before .before .before .exposure-from .ensures, c .before .before .before .before .before .before .begun-in .ensures, c .before .before .before .before .before .before .before .share-of .ensures)
+returns c = rw (c .cancer-from .ensures, c .before .csf-of .ensures, c .before .before .hazard-from .ensures, c .before .before .before .rfd-of .ensures, c .before .before .before .before .medium-of2 .ensures, c .before .before .before .before .before .medium-of .ensures, c .before .before .before .before .before .before .exposure-from .ensures, c .before .before .before .before .before .before .before .begun-in .ensures, c .before .before .before .before .before .before .before .before .share-of .ensures)
     refl
 
 pub figures-with-spec : {M : Type 1} → statement M
@@ -42,6 +45,7 @@ figures-with-spec =
     begun-in-requires
     exposure-from-requires
     medium-of-requires
+    medium-of-requires-2
     rfd-of-requires
     hazard-from-requires
     csf-of-requires

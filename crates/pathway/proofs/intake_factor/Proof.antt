@@ -3,7 +3,7 @@ use mathlib.Core.Path.{refl}
 use borrow.Author.Needs.{needs}
 use Rattle.equations.specs.Formula.{read, pairs}
 use Rattle.equations.specs.Page.{factor}
-use Rattle.equations.specs.Readings.{plain}
+use Rattle.equations.specs.Readings.{plain, plainWith}
 use Rattle.pathway.specs.Lines.{workedFor, factorOf}
 use Rattle.pathway.proofs.HabitLaws.{base-alike}
 use Rattle.pathway.proofs.intake_factor.Statement.{statement}
@@ -19,7 +19,7 @@ factor-of-requires : tie.Need-factor-of-requires
 factor-of-requires c κs = search needs
 
 returns : tie.Need-returns
-unfolding factorOf workedFor plain read pairs factor
+unfolding factorOf workedFor plain plainWith read pairs factor
 returns c = rw (c .factor-of .ensures, c .before .base-of .ensures, c .before .before .exposure-of .ensures, base-alike (c .before .before .before .args .site) (c .before .before .before .args .chemical) (c .before .before .before .args .receptor) (c .before .before .before .args .effect))
     refl
 

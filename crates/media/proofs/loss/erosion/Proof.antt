@@ -3,7 +3,7 @@ use mathlib.Core.Path.{refl}
 use borrow.Author.Needs.{needs}
 use Rattle.equations.specs.Formula.{read, pairs}
 use Rattle.equations.specs.Page.{kse}
-use Rattle.equations.specs.Readings.{plain, letters, inputs, byOwner, valueIn}
+use Rattle.equations.specs.Readings.{plain, plainWith, letters, inputs, byOwner, valueIn}
 use Rattle.media.specs.Media.{ofSlots}
 use Rattle.slots.specs.Slots.{table, same, isIn, placeIn, ownerOf, placeOf}
 use Rattle.media.proofs.loss.erosion.Statement.{statement}
@@ -55,7 +55,7 @@ over-requires-2 : tie.Need-over-requires-2
 over-requires-2 c κs = search needs
 
 returns : tie.Need-returns
-unfolding ofSlots plain read letters inputs byOwner valueIn ownerOf placeOf table same isIn placeIn pairs kse
+unfolding ofSlots plain plainWith read letters inputs byOwner valueIn ownerOf placeOf table same isIn placeIn pairs kse
 returns c = rw (c .over2 .ensures, c .before .times5 .ensures, c .before .before .over .ensures, c .before .before .before .plus .ensures, c .before .before .before .before .at6 .ensures, c .before .before .before .before .before .times4 .ensures, c .before .before .before .before .before .before .at5 .ensures, c .before .before .before .before .before .before .before .at4 .ensures, c .before .before .before .before .before .before .before .before .times3 .ensures, c .before .before .before .before .before .before .before .before .before .at3 .ensures, c .before .before .before .before .before .before .before .before .before .before .times2 .ensures, c .before .before .before .before .before .before .before .before .before .before .before .at2 .ensures, c .before .before .before .before .before .before .before .before .before .before .before .before .times .ensures, c .before .before .before .before .before .before .before .before .before .before .before .before .before .at .ensures, c .before .before .before .before .before .before .before .before .before .before .before .before .before .before .entry .ensures, c .before .before .before .before .before .before .before .before .before .before .before .before .before .before .before .pre)
     refl
 

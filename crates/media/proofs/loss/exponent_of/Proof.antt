@@ -3,7 +3,7 @@ use mathlib.Core.Path.{refl}
 use borrow.Author.Needs.{needs}
 use Rattle.equations.specs.Formula.{read, pairs}
 use Rattle.equations.specs.Page.{x}
-use Rattle.equations.specs.Readings.{plain, letters, inputs, byOwner, valueIn}
+use Rattle.equations.specs.Readings.{plain, plainWith, letters, inputs, byOwner, valueIn}
 use Rattle.media.specs.Media.{ofSlots}
 use Rattle.slots.specs.Slots.{table, same, isIn, placeIn, ownerOf, placeOf}
 use Rattle.media.proofs.loss.exponent_of.Statement.{statement}
@@ -19,7 +19,7 @@ times-requires : tie.Need-times-requires
 times-requires c κs = search needs
 
 returns : tie.Need-returns
-unfolding ofSlots plain read letters inputs byOwner valueIn ownerOf placeOf table same isIn placeIn pairs x
+unfolding ofSlots plain plainWith read letters inputs byOwner valueIn ownerOf placeOf table same isIn placeIn pairs x
 returns c = rw (c .times .ensures, c .before .at .ensures, c .before .before .loss-rate .ensures)
     refl
 

@@ -3,7 +3,7 @@ use mathlib.Core.Path.{refl}
 use Rattle.slots.specs.Slots.{table, same, isIn, placeIn, ownerOf, placeOf}
 use Rattle.equations.specs.Formula.{read, pairs}
 use Rattle.equations.specs.Page.{u, ksr, ksl, k}
-use Rattle.equations.specs.Readings.{plain, letters, inputs, byOwner, valueIn}
+use Rattle.equations.specs.Readings.{plain, plainWith, letters, inputs, byOwner, valueIn}
 use Rattle.media.specs.Media.{ofSlots}
 use borrow.Author.Needs.{needs}
 use Rattle.media.proofs.loss.loss_rate.Statement.{statement}
@@ -40,7 +40,7 @@ at-requires-5 : tie.Need-at-requires-5
 at-requires-5 c κs = search needs
 
 erosion-requires : tie.Need-erosion-requires
-unfolding ofSlots plain read letters inputs byOwner valueIn ownerOf placeOf table same isIn placeIn pairs u
+unfolding ofSlots plain plainWith read letters inputs byOwner valueIn ownerOf placeOf table same isIn placeIn pairs u
 erosion-requires c κs = rw (c .before .before .before .before .before .before .times .ensures, c .before .before .before .before .before .before .before .at3 .ensures, c .before .before .before .before .before .before .before .before .at2 .ensures) refl
 
 plus-requires-2 : tie.Need-plus-requires-2
@@ -71,7 +71,7 @@ plus-requires-5 : tie.Need-plus-requires-5
 plus-requires-5 c κs = search needs
 
 returns : tie.Need-returns
-unfolding ofSlots plain read letters inputs byOwner valueIn ownerOf placeOf table same isIn placeIn pairs k u ksr ksl
+unfolding ofSlots plain plainWith read letters inputs byOwner valueIn ownerOf placeOf table same isIn placeIn pairs k u ksr ksl
 returns c = rw (c .plus5 .ensures, c .before .at8 .ensures, c .before .before .plus4 .ensures, c .before .before .before .washed2 .ensures, c .before .before .before .before .at7 .ensures, c .before .before .before .before .before .plus3 .ensures, c .before .before .before .before .before .before .washed .ensures, c .before .before .before .before .before .before .before .at6 .ensures, c .before .before .before .before .before .before .before .before .plus2 .ensures, c .before .before .before .before .before .before .before .before .before .erosion .ensures, c .before .before .before .before .before .before .before .before .before .before .at5 .ensures, c .before .before .before .before .before .before .before .before .before .before .before .plus .ensures, c .before .before .before .before .before .before .before .before .before .before .before .before .over .ensures, c .before .before .before .before .before .before .before .before .before .before .before .before .before .entry .ensures, c .before .before .before .before .before .before .before .before .before .before .before .before .before .before .times2 .ensures, c .before .before .before .before .before .before .before .before .before .before .before .before .before .before .before .at4 .ensures, c .before .before .before .before .before .before .before .before .before .before .before .before .before .before .before .before .times .ensures, c .before .before .before .before .before .before .before .before .before .before .before .before .before .before .before .before .before .at3 .ensures, c .before .before .before .before .before .before .before .before .before .before .before .before .before .before .before .before .before .before .at2 .ensures, c .before .before .before .before .before .before .before .before .before .before .before .before .before .before .before .before .before .before .before .at .ensures)
     refl
 

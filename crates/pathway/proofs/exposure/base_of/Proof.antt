@@ -2,7 +2,7 @@
 use mathlib.Core.Path.{refl}
 use borrow.Author.Needs.{needs}
 use Rattle.equations.specs.Formula.{read, pairs}
-use Rattle.equations.specs.Readings.{plain, letters, inputs, byOwner, valueIn}
+use Rattle.equations.specs.Readings.{plain, plainWith, letters, inputs, byOwner, valueIn}
 use Rattle.slots.specs.Slots.{table, same, isIn, placeIn, ownerOf, placeOf}
 use Rattle.equations.specs.Page.{AT, B}
 use Rattle.pathway.specs.Lines.{workedFor, workedOf}
@@ -40,12 +40,12 @@ times-requires-3 : tie.Need-times-requires-3
 times-requires-3 c κs = search needs
 
 returns : tie.Need-returns
-unfolding workedFor plain read letters inputs byOwner valueIn ownerOf placeOf table same isIn placeIn pairs workedOf B AT
+unfolding workedFor plain plainWith read letters inputs byOwner valueIn ownerOf placeOf table same isIn placeIn pairs workedOf B AT
 returns c = rw (c .times2 .ensures, c .before .times .ensures, c .before .before .at2 .ensures, c .before .before .before .entry .ensures, c .before .before .before .before .at .ensures, c .before .before .before .before .before .enum-told .given .1)
     refl
 
 returns-2 : tie.Need-returns-2
-unfolding workedFor plain read letters inputs byOwner valueIn ownerOf placeOf table same isIn placeIn pairs workedOf B AT
+unfolding workedFor plain plainWith read letters inputs byOwner valueIn ownerOf placeOf table same isIn placeIn pairs workedOf B AT
 returns-2 c = rw (c .times3 .ensures, c .before .at4 .ensures, c .before .before .at3 .ensures, c .before .before .before .enum-told2 .given .1)
     refl
 

@@ -2,7 +2,7 @@
 use mathlib.Core.Path.{refl}
 use borrow.Author.Needs.{needs}
 use Rattle.equations.specs.Formula.{read, pairs}
-use Rattle.equations.specs.Readings.{plain, letters, inputs, byOwner, valueIn}
+use Rattle.equations.specs.Readings.{plain, plainWith, letters, inputs, byOwner, valueIn}
 use Rattle.slots.specs.Slots.{table, same, isIn, placeIn, ownerOf, placeOf}
 use Rattle.pathway.specs.Lines.{workedFor, workedOf, begins}
 use Rattle.pathway.proofs.exposure.held.Statement.{statement}
@@ -30,7 +30,7 @@ plus-requires : tie.Need-plus-requires
 plus-requires c κs = search needs
 
 returns : tie.Need-returns
-unfolding workedFor plain read letters inputs byOwner valueIn ownerOf placeOf table same isIn placeIn pairs workedOf begins
+unfolding workedFor plain plainWith read letters inputs byOwner valueIn ownerOf placeOf table same isIn placeIn pairs workedOf begins
 returns c = rw (c .plus .ensures, c .before .times2 .ensures, c .before .before .at4 .ensures, c .before .before .before .at3 .ensures, c .before .before .before .before .times .ensures, c .before .before .before .before .before .at2 .ensures, c .before .before .before .before .before .before .at .ensures)
     refl
 

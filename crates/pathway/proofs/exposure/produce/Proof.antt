@@ -2,7 +2,7 @@
 use mathlib.Core.Path.{refl}
 use borrow.Author.Needs.{needs}
 use Rattle.equations.specs.Formula.{read, pairs}
-use Rattle.equations.specs.Readings.{plain, letters, inputs, byOwner, valueIn}
+use Rattle.equations.specs.Readings.{plain, plainWith, letters, inputs, byOwner, valueIn}
 use Rattle.slots.specs.Slots.{table, same, isIn, placeIn, ownerOf, placeOf}
 use Rattle.pathway.specs.Lines.{workedFor, onward}
 use Rattle.pathway.proofs.exposure.produce.Statement.{statement}
@@ -18,7 +18,7 @@ times-three-requires : tie.Need-times-three-requires
 times-three-requires c κs = search needs
 
 returns : tie.Need-returns
-unfolding workedFor plain read letters inputs byOwner valueIn ownerOf placeOf table same isIn placeIn pairs onward
+unfolding workedFor plain plainWith read letters inputs byOwner valueIn ownerOf placeOf table same isIn placeIn pairs onward
 returns c = rw (c .times-three .ensures, c .before .value2 .ensures, c .before .before .value .ensures)
     refl
 

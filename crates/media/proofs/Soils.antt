@@ -1,0 +1,58 @@
+-- The soils of the page and the media in them, one operation at a time. Assumes nothing.
+use mathlib.Core.Path.{_≡_, refl}
+use lib.IntN.{pos}
+use Rattle.pair.specs.declared.Pair.{Pair}
+use Rattle.pair.specs.Calls.{Outcome, is}
+use Rattle.slots.specs.Slots.{Slot, table, same, isIn, placeIn, ownerOf, placeOf}
+use Rattle.equations.specs.declared.Values.{Values}
+use Rattle.equations.specs.declared.Stay.the-variants.{Within, Beyond}
+use Rattle.equations.specs.Formula.{Formula, phi, psi, read, pairs}
+use Rattle.equations.specs.Series.{pairSeries}
+use Rattle.equations.specs.Page.{u, kse, ksr, ksl, k, x, x′, g, h, gAt, g′, A, D, C, mean, gathered, aboveGround, belowGround}
+use Rattle.equations.specs.Readings.{Inputs, letters, plain, plainWith, summedAt, asAnswers, worked, inputs, byOwner}
+use Rattle.media.specs.Media.{ofSlots, mediaIn, grownIn, gFor}
+
+-- h at an exponent
+unfoldable pub hFor : Outcome Pair → Outcome Pair
+hFor e = pairs .over (pairSeries psi e) (pairs .plus (pairs .number 1 (pos 0)) (pairs .times e (pairSeries phi e)))
+
+module _ (env : Inputs Pair) where
+  abbrev at-x : Outcome Pair
+  at-x = plain pairs (λ i. is (env .value i)) x
+
+  -- what is laid down in tD years, were nothing lost
+  abbrev laid : Outcome Pair
+  laid = pairs .times (worked env D) (is (env .value "tD"))
+
+  pub highest-is : worked env C ≡ pairs .times laid (gFor at-x)
+  unfolding worked asAnswers read letters summedAt plain plainWith C g gAt gFor x k u kse ksr ksl
+  highest-is = refl
+
+  pub within-is : worked env (mean Within) ≡ pairs .times laid (hFor at-x)
+  unfolding worked asAnswers read letters summedAt plain plainWith mean h hFor x k u kse ksr ksl
+  within-is = refl
+
+  pub gathered-is : worked env gathered ≡ pairs .times (pairs .times laid (is (env .value "tD"))) (hFor at-x)
+  unfolding worked asAnswers read letters summedAt plain plainWith gathered h hFor x k u kse ksr ksl
+  gathered-is = refl
+
+  pub beyond-is : worked env (mean Beyond) ≡ pairs .over (pairs .plus (worked env gathered) (pairs .times (pairs .times (worked env C) (is (env .later))) (gFor (worked env x′)))) (is (env .value "T2"))
+  unfolding worked asAnswers read letters summedAt plainWith mean g′ gAt gFor x′ k u kse ksr ksl
+  beyond-is = refl
+
+  pub loss-is : worked env k ≡ plain pairs (λ i. is (env .value i)) k
+  unfolding worked asAnswers read letters plain plainWith k u kse ksr ksl
+  loss-is = refl
+
+  pub later-is : worked env x′ ≡ pairs .times (worked env k) (is (env .later))
+  unfolding worked asAnswers read letters x′
+  later-is = refl
+
+-- produce grows in any soil
+module _ (s c r : Values) (rests : Slot → Pair) (later : Pair) where
+  abbrev all-inputs : Inputs Pair
+  all-inputs = record { value = inputs s c r; rest = rests; later = later }
+
+  pub produce-is : (soil : Formula) → mediaIn all-inputs soil ≡ grownIn s c (worked all-inputs A) (worked all-inputs soil)
+  unfolding mediaIn grownIn ofSlots plain plainWith worked asAnswers read letters inputs byOwner ownerOf placeOf table same isIn placeIn aboveGround belowGround
+  produce-is soil = refl
