@@ -12,14 +12,14 @@ use lib.Seq.{take-at, drop-at}
 use Rattle.pair.specs.Calls.{is, entry, oneMinusEntry}
 use Rattle.slots.specs.declared.Sort.{Sort}
 use Rattle.slots.specs.declared.Sort.the-variants.{Ordinary}
-use Rattle.slots.specs.Slots.{Slot, atMostOne}
+use Rattle.slots.specs.Slots.{Slot, placeOf, atMostOne}
 use Rattle.equations.specs.declared.Effect.{Effect}
 use Rattle.deck.specs.declared.Case.{Case}
 use Rattle.deck.specs.declared.Status.{Status}
 use Rattle.deck.specs.declared.Status.the-variants.{Read, Stopped}
 use Rattle.deck.specs.Conditions.{Condition, at, first, NoneHolds, conditions}
 use Rattle.deck.specs.declared.Value.the-variants as Values
-use Rattle.deck.specs.Cases.{caseOf, chemicalAt}
+use Rattle.deck.specs.Cases.{caseOf, valueAt, chemicalAt, receptorAt}
 use Rattle.deck.specs.Ranged.{Ranged}
 use Rattle.deck.proofs.Accepted.{accepted}
 use Rattle.deck.proofs.Exactly.{read-none}
@@ -30,15 +30,17 @@ use Rattle.text.specs.Text.{rowText, linesText}
 use Rattle.text.proofs.Rows.{length-row, length-lines, lines-append}
 use Rattle.sheet.specs.declared.Receptor as receptors
 use Rattle.sheet.specs.declared.Receptors.{Receptors}
-use Rattle.sheet.specs.Values.{Scenario, chemicalIn, receptorIn, printedIn, pairsAt, scenarioWith, entered, enteredFrom, ordinaryOf, exactAt}
+use Rattle.sheet.specs.Values.{Scenario, chemicalIn, receptorIn, stayIn, printedIn, pairsAt, printedYears, depositionOf, receptorWith, scenarioWith, entered, enteredFrom, ordinaryOf, exactAt}
 use Rattle.sheet.specs.DemandThree.{Exact}
 use Rattle.sheet.specs.Sheet.{pathwayAt, hasReference, chained, linesPerReceptor, fastChemicals, largeLines}
 use Rattle.report.specs.Report.{rowAt, totalRow, rowsAt, rowsOf, linesOfReport, lengthOf, reportConditions, Call, ordinary, scenarioOf, exactOf, allConditions, statusOf, outcomeFor, outcomeOf, bufferWith, bufferFor, bufferOf}
-use Rattle.report.specs.DemandTwo.{lineIn, ByRule, Printed, Reported, Refused, Demand2, Entered}
+use Rattle.report.specs.DemandTwo.{lineIn, ByRule, Printed, Reported, Refused, Demand2, Exposed, Entered}
 use Rattle.sheet.proofs.CaseLaws.{line-by-rule}
 use Rattle.sheet.proofs.Sound.{Sound}
 use Rattle.sheet.proofs.Inputs.{source-entered, source-rested}
-use Rattle.sheet.proofs.Entered.{entered-at, ordinary-sound, receptor-entered}
+use Rattle.sheet.proofs.ExposureLaws.{deposition-told}
+use Rattle.sheet.proofs.Entered.{entered-at, exposure-told, ordinary-sound, receptor-entered}
+use Rattle.report.proofs.Exposures.{exposed}
 use Rattle.sheet.proofs.Chains.{chained-split, chained-length}
 use Rattle.report.proofs.Fitting.{SmallIds, small-ids, row-fits, total-row-fits}
 
@@ -250,8 +252,26 @@ module _ (call : Call) (Made : Case → Type 0) (sounds : Sounds call Made) wher
   demand-2-of deck buffer = by-status deck buffer (statusOf call deck (length buffer)) refl
 
 -- ---- the ordinary call
+-- an ordinary deck's receptors are made as demand 2 says
+module _ (case : Case) (ranged : Ranged Ordinary case) where
+  exposed-at : (j i : ℕ) → j < case .receptors .count
+      → Exposed (printedYears (valueAt (receptorAt case j) (placeOf "T2"))) (depositionOf (case .site)) (stayIn (ordinaryOf case) j) (pairsAt (ordinaryOf case) j i .later)
+  unfolding stayIn pairsAt receptorIn ordinaryOf scenarioWith entered receptorWith depositionOf
+  exposed-at j i h =
+      subst (λ (r : receptors.Receptor). Exposed (printedYears (valueAt (receptorAt case j) (placeOf "T2"))) (depositionOf (case .site)) (r .stay) (r .later)) (sym (entered-at case ranged j h))
+      (exposed (printedYears (valueAt (receptorAt case j) (placeOf "T2"))) (depositionOf (case .site)) (exposure-told case ranged j h .exact .time) (deposition-told Ordinary case ranged .exact .time))
+
+  ordinary-made : Entered case
+  ordinary-made =
+      record {
+        entered = receptor-entered case ranged;
+        deposition = record { taken = deposition-told Ordinary case ranged .told };
+        exposure = λ j h. record { taken = exposure-told case ranged j h .told };
+        exposed = exposed-at;
+      }
+
 entered-ids : (deck : List ℕ) → Ranged Ordinary (caseOf deck) → (j : ℕ) → j < caseOf deck .receptors .count → receptorIn (scenarioOf ordinary deck) j .id < 10 ^ 6
-unfolding receptorIn scenarioOf ordinary scenarioWith entered
+unfolding receptorIn scenarioOf ordinary scenarioWith entered receptorWith
 entered-ids deck ranged j h = subst (λ (r : receptors.Receptor). r .id < 10 ^ 6) (sym (entered-at (caseOf deck) ranged j h)) (small-ids deck .0 j h)
 
 pub ordinary-sounds : Sounds ordinary Entered
@@ -260,7 +280,7 @@ ordinary-sounds =
     record {
       sound = λ deck e. ordinary-sound (caseOf deck) (accepted Ordinary deck e);
       ids = λ deck e. record { receptor = entered-ids deck (accepted Ordinary deck e); chemical = small-ids deck .1 };
-      made = λ deck e. record { entered = receptor-entered (caseOf deck) (accepted Ordinary deck e) };
+      made = λ deck e. ordinary-made (caseOf deck) (accepted Ordinary deck e);
     }
 
 pub demand-2 : Demand2 ordinary Entered

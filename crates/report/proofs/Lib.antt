@@ -3,5 +3,6 @@ mod Written
 mod ReportLaws
 pub mod CallLaws
 pub mod Fitting
+pub mod Exposures
 pub mod DemandTwo
 pub mod DemandThree

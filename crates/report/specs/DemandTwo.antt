@@ -2,7 +2,7 @@
 -- holds, and the whole report stands in the buffer, each line the working rule's, to be read back; or one holds, the first of them is told,
 -- and no byte changed.
 use mathlib.Core.Path.{_≡_}
-use mathlib.Core.Bool.{true}
+use mathlib.Core.Bool.{true, not}
 use mathlib.Core.List.{List, _∷_, _++_}
 use mathlib.Core.Logic.{_⊎_}
 use Prim.Native.Nat.{ℕ, _+_, _*_, _<_}
@@ -14,16 +14,21 @@ use Rattle.pair.specs.Number.{isPair}
 use Rattle.pair.specs.Calls.{is, inUnits, entry, oneMinusEntry}
 use Rattle.slots.specs.Slots.{Slot, ownerOf, placeOf, atMostOne}
 use Rattle.slots.specs.declared.Owner.the-variants.{Receptor}
+use Rattle.years.specs.declared.Years.{Years}
+use Rattle.years.specs.Years as years
+use Rattle.equations.specs.declared.Stay.{Stay}
+use Rattle.equations.specs.declared.Stay.the-variants.{Beyond}
 use Rattle.equations.specs.declared.Effect.{Effect}
 use Rattle.equations.specs.declared.Pathway.{Pathway}
 use Rattle.deck.specs.declared.Case.{Case}
+use Rattle.deck.specs.declared.Value.{Value}
 use Rattle.deck.specs.declared.Value.the-variants as Values
 use Rattle.deck.specs.Conditions.{Condition, NoneHolds}
 use Rattle.deck.specs.Cases.{caseOf, valueAt, receptorAt}
 use Rattle.totals.specs.declared.Columns.the-variants as Cols
 use Rattle.text.specs.Text.{reportLineWidth, rowText, FitsColumns}
-use Rattle.sheet.specs.Values.{Scenario, printedIn, pairsAt, ordinaryOf}
-use Rattle.sheet.specs.Sheet.{pathwaysPerChemical, pathwayAt, hasReference, figureAt, unitOf, columnsAt, linesPerReceptor}
+use Rattle.sheet.specs.Values.{Scenario, stayIn, printedIn, pairsAt, printedYears, depositionOf, ordinaryOf}
+use Rattle.sheet.specs.Sheet.{isBeyond, pathwaysPerChemical, pathwayAt, hasReference, figureAt, unitOf, columnsAt, linesPerReceptor}
 use Rattle.report.specs.Report.{rowAt, totalRow, Call, scenarioOf, allConditions, lengthOf, outcomeOf, bufferOf}
 
 -- line l of a report, counted from 0
@@ -80,7 +85,22 @@ pub record Refused (call : Call) (deck buffer : List ℕ) : Type 0 where
 unfoldable pub Demand2 : Call → (Case → Type 0) → Type 0
 Demand2 call Made = (deck buffer : List ℕ) → Reported call Made deck buffer ⊎ Refused call deck buffer
 
--- An ordinary deck's receptors are made so: each slot's pair is the entry of the value that is printed there.
+-- An exposure T2 is set against the deposition tD on the printed digits (document 02, P4): T2 ≤ tD is decided by the exact times, and beyond it
+-- T2 − tD is their exact difference, rounded once.
+pub record Exposed (exposure deposition : Years) (stay : Stay) (later : Pair) : Type 0 where
+  pub order : years.atMost exposure deposition ≡ is (not (isBeyond stay))
+  pub difference : stay ≡ Beyond → years.beyond exposure deposition ≡ is later
+
+-- a printed time is taken as it is
+pub record Timed (v : Value) : Type 0 where
+  pub taken : (digits : ℕ) (power : ℤ) → v ≡ Values.Printed power digits → years.printed digits power ≡ is (printedYears v)
+
+-- An ordinary deck's receptors are made so: each slot's pair is the entry of the value that is printed there, and T2 is set against tD as both are
+-- printed.
 pub record Entered (case : Case) : Type 0 where
   pub entered : (j i : ℕ) → j < case .receptors .count → (s : Slot) (digits : ℕ) (power : ℤ) → ownerOf s ≡ Receptor
       → valueAt (receptorAt case j) (placeOf s) ≡ Values.Printed power digits → entry digits power ≡ is (pairsAt (ordinaryOf case) j i .value s)
+  pub deposition : Timed (valueAt (case .site) (placeOf "tD"))
+  pub exposure : (j : ℕ) → j < case .receptors .count → Timed (valueAt (receptorAt case j) (placeOf "T2"))
+  pub exposed : (j i : ℕ) → j < case .receptors .count
+      → Exposed (printedYears (valueAt (receptorAt case j) (placeOf "T2"))) (depositionOf (case .site)) (stayIn (ordinaryOf case) j) (pairsAt (ordinaryOf case) j i .later)

@@ -188,13 +188,13 @@ module _ (site′ : Values) (sources : Sources) (list : List Receptor) (j : ℕ)
       same (576 * i + 288 * sideOf e + 96 * partOf w + q) (omega arith)
 
   pub receptor-held : (r : Values) → r ≡ getD list j noReceptor .values → CellsFilled site′ sources list j before → SameBelow (576 * j) before after
-      → CellsHold (columnsWorked site′ sources r) (sources .count * 6) after (576 * j) → CellsEmpty (sources .count * 6) after (576 * j)
+      → CellsHold (columnsWorked site′ sources j r) (sources .count * 6) after (576 * j) → CellsEmpty (sources .count * 6) after (576 * j)
       → CellsFilled site′ sources list (j + 1) after
   receptor-held r is-receptor filled same held empty i h =
       let most : i ≤ j = omega arith in
       ⊎-elim
       (λ z. (
-        λ e w q l. rw z (held e w q l ∙ ap (λ (x : Values). cellOf w (columnsWorked site′ sources x q e)) is-receptor),
+        λ e w q l. rw z (held e w q l ∙ ap (λ (x : Values). cellOf w (columnsWorked site′ sources j x q e)) is-receptor),
         λ e w q l m. rw z (empty e w q l m),
       ))
       (λ m. (

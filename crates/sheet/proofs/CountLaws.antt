@@ -25,8 +25,8 @@ use Rattle.sheet.specs.Values.{Scenario, valuesOf, chemicalIn, receptorI
 use Rattle.sheet.specs.declared.Source.{Source}
 use Rattle.sheet.specs.declared.Sources.{Sources}
 use Rattle.sheet.specs.Sheet.{chained, pathwayAt, columnsAt, overCap, linesPerReceptor, lineTooLarge, largeLines}
-use Rattle.sheet.specs.Counts.{tooMany, isRefused, mediaFor, noMediaAt, sheetConditions, Part, cellOf, sideOf, effectAt, partAt, lineColumns, cellAt, cellsOf, noCells, cellsFor, sheetStatus, sheetCells}
-use Rattle.sheet.specs.Inner.{columnsOf, aboveCap, mediaWith, sourceOf, sourcesOf, sourceAt, refusedSource, figuresFrom, figureFor, figuresWorked, columnsWorked, isLarge, largeLine, largeChemical, largeWorked, perReceptor, allLarge, partOf, CellsFilled, ZeroFrom}
+use Rattle.sheet.specs.Counts.{tooMany, groundFor, meanFor, stopsAt, noMediaAt, sheetConditions, Part, cellOf, sideOf, effectAt, partAt, lineColumns, cellAt, cellsOf, noCells, cellsFor, sheetStatus, sheetCells}
+use Rattle.sheet.specs.Inner.{columnsOf, aboveCap, groundWith, sourceOf, sourcesOf, sourceAt, stopsWith, refusedSource, figuresFrom, figureFor, figuresWorked, columnsWorked, isLarge, largeLine, largeChemical, largeWorked, perReceptor, allLarge, partOf, CellsFilled, ZeroFrom}
 use Rattle.sheet.proofs.Chains.{chained-same, chained-each}
 use Rattle.sheet.proofs.ChemicalLaws.{source-at}
 use Rattle.sheet.proofs.SourceLaws.{line-figures}
@@ -44,7 +44,7 @@ column-place (suc (suc (suc (suc (suc zero))))) h = refl
 column-place (suc (suc (suc (suc (suc (suc c)))))) h = absurd (omega arith)
 
 module _ (scenario : Scenario) (site′ : Values) (sources : Sources) (cells : List ℕ) (count-is : sources .count ≡ scenario .chemicals .count)
-    (agree : (j q : ℕ) → q < scenario .chemicals .count * 6 → (e : Effect) → columnsWorked site′ sources (receptorIn scenario j .values) q e ≡ columnsAt e scenario j (q / 6) (pathwayAt (q % 6)))
+    (agree : (j q : ℕ) → j < scenario .receptors .count → q < scenario .chemicals .count * 6 → (e : Effect) → columnsWorked site′ sources j (receptorIn scenario j .values) q e ≡ columnsAt e scenario j (q / 6) (pathwayAt (q % 6)))
     (filled : CellsFilled site′ sources (scenario .receptors .list) (scenario .receptors .count) cells) (rest : ZeroFrom (576 * scenario .receptors .count) cells) where
   cell-is : (j q k : ℕ) (e : Effect) (w : Part) → k ≡ 576 * j + 288 * sideOf e + 96 * partOf w + q → 576 * j ≤ k → q < 96 → (t u : Bool) → ltb j (scenario .receptors .count) ≡ t
       → ltb q (scenario .chemicals .count * 6) ≡ u → getD cells k 0 ≡ cellOf w (cond (t && u) (columnsAt e scenario j (q / 6) (pathwayAt (q % 6))) Cols.Absent)
@@ -52,7 +52,7 @@ module _ (scenario : Scenario) (site′ : Values) (sources : Sources) (cells : L
   cell-is j q k e w place least small true true a b =
       rw place
       (filled j (ltb-true j (scenario .receptors .count) a) .0 e w q (rw count-is (ltb-true q (scenario .chemicals .count * 6) b))
-      ∙ ap (cellOf w) (agree j q (ltb-true q (scenario .chemicals .count * 6) b) e))
+      ∙ ap (cellOf w) (agree j q (ltb-true j (scenario .receptors .count) a) (ltb-true q (scenario .chemicals .count * 6) b) e))
   cell-is j q k e w place least small true false a b =
       rw place (filled j (ltb-true j (scenario .receptors .count) a) .1 e w q (omega (arith, count-is, ltb-false q (scenario .chemicals .count * 6) b)) small)
   cell-is j q k e w place least small false u a b = rest k (omega (arith, ltb-false j (scenario .receptors .count) a))
@@ -72,58 +72,58 @@ module _ (scenario : Scenario) (site′ : Values) (sources : Sources) (cells : L
       (λ k h. filled-at-place k (omega arith) ∙ sym (tabulated (cellAt scenario) 0 2304 k (omega arith)))
 
 -- ---- the lines of a scenario of which no chemical stops
-module _ (scenario : Scenario) (site′ : Values) (sources : Sources) (at-site : site′ ≡ valuesOf (scenario .site)) (sources-are : sources ≡ sourcesOf site′ (scenario .chemicals))
+module _ (scenario : Scenario) (site′ : Values) (sources : Sources) (at-site : site′ ≡ valuesOf (scenario .site)) (sources-are : sources ≡ sourcesOf site′ (scenario .receptors) (scenario .chemicals))
     (none : first (chained (noMediaAt scenario) (scenario .chemicals .count)) ≡ Read) where
   count-is : sources .count ≡ scenario .chemicals .count
   unfolding sourcesOf
   count-is = ap (λ (x : Sources). x .count) sources-are
 
-  media-found : (i : ℕ) → i < scenario .chemicals .count → isRefused (mediaFor scenario i) ≡ false
+  media-found : (i : ℕ) → i < scenario .chemicals .count → stopsAt (groundFor scenario i) (meanFor scenario i) (scenario .receptors .count) ≡ false
   unfolding noMediaAt
-  media-found i h = first-read (at 41 (suc i) 0 (isRefused (mediaFor scenario i))) [] (chained-each (noMediaAt scenario) (scenario .chemicals .count) none i h) .0
+  media-found i h = first-read (at 41 (suc i) 0 (stopsAt (groundFor scenario i) (meanFor scenario i) (scenario .receptors .count))) [] (chained-each (noMediaAt scenario) (scenario .chemicals .count) none i h) .0
 
   -- the line of chemical i by pathway p
-  module _ (j i p : ℕ) (h : i < scenario .chemicals .count) where
-    figures-are : figuresFrom site′ (receptorIn scenario j .values) (sourceAt sources i) (pathwayAt p)
-        ≡ figuresFrom (valuesOf (scenario .site)) (receptorIn scenario j .values) (sourceOf (valuesOf (scenario .site)) (chemicalIn scenario i)) (pathwayAt p)
+  module _ (j i p : ℕ) (l : j < scenario .receptors .count) (h : i < scenario .chemicals .count) where
+    figures-are : figuresFrom site′ j (receptorIn scenario j .values) (sourceAt sources i) (pathwayAt p)
+        ≡ figuresFrom (valuesOf (scenario .site)) j (receptorIn scenario j .values) (sourceOf (valuesOf (scenario .site)) (scenario .receptors) (chemicalIn scenario i)) (pathwayAt p)
     unfolding chemicalIn
     figures-are =
         let r : Values = receptorIn scenario j .values in
-        ap (λ (x : Sources). figuresFrom site′ r (sourceAt x i) (pathwayAt p)) sources-are
-        ∙ ap (λ (s : Source). figuresFrom site′ r s (pathwayAt p)) (source-at site′ (scenario .chemicals) i h)
-        ∙ ap (λ (v : Values). figuresFrom v r (sourceOf v (chemicalIn scenario i)) (pathwayAt p)) at-site
+        ap (λ (x : Sources). figuresFrom site′ j r (sourceAt x i) (pathwayAt p)) sources-are
+        ∙ ap (λ (s : Source). figuresFrom site′ j r s (pathwayAt p)) (source-at site′ (scenario .receptors) (scenario .chemicals) i h)
+        ∙ ap (λ (v : Values). figuresFrom v j r (sourceOf v (scenario .receptors) (chemicalIn scenario i)) (pathwayAt p)) at-site
 
-    figure-columns : (e : Effect) → columnsOf e (figureFor e (figuresFrom site′ (receptorIn scenario j .values) (sourceAt sources i) (pathwayAt p))) ≡ columnsAt e scenario j i (pathwayAt p)
-    figure-columns e = ap (λ (f : Figured). columnsOf e (figureFor e f)) figures-are ∙ line-figures scenario j i (pathwayAt p) h (media-found i h) e .0
+    figure-columns : (e : Effect) → columnsOf e (figureFor e (figuresFrom site′ j (receptorIn scenario j .values) (sourceAt sources i) (pathwayAt p))) ≡ columnsAt e scenario j i (pathwayAt p)
+    figure-columns e = ap (λ (f : Figured). columnsOf e (figureFor e f)) figures-are ∙ line-figures scenario j i (pathwayAt p) l (media-found i h) e .0
 
-    cap-agrees : (e : Effect) → aboveCap e (figureFor e (figuresFrom site′ (receptorIn scenario j .values) (sourceAt sources i) (pathwayAt p))) ≡ overCap e scenario j i (pathwayAt p)
-    cap-agrees e = ap (λ (f : Figured). aboveCap e (figureFor e f)) figures-are ∙ line-figures scenario j i (pathwayAt p) h (media-found i h) e .1
+    cap-agrees : (e : Effect) → aboveCap e (figureFor e (figuresFrom site′ j (receptorIn scenario j .values) (sourceAt sources i) (pathwayAt p))) ≡ overCap e scenario j i (pathwayAt p)
+    cap-agrees e = ap (λ (f : Figured). aboveCap e (figureFor e f)) figures-are ∙ line-figures scenario j i (pathwayAt p) l (media-found i h) e .1
 
-    line-agrees : largeLine site′ (receptorIn scenario j .values) (sourceAt sources i) (j * perReceptor (sources .count) + i * 6) p ≡ lineTooLarge scenario j i p
+    line-agrees : largeLine site′ j (receptorIn scenario j .values) (sourceAt sources i) (j * perReceptor (sources .count) + i * 6) p ≡ lineTooLarge scenario j i p
     unfolding largeLine lineTooLarge linesPerReceptor isLarge figureFor
     line-agrees =
         let place : j * perReceptor (sources .count) + i * 6 + suc p ≡ j * perReceptor (scenario .chemicals .count) + i * 6 + suc p = rw count-is refl in
         ap₂ (λ (n : ℕ) (b : Bool). at 42 n 0 b ∷ []) place (ap₂ _||_ (cap-agrees Hazard) (cap-agrees Cancer))
 
-  columns-agree : (j q : ℕ) → q < scenario .chemicals .count * 6 → (e : Effect) → columnsWorked site′ sources (receptorIn scenario j .values) q e ≡ columnsAt e scenario j (q / 6) (pathwayAt (q % 6))
+  columns-agree : (j q : ℕ) → j < scenario .receptors .count → q < scenario .chemicals .count * 6 → (e : Effect) → columnsWorked site′ sources j (receptorIn scenario j .values) q e ≡ columnsAt e scenario j (q / 6) (pathwayAt (q % 6))
   unfolding columnsWorked figuresWorked
-  columns-agree j q h e = figure-columns j (q / 6) (q % 6) (omega arith) e
+  columns-agree j q l h e = figure-columns j (q / 6) (q % 6) l (omega arith) e
 
-  receptor-agrees : (j : ℕ) → largeWorked site′ sources (receptorIn scenario j .values) (j * perReceptor (sources .count))
+  receptor-agrees : (j : ℕ) → j < scenario .receptors .count → largeWorked site′ sources j (receptorIn scenario j .values) (j * perReceptor (sources .count))
       ≡ chained (λ i. chained (lineTooLarge scenario j i) 6) (scenario .chemicals .count)
   unfolding largeWorked largeChemical
-  receptor-agrees j =
+  receptor-agrees j m =
       let r : Values = receptorIn scenario j .values in
       let before : ℕ = j * perReceptor (sources .count) in
-      ap (chained (λ i. chained (largeLine site′ r (sourceAt sources i) (before + i * 6)) 6)) count-is
-      ∙ chained-same (λ i. chained (largeLine site′ r (sourceAt sources i) (before + i * 6)) 6) (λ i. chained (lineTooLarge scenario j i) 6) (scenario .chemicals .count)
-      (λ i h. chained-same (largeLine site′ r (sourceAt sources i) (before + i * 6)) (lineTooLarge scenario j i) 6 (λ p l. line-agrees j i p h))
+      ap (chained (λ i. chained (largeLine site′ j r (sourceAt sources i) (before + i * 6)) 6)) count-is
+      ∙ chained-same (λ i. chained (largeLine site′ j r (sourceAt sources i) (before + i * 6)) 6) (λ i. chained (lineTooLarge scenario j i) 6) (scenario .chemicals .count)
+      (λ i h. chained-same (largeLine site′ j r (sourceAt sources i) (before + i * 6)) (lineTooLarge scenario j i) 6 (λ p l. line-agrees j i p m h))
 
   lines-agree : allLarge site′ sources (scenario .receptors .list) (scenario .receptors .count) ≡ largeLines scenario
   unfolding allLarge largeLines receptorIn
   lines-agree =
-      chained-same (λ j. largeWorked site′ sources (receptorIn scenario j .values) (j * perReceptor (sources .count)))
-      (λ j. chained (λ i. chained (lineTooLarge scenario j i) 6) (scenario .chemicals .count)) (scenario .receptors .count) (λ j h. receptor-agrees j)
+      chained-same (λ j. largeWorked site′ sources j (receptorIn scenario j .values) (j * perReceptor (sources .count)))
+      (λ j. chained (λ i. chained (lineTooLarge scenario j i) 6) (scenario .chemicals .count)) (scenario .receptors .count) (λ j h. receptor-agrees j h)
 
 -- ---- the counts
 module _ (scenario : Scenario) where
@@ -156,22 +156,22 @@ module _ (scenario : Scenario) where
           rw (le-ltb 16 (scenario .chemicals .count) few-chemicals, le-ltb 4 (scenario .receptors .count) few-receptors)
           (first-append (chained (noMediaAt scenario) (scenario .chemicals .count)) (largeLines scenario))
 
-      chemicals-agree : chained (refusedSource site′ (scenario .chemicals .records)) (scenario .chemicals .count) ≡ chained (noMediaAt scenario) (scenario .chemicals .count)
-      unfolding refusedSource noMediaAt mediaWith mediaFor chemicalIn
+      chemicals-agree : chained (refusedSource site′ (scenario .receptors) (scenario .chemicals .records)) (scenario .chemicals .count) ≡ chained (noMediaAt scenario) (scenario .chemicals .count)
+      unfolding refusedSource stopsWith noMediaAt groundWith groundFor meanFor chemicalIn receptorIn
       chemicals-agree =
-          chained-same (refusedSource site′ (scenario .chemicals .records)) (noMediaAt scenario) (scenario .chemicals .count)
-          (λ i h. ap (λ (v : Values). refusedSource v (scenario .chemicals .records) i) at-site)
+          chained-same (refusedSource site′ (scenario .receptors) (scenario .chemicals .records)) (noMediaAt scenario) (scenario .chemicals .count)
+          (λ i h. ap (λ (v : Values). refusedSource v (scenario .receptors) (scenario .chemicals .records) i) at-site)
 
       -- 41
-      pub chemical-stops : (s : Status) → s ≡ first (chained (refusedSource site′ (scenario .chemicals .records)) (scenario .chemicals .count)) → (number line field : ℕ)
+      pub chemical-stops : (s : Status) → s ≡ first (chained (refusedSource site′ (scenario .receptors) (scenario .chemicals .records)) (scenario .chemicals .count)) → (number line field : ℕ)
           → s ≡ Stopped number line field → (cells : List ℕ) → cells ≡ noCells → Told s cells
       unfolding orElse
       chemical-stops s is-first number line field stop cells none =
           let here : first (chained (noMediaAt scenario) (scenario .chemicals .count)) ≡ Stopped number line field = sym (is-first ∙ ap first chemicals-agree) ∙ stop in
           stopped-counts s number line field stop (stop ∙ sym (conditions-are ∙ ap (λ (t : Status). orElse t (first (largeLines scenario))) here)) cells none
 
-      module _ (sources : Sources) (sources-are : sources ≡ sourcesOf site′ (scenario .chemicals))
-          (ready : first (chained (refusedSource site′ (scenario .chemicals .records)) (scenario .chemicals .count)) ≡ Read) where
+      module _ (sources : Sources) (sources-are : sources ≡ sourcesOf site′ (scenario .receptors) (scenario .chemicals))
+          (ready : first (chained (refusedSource site′ (scenario .receptors) (scenario .chemicals .records)) (scenario .chemicals .count)) ≡ Read) where
         pub sources-few : sources .count ≤ 16
         unfolding sourcesOf
         sources-few = rw sources-are few-chemicals

@@ -11,7 +11,7 @@ use Rattle.sheet.specs.Sheet.{pathwaysPerChemical, pathwayAt, columnsAt,
 use Rattle.sheet.specs.DemandThree.{Exact, exactLine, lineCounts, sumOver, countOver, exactTotal, linesAdded, TotalHolds, CaseDemand3}
 use Rattle.sheet.proofs.Sound.{Sound}
 use Rattle.sheet.proofs.Entered.{ordinary-sound}
-use Rattle.sheet.proofs.Clear.{not-fast, not-large}
+use Rattle.sheet.proofs.Clear.{not-fast, not-fast-later, not-large}
 use Rattle.sheet.proofs.LineTotals.{line-totals}
 use Rattle.sheet.proofs.TotalLaws.{totals-over, totals-hold}
 
@@ -24,7 +24,7 @@ scenario-demand-3 scenario {exact} sound slow small j l N n e =
     (λ i. sumOver (λ p. exactLine e scenario exact N j i (pathwayAt p)) pathwaysPerChemical) (scenario .chemicals .count)
     (λ i h.
     totals-over (λ p. columnsAt e scenario j i (pathwayAt p)) (λ p. lineCounts e scenario i (pathwayAt p)) (λ p. exactLine e scenario exact N j i (pathwayAt p)) pathwaysPerChemical
-    (λ p k. line-totals scenario sound j i l h (not-fast scenario slow i h) e (pathwayAt p) (not-large scenario small e j i p l h k) N n)))
+    (λ p k. line-totals scenario sound j i l h (not-fast scenario slow i h) (not-fast-later scenario slow i h j l) e (pathwayAt p) (not-large scenario small e j i p l h k) N n)))
 
 pub case-demand-3 : CaseDemand3
 unfolding CaseDemand3 ordinaryOf scenarioWith enteredFrom

@@ -1,5 +1,6 @@
 -- An ordinary deck's receptors: their slots' pairs are the entries of what is printed, in range of it. Assumes nothing.
 use mathlib.Core.Path.{_≡_, refl, sym, ap, _∙_, subst}
+use mathlib.Core.Bool.{true}
 use mathlib.Core.List.{[], _∷_}
 use Prim.Native.Nat.{ℕ, _≤_, _<_}
 use native.Mathlib.Omega.{arith}
@@ -7,13 +8,14 @@ use lib.Dec.{lit<}
 use lib.IntN.{ℤ}
 use lib.ListN.{length, getD}
 use Rattle.pair.specs.declared.Pair.{Pair}
+use Rattle.pair.specs.Fraction.{minus}
 use Rattle.pair.specs.Calls.{is, entry}
 use Rattle.slots.specs.declared.Sort.the-variants.{Ordinary}
-use Rattle.slots.specs.Slots.{Slot, ruleFor, ownerOf, placeOf}
+use Rattle.slots.specs.Slots.{Slot, positive, table, same, isIn, placeIn, ruleIn, ruleAt, ruleFor, ownerOf, placeOf}
 use Rattle.slots.specs.declared.Owner.the-variants.{Receptor}
 use Rattle.equations.specs.Readings.{valueIn, byOwner, inputs}
 use Rattle.equations.proofs.Profile.{Good}
-use Rattle.equations.proofs.LineLaws.{ofSlot, printed-good}
+use Rattle.equations.proofs.LineLaws.{ofSlot, ofLater, printed-good}
 use Rattle.equations.proofs.ValueLaws.{read-any}
 use Rattle.deck.specs.declared.Case.{Case}
 use Rattle.deck.specs.declared.Record.{Record}
@@ -22,19 +24,28 @@ use Rattle.deck.specs.Cases.{tabulate, noRecord, valueAt, receptorAt}
 use Rattle.deck.specs.Ranged.{Fits, Ranged}
 use Rattle.sheet.specs.declared.Receptor as receptors
 use Rattle.sheet.specs.declared.Receptors as many
-use Rattle.sheet.specs.Values.{pairOf, noReceptor, receptorIn, pairsAt, entered, scenarioWith, enteredFrom, ordinaryOf, fractionOf, exactFrom, exactAt}
+use Rattle.sheet.specs.Values.{pairOf, noReceptor, receptorIn, pairsAt, printedYears, depositionOf, receptorWith, entered, scenarioWith, enteredFrom, ordinaryOf, fractionOf, exactFrom, exactAt}
 use Rattle.sheet.proofs.Sound.{Sound}
 use Rattle.deck.proofs.Accepted.{tabulated}
 use Rattle.sheet.proofs.Inputs.{value-good, value-entered, value-at, receptor-fits, made-sound}
+use Rattle.sheet.proofs.ExposureLaws.{Told, time-told, deposition-told, later-good}
+
+T2-rule : ruleFor Ordinary "T2" ≡ positive
+unfolding ruleFor ruleAt ruleIn ownerOf placeOf placeIn isIn same table
+T2-rule = refl
+
+T2-owner : ownerOf "T2" ≡ Receptor
+unfolding ownerOf isIn same table
+T2-owner = refl
 
 module _ (case : Case) (ranged : Ranged Ordinary case) where
-  pub entered-at : (j : ℕ) → j < case .receptors .count → getD (enteredFrom case .list) j noReceptor ≡ entered (receptorAt case j)
+  pub entered-at : (j : ℕ) → j < case .receptors .count → getD (enteredFrom case .list) j noReceptor ≡ entered (depositionOf (case .site)) (receptorAt case j)
   unfolding enteredFrom
-  entered-at j h = tabulated (λ k. entered (receptorAt case k)) noReceptor 4 j (omega (arith, ranged .few-receptors))
+  entered-at j h = tabulated (λ k. entered (depositionOf (case .site)) (receptorAt case k)) noReceptor 4 j (omega (arith, ranged .few-receptors))
 
   entered-good : (j : ℕ) → j < case .receptors .count → (s : Slot) → ownerOf s ≡ Receptor
       → Good (ofSlot s) (is (valueIn (getD (enteredFrom case .list) j noReceptor .values) (placeOf s))) (exactFrom case j s)
-  unfolding exactFrom entered
+  unfolding exactFrom entered receptorWith
   entered-good j h s e =
       let at : valueIn (getD (enteredFrom case .list) j noReceptor .values) (placeOf s) ≡ pairOf (valueAt (receptorAt case j) (placeOf s)) =
       ap (λ (r : receptors.Receptor). valueIn (r .values) (placeOf s)) (entered-at j h) ∙ value-at (receptorAt case j) (placeOf s)
@@ -44,7 +55,7 @@ module _ (case : Case) (ranged : Ranged Ordinary case) where
 
   receptor-at : (j i : ℕ) → j < case .receptors .count → (s : Slot) → ownerOf s ≡ Receptor
       → pairsAt (ordinaryOf case) j i .value s ≡ pairOf (valueAt (receptorAt case j) (placeOf s))
-  unfolding pairsAt inputs ordinaryOf scenarioWith receptorIn byOwner entered
+  unfolding pairsAt inputs ordinaryOf scenarioWith receptorIn byOwner entered receptorWith
   receptor-at j i h s e =
       rw e
       (ap (λ (r : receptors.Receptor). valueIn (r .values) (placeOf s)) (entered-at j h) ∙ value-at (receptorAt case j) (placeOf s))
@@ -56,14 +67,26 @@ module _ (case : Case) (ranged : Ranged Ordinary case) where
       value-entered Ordinary s digits power (subst (Fits (ruleFor Ordinary s)) there (receptor-fits Ordinary case ranged j h s e))
       ∙ ap (λ (q : Pair). is q) (sym (receptor-at j i h s e ∙ ap pairOf there))
 
+  -- T2 and tD, exact
+  pub exposure-told : (j : ℕ) → j < case .receptors .count → Told (valueAt (receptorAt case j) (placeOf "T2"))
+  exposure-told j h = time-told Ordinary "T2" T2-rule (valueAt (receptorAt case j) (placeOf "T2")) (receptor-fits Ordinary case ranged j h "T2" T2-owner)
+
+  later-entered : (j : ℕ) → j < case .receptors .count → ofLater (getD (enteredFrom case .list) j noReceptor .stay) .answered ≡ true
+      → Good (ofLater (getD (enteredFrom case .list) j noReceptor .stay)) (is (getD (enteredFrom case .list) j noReceptor .later)) (minus (exactFrom case j "T2") (fractionOf (valueAt (case .site) (placeOf "tD"))))
+  unfolding entered receptorWith depositionOf exactFrom
+  later-entered j h =
+      rw (entered-at j h)
+      (later-good (printedYears (valueAt (receptorAt case j) (placeOf "T2"))) (depositionOf (case .site)) (exactFrom case j "T2") (fractionOf (valueAt (case .site) (placeOf "tD")))
+      (exposure-told j h .exact) (deposition-told Ordinary case ranged .exact))
+
   pub ordinary-sound : Sound (ordinaryOf case) (exactAt case)
   unfolding ordinaryOf exactAt enteredFrom
-  ordinary-sound = made-sound Ordinary case ranged (enteredFrom case) (exactFrom case) (ranged .some-receptors) (ranged .few-receptors) entered-good
+  ordinary-sound = made-sound Ordinary case ranged (enteredFrom case) (exactFrom case) (ranged .some-receptors) (ranged .few-receptors) entered-good later-entered
 
 -- the receptors as they are made: the first four records entered
 pub entered-all : (case : Case) (blank : Record) → 4 ≤ length (case .receptors .records) → (a b c d : receptors.Receptor)
-    → a ≡ entered (getD (case .receptors .records) 0 blank) → b ≡ entered (getD (case .receptors .records) 1 blank)
-    → c ≡ entered (getD (case .receptors .records) 2 blank) → d ≡ entered (getD (case .receptors .records) 3 blank)
+    → a ≡ entered (depositionOf (case .site)) (getD (case .receptors .records) 0 blank) → b ≡ entered (depositionOf (case .site)) (getD (case .receptors .records) 1 blank)
+    → c ≡ entered (depositionOf (case .site)) (getD (case .receptors .records) 2 blank) → d ≡ entered (depositionOf (case .site)) (getD (case .receptors .records) 3 blank)
     → _≡_ {A = many.Receptors} (record { count = case .receptors .count; list = a ∷ b ∷ c ∷ d ∷ [] }) (enteredFrom case)
 unfolding enteredFrom tabulate receptorAt
 entered-all case blank long a b c d p q r s =

@@ -14,12 +14,12 @@ use lib.Pow.{pow-add}
 use lib.Signed.{mag}
 use borrow.Author.Tests.{leb-true, not-true}
 use Rattle.pair.specs.declared.Pair.{Pair}
-use Rattle.pair.specs.Fraction.{Fraction, rest}
+use Rattle.pair.specs.Fraction.{Fraction, rest, minus}
 use Rattle.pair.specs.Number.{depth, place}
 use Rattle.pair.specs.Calls.{is, entry, oneMinusEntry, zeroPair, onePair}
 use Rattle.pair.specs.Promises.{Sized, scaled}
 use Rattle.pair.proofs.Promises.{one-entry, one-less-one, entry-answered, entry-around, scaled-proper, rest-entry-answered, rest-entry-around, rest-scaled-proper, rest-scaled-sized}
-use Rattle.slots.specs.Slots.{Slot, ownerOf, placeOf, ruleOf, ruleFor, neverZero, atMostOne}
+use Rattle.slots.specs.Slots.{Slot, table, same, isIn, ownerOf, placeOf, ruleOf, ruleFor, neverZero, atMostOne}
 use Rattle.slots.specs.declared.Sort.{Sort}
 use Rattle.slots.specs.declared.Rule.{Rule}
 use Rattle.slots.specs.declared.Owner.{Owner}
@@ -28,7 +28,7 @@ use Rattle.slots.proofs.Laws.{most-rule, rule-cases}
 use Rattle.equations.specs.declared.Values.{Values}
 use Rattle.equations.specs.Readings.{valueIn, byOwner, inputs}
 use Rattle.equations.proofs.Profile.{Good, good-around}
-use Rattle.equations.proofs.LineLaws.{ofPrinted, ofSlot, ofRest, InRange, printed-good}
+use Rattle.equations.proofs.LineLaws.{ofPrinted, ofSlot, ofRest, ofLater, InRange, printed-good}
 use Rattle.deck.specs.declared.Case.{Case}
 use Rattle.deck.specs.declared.Value.{Value}
 use Rattle.deck.specs.declared.Value.the-variants.{Absent, Printed}
@@ -37,9 +37,9 @@ use Rattle.deck.specs.declared.Record.{Record}
 use Rattle.deck.specs.Ranges.{above, below, inRange}
 use Rattle.deck.specs.Cases.{noSlot, valueAt, chemicalAt, receptorAt, ownersRecord, printed}
 use Rattle.deck.specs.Ranged.{Spelled, Fits, Ranged}
-use Rattle.deck.proofs.Accepted.{range-positive, range-bounds}
+use Rattle.deck.proofs.Accepted.{range-positive, range-bounds, range-most}
 use Rattle.sheet.specs.declared.Receptors.{Receptors}
-use Rattle.sheet.specs.Values.{Scenario, orOne, pairOf, restOf, valuesOf, noReceptor, chemicalIn, receptorIn, printedIn, pairsAt, scenarioWith, fractionOf, exactWith}
+use Rattle.sheet.specs.Values.{Scenario, orOne, pairOf, restOf, valuesOf, noReceptor, chemicalIn, receptorIn, stayIn, printedIn, pairsAt, scenarioWith, fractionOf, exactWith}
 use Rattle.sheet.proofs.Sound.{Sound}
 
 -- digits × 10^power as a field spells it, in the range of slot s
@@ -137,12 +137,6 @@ one-printable s =
     }
 
 -- what a slot's rule asks of a printed value
-below-most : (s : Slot) (m : ℕ) (e : ℤ) → inRange (ruleOf s) m e ≡ true → (c : ℕ) → ruleOf s .most ≤ c → m * 10 ^ above e ≤ c * 10 ^ below e
-below-most s m e r c l =
-    ⊎-elim (λ z. rw z (omega arith))
-    (λ h. le-trans (range-bounds (ruleOf s) m e r h .1) (mul-le-mul-right (10 ^ below e) l))
-    (eq-zero-or-pos m)
-
 printable : (s : Slot) (m : ℕ) (e : ℤ) → inRange (ruleOf s) m e ≡ true → Spelled m e → Printable s m e
 unfolding neverZero atMostOne
 printable s m e r d =
@@ -151,9 +145,9 @@ printable s m e r d =
       high = omega (arith, d .high);
       low = omega (arith, d .low);
       least = ⊎-elim (λ z. inl z) (λ h. inr (range-bounds (ruleOf s) m e r h .0)) (eq-zero-or-pos m);
-      most = below-most s m e r 1000000000 (most-rule s);
+      most = range-most (ruleOf s) m e r 1000000000 (most-rule s);
       some = λ z. range-positive (ruleOf s) m e r (not-true (ruleOf s .zero) z);
-      share = λ z. below-most s m e r 1 (leb-true (ruleOf s .most) 1 z);
+      share = λ z. range-most (ruleOf s) m e r 1 (leb-true (ruleOf s .most) 1 z);
     }
 
 -- A value that is printed where a deck of this sort asks for one is as its slot's written rule asks.
@@ -248,14 +242,17 @@ module _ (sort : Sort) (case : Case) (ranged : Ranged sort case) where
 
     pub made-sound : 1 ≤ receptors′ .count → receptors′ .count ≤ 4
         → ((j : ℕ) → j < receptors′ .count → (s : Slot) → ownerOf s ≡ Receptor → Good (ofSlot s) (is (valueIn (getD (receptors′ .list) j noReceptor .values) (placeOf s))) (receptor j s))
+        → ((j : ℕ) → j < receptors′ .count → ofLater (getD (receptors′ .list) j noReceptor .stay) .answered ≡ true
+        → Good (ofLater (getD (receptors′ .list) j noReceptor .stay)) (is (getD (receptors′ .list) j noReceptor .later)) (minus (receptor j "T2") (fractionOf (valueAt (case .site) (placeOf "tD")))))
         → Sound (scenarioWith case receptors′) (exactWith case receptor)
-    unfolding scenarioWith
-    made-sound some few good =
+    unfolding scenarioWith pairsAt stayIn receptorIn exactWith byOwner ownerOf isIn same table
+    made-sound some few good later-good =
         record {
           few-chemicals = ranged .few-chemicals;
           some-receptors = some;
           few-receptors = few;
           inputs = λ j i h l s. input-ranged i l s j (good j h s);
+          later = λ j i h l t. later-good j h t;
         }
 
   -- Each slot's pair, of the site or of a chemical, is the entry of what is printed there, and 1 less a slot that is at most 1 is taken from

@@ -3,6 +3,8 @@ mod ValueLaws
 pub mod Chains
 pub mod Sound
 pub mod Inputs
+pub mod ExposureLaws
+mod Clear
 mod SourceLaws
 mod ChemicalLaws
 mod ReceptorLaws
@@ -10,7 +12,6 @@ mod CellLaws
 mod CountLaws
 pub mod Held
 pub mod Entered
-mod Clear
 mod TotalLaws
 mod LineTotals
 pub mod CaseLaws

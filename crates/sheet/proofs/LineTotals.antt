@@ -1,4 +1,4 @@
--- A line with a reference value: where x is at most 64 and the line at most its cap, its counts enclose its exact fraction and are close.
+-- A line with a reference value: where x and x′ are at most 64 and the line at most its cap, its counts enclose its exact fraction and are close.
 -- Assumes nothing.
 use mathlib.Core.Path.{_≡_, refl, sym, _∙_, ap, subst}
 use mathlib.Core.Bool.{Bool, true, false, cond, _&&_}
@@ -22,15 +22,16 @@ use Rattle.equations.specs.declared.Effect.{Effect}
 use Rattle.equations.specs.declared.Effect.the-variants.{Hazard, Cancer}
 use Rattle.equations.specs.Formula.{read, pairs}
 use Rattle.equations.specs.Page as page
-use Rattle.equations.specs.Page.{x, line}
-use Rattle.equations.specs.Readings.{letters, plain, asAnswers, exactly, inputs, byOwner}
+use Rattle.equations.specs.Page.{x, x′, line}
+use Rattle.equations.specs.declared.Stay.the-variants.{Beyond}
+use Rattle.equations.specs.Readings.{letters, noSeries, plainWith, plain, asAnswers, exactInputs, exactly, inputs, byOwner}
 use Rattle.equations.specs.Ranges.{sixtyFour}
-use Rattle.equations.proofs.LineLaws.{Works, x-answered, line-works, line-narrow}
+use Rattle.equations.proofs.LineLaws.{ofX′, Works, Slow, x-answered, x′-answered, line-works, line-narrow}
 use Rattle.deck.specs.Ranges.{above, below}
 use Rattle.slots.specs.Slots.{table, same, isIn, placeIn, ownerOf, placeOf}
 use Rattle.totals.specs.declared.Columns.the-variants as Cols
-use Rattle.sheet.specs.Values.{Scenario, pairsAt}
-use Rattle.sheet.specs.Sheet.{hasReference, figureAt, unitOf, capOf, counted, countedIn, columnsAt, isAbove, highAbove, exponentAt, overCap}
+use Rattle.sheet.specs.Values.{Scenario, stayIn, pairsAt}
+use Rattle.sheet.specs.Sheet.{hasReference, figureAt, unitOf, capOf, counted, countedIn, columnsAt, isAbove, highAbove, exponentAt, laterExponentAt, overCap}
 use Rattle.sheet.specs.DemandThree.{Exact, Enclosed, unitsPerOne, inUnitsOf, nothing, exactLine, lineCounts}
 use Rattle.sheet.proofs.Sound.{Sound}
 use Rattle.sheet.proofs.Inputs.{ten-above, place-power}
@@ -148,49 +149,67 @@ enclosed-from l h n x q a b c =
 -- the line's pair, at most the cap, and its counts
 pub record Figure (scenario : Scenario) (exact : Exact) (j i : ℕ) (e : Effect) (w : Pathway) : Type 0 where
   pub pair : Pair
-  pub works : Works (pairsAt scenario j i) (exact j i) (line e w) pair
+  pub works : Works (stayIn scenario j) (pairsAt scenario j i) (exact j i) (line e (stayIn scenario j) w) pair
   pub capped : value (pair .high) ≤ᶠ value (capOf e)
   pub units : pairUnits.Units
   pub told : inUnits pair (unitOf e) ≡ is units
 
-module _ (scenario : Scenario) {exact : Exact} (sound : Sound scenario exact) (j i : ℕ) (j-small : j < scenario .receptors .count) (i-small : i < scenario .chemicals .count) (slow : highAbove sixtyFour (exponentAt scenario i) ≡ false) where
+module _ (scenario : Scenario) {exact : Exact} (sound : Sound scenario exact) (j i : ℕ) (j-small : j < scenario .receptors .count) (i-small : i < scenario .chemicals .count) where
   -- x names no receptor's slot
-  x-same : plain pairs (asAnswers (pairsAt scenario j i) .value) x ≡ exponentAt scenario i
-  unfolding exponentAt plain asAnswers read letters x page.k page.u page.kse page.ksr page.ksl pairs pairsAt inputs byOwner ownerOf placeOf table same isIn placeIn
+  pub x-same : plain pairs (asAnswers (pairsAt scenario j i) .value) x ≡ exponentAt scenario i
+  unfolding exponentAt plain plainWith noSeries asAnswers read letters x page.k page.u page.kse page.ksr page.ksl pairs pairsAt inputs byOwner ownerOf placeOf table same isIn placeIn
   x-same = refl
 
-  pub x-most : (p : Pair) × (plain pairs (asAnswers (pairsAt scenario j i) .value) x ≡ is p) × (value (p .high) ≤ᶠ value sixtyFour)
-  x-most =
-      let a = x-answered (pairsAt scenario j i) (exact j i) (sound .inputs j i j-small i-small) in
-      let t : highAbove sixtyFour (is (a .0)) ≡ false = subst (λ (o : Outcome Pair). highAbove sixtyFour o ≡ false) (sym x-same ∙ a .1) slow in
-      (a .0, a .1, not-above sixtyFour (a .0) sixty-four-number (a .2) t)
+  -- x and x′ are pairs
+  pub x-told : (p : Pair) × (exponentAt scenario i ≡ is p) × (isPair p ≡ true)
+  x-told =
+      let a = x-answered (stayIn scenario j) (pairsAt scenario j i) (exact j i) (sound .inputs j i j-small i-small) (sound .later j i j-small i-small) in
+      (a .0, sym x-same ∙ a .1, a .2)
 
-  figure-works : (e : Effect) (w : Pathway) → (r : Pair) × Works (pairsAt scenario j i) (exact j i) (line e w) r
-  figure-works e w = line-works (pairsAt scenario j i) (exact j i) (sound .inputs j i j-small i-small) (x-most .0) (x-most .1) (x-most .2) e w
+  pub x′-told : stayIn scenario j ≡ Beyond → (p : Pair) × (laterExponentAt scenario i j ≡ is p) × (isPair p ≡ true)
+  unfolding laterExponentAt
+  x′-told e =
+      let a = x′-answered (stayIn scenario j) (pairsAt scenario j i) (exact j i) (sound .inputs j i j-small i-small) (sound .later j i j-small i-small) e in
+      (a .0, a .1, a .2)
+
+  slow-from : (o : Outcome Pair) (p : Pair) → o ≡ is p → isPair p ≡ true → highAbove sixtyFour o ≡ false → Slow o
+  slow-from o p e h t = record { pair = p; told = e; most = not-above sixtyFour p sixty-four-number h (subst (λ (a : Outcome Pair). highAbove sixtyFour a ≡ false) e t) }
+
+  pub x-slow : highAbove sixtyFour (exponentAt scenario i) ≡ false → Slow (plain pairs (asAnswers (pairsAt scenario j i) .value) x)
+  x-slow h = subst Slow (sym x-same) (slow-from (exponentAt scenario i) (x-told .0) (x-told .1) (x-told .2) h)
+
+  pub x′-slow : stayIn scenario j ≡ Beyond → highAbove sixtyFour (laterExponentAt scenario i j) ≡ false → Slow (plainWith pairs (asAnswers (pairsAt scenario j i) .value) (asAnswers (pairsAt scenario j i) .later) x′)
+  unfolding laterExponentAt
+  x′-slow e h = slow-from (laterExponentAt scenario i j) (x′-told e .0) (x′-told e .1) (x′-told e .2) h
+
+module _ (scenario : Scenario) {exact : Exact} (sound : Sound scenario exact) (j i : ℕ) (j-small : j < scenario .receptors .count) (i-small : i < scenario .chemicals .count) (slow : highAbove sixtyFour (exponentAt scenario i) ≡ false) (slow′ : stayIn scenario j ≡ Beyond → highAbove sixtyFour (laterExponentAt scenario i j) ≡ false) where
+  figure-works : (e : Effect) (w : Pathway) → (r : Pair) × Works (stayIn scenario j) (pairsAt scenario j i) (exact j i) (line e (stayIn scenario j) w) r
+  figure-works e w = line-works (stayIn scenario j) (pairsAt scenario j i) (exact j i) (sound .inputs j i j-small i-small) (sound .later j i j-small i-small)
+      (x-slow scenario sound j i j-small i-small slow) (λ b. x′-slow scenario sound j i j-small i-small b (slow′ b)) e w
 
   pub figure-counted : (e : Effect) (w : Pathway) → highAbove (capOf e) (figureAt e scenario j i w) ≡ false → Figure scenario exact j i e w
   unfolding figureAt
   figure-counted e w c =
       let r : Pair = figure-works e w .0 in
-      let k : Works (pairsAt scenario j i) (exact j i) (line e w) r = figure-works e w .1 in
+      let k : Works (stayIn scenario j) (pairsAt scenario j i) (exact j i) (line e (stayIn scenario j) w) r = figure-works e w .1 in
       let b : value (r .high) ≤ᶠ value (capOf e) = not-above (capOf e) r (cap-number e) (k .pair) (subst (λ (o : Outcome Pair). highAbove (capOf e) o ≡ false) (k .told) c) in
       let a = units-answered r (unitOf e) (k .pair) (unit-reach e) (through (value-proper (capOf e)) b (cap-units e 9999999999999999999 (lit≤ tt))) in
       record { pair = r; works = k; capped = b; units = a .0; told = a .1 }
 
   figure-totals : (e : Effect) (w : Pathway) → highAbove (capOf e) (figureAt e scenario j i w) ≡ false → (N : ℕ) → 256 ≤ N →
-      Totals (countedIn (unitOf e) (figureAt e scenario j i w)) 1 (inUnitsOf e (exactly N (exact j i) (line e w)))
+      Totals (countedIn (unitOf e) (figureAt e scenario j i w)) 1 (inUnitsOf e (exactly N (exact j i) (line e (stayIn scenario j) w)))
   unfolding figureAt countedIn counted Totals
   figure-totals e w c N n =
       let f : Figure scenario exact j i e w = figure-counted e w c in
-      let x : Fraction = exactly N (exact j i) (line e w) in
+      let x : Fraction = exactly N (exact j i) (line e (stayIn scenario j) w) in
       let q : Enclosed (f .units .low) (f .units .high) 1 (inUnitsOf e x) =
-      line-enclosed e (f .pair) (f .units) x (f .told) (f .works .held N n) (line-narrow (pairsAt scenario j i) (exact j i) e w (f .pair) (f .works))
+      line-enclosed e (f .pair) (f .units) x (f .told) (f .works .held N n) (line-narrow (stayIn scenario j) (pairsAt scenario j i) (exact j i) e w (f .pair) (f .works))
       in
       let s = count-small e (f .pair) (f .units) x (f .told) (f .works .held N n) (f .capped) in
       rw (f .works .told, f .told) (enclosed-from _ _ (f .units) (inUnitsOf e x) q (omega arith) (omega (arith, s)) (omega (arith, q .close)))
 
   by-reference : (t : Bool) (e : Effect) (w : Pathway) → (t && highAbove (capOf e) (figureAt e scenario j i w)) ≡ false → (N : ℕ) → 256 ≤ N →
-      Totals (cond t (countedIn (unitOf e) (figureAt e scenario j i w)) Cols.Absent) (cond t 1 0) (cond t (inUnitsOf e (exactly N (exact j i) (line e w))) nothing)
+      Totals (cond t (countedIn (unitOf e) (figureAt e scenario j i w)) Cols.Absent) (cond t 1 0) (cond t (inUnitsOf e (exactly N (exact j i) (line e (stayIn scenario j) w))) nothing)
   by-reference true e w c N n = figure-totals e w c N n
   by-reference false e w c N n = totals-none
 

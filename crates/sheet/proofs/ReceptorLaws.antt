@@ -1,6 +1,6 @@
 -- A receptor's lines: chemical after chemical, each of six pathways, so that line q is that of chemical q / 6 and pathway q % 6; and 42 by line.
 -- Assumes nothing.
-use mathlib.Core.Path.{_≡_, refl, ap, _∙_}
+use mathlib.Core.Path.{_≡_, refl, ap, ap₂, _∙_}
 use mathlib.Core.Bool.{Bool, true, false}
 use mathlib.Core.List.{List}
 use Prim.Native.Nat.{ℕ, _+_, _*_, _/_, _%_, _<_}
@@ -11,6 +11,8 @@ use Rattle.equations.specs.declared.Effect.{Effect}
 use Rattle.equations.specs.declared.Pathway.{Pathway}
 use Rattle.equations.specs.declared.Values.{Values}
 use Rattle.equations.proofs.ValueLaws.{read-any}
+use Rattle.media.specs.declared.Media.{Media}
+use Rattle.media.specs.Media.{noMedia}
 use Rattle.pathway.specs.Lines.{Figured, Shared, habitsOf, figuresWith}
 use Rattle.deck.specs.declared.Status.{Status}
 use Rattle.deck.specs.declared.Status.the-variants.{Read, Stopped}
@@ -21,64 +23,64 @@ use Rattle.sheet.specs.declared.Source.{Source}
 use Rattle.sheet.specs.declared.Sources.{Sources}
 use Rattle.sheet.specs.Values.{noReceptor}
 use Rattle.sheet.specs.Sheet.{chained, pathwayAt}
-use Rattle.sheet.specs.Inner.{noSource, sourceAt, columnsOf, figuresFrom, figureFor, figuresWorked, columnsFrom, columnsWorked, isLarge, largeLine, largeChemical, largeWorked, perReceptor, allLarge}
+use Rattle.sheet.specs.Inner.{noSource, sourceAt, columnsOf, meanAt, figuresFrom, figureFor, figuresWorked, columnsFrom, columnsWorked, isLarge, largeLine, largeChemical, largeWorked, perReceptor, allLarge}
 use Rattle.sheet.proofs.Chains.{goes-on, stops}
 
 -- A chemical's line, as it is worked from what its receptor's lines share.
-module _ (site′ r : Values) (source : Source) (h : Shared) (p : ℕ) (w : Pathway) (figured′ : Figured) (own : h ≡ habitsOf r) (way : w ≡ pathwayAt p)
-    (worked : figured′ ≡ figuresWith h w site′ (source .absorbed) r (source .media) (source .references)) where
-  figures-are : figured′ ≡ figuresFrom site′ r source (pathwayAt p)
-  unfolding figuresFrom
+module _ (site′ : Values) (j : ℕ) (r : Values) (source : Source) (blank : Media) (here : j < length (source .means)) (h : Shared) (p : ℕ) (w : Pathway) (figured′ : Figured) (own : h ≡ habitsOf r) (way : w ≡ pathwayAt p)
+    (worked : figured′ ≡ figuresWith h w site′ (source .absorbed) r (source .media) (getD (source .means) j blank) (source .references)) where
+  figures-are : figured′ ≡ figuresFrom site′ j r source (pathwayAt p)
+  unfolding figuresFrom meanAt
   figures-are =
       worked
-      ∙ ap (λ (x : Shared). figuresWith x w site′ (source .absorbed) r (source .media) (source .references)) own
-      ∙ ap (figuresFrom site′ r source) way
+      ∙ ap₂ (λ (x : Shared) (m : Media). figuresWith x w site′ (source .absorbed) r (source .media) m (source .references)) own (read-any (source .means) j here blank noMedia)
+      ∙ ap (figuresFrom site′ j r source) way
 
-  pub large-is : (b : Bool) → b ≡ isLarge figured′ → b ≡ isLarge (figuresFrom site′ r source (pathwayAt p))
+  pub large-is : (b : Bool) → b ≡ isLarge figured′ → b ≡ isLarge (figuresFrom site′ j r source (pathwayAt p))
   large-is b e = e ∙ ap isLarge figures-are
 
-  pub columns-are : (e : Effect) (u : Columns) → u ≡ columnsOf e (figureFor e figured′) → u ≡ columnsFrom site′ r source p e
+  pub columns-are : (e : Effect) (u : Columns) → u ≡ columnsOf e (figureFor e figured′) → u ≡ columnsFrom site′ j r source p e
   unfolding columnsFrom
   columns-are e u q = q ∙ ap (λ (f : Figured). columnsOf e (figureFor e f)) figures-are
 
 -- 42 at it
-module _ (site′ r : Values) (source : Source) (before p : ℕ) (none : first (chained (largeLine site′ r source before) p) ≡ Read) where
-  pub line-fits : isLarge (figuresFrom site′ r source (pathwayAt p)) ≡ false → first (chained (largeLine site′ r source before) (p + 1)) ≡ Read
+module _ (site′ : Values) (j : ℕ) (r : Values) (source : Source) (before p : ℕ) (none : first (chained (largeLine site′ j r source before) p) ≡ Read) where
+  pub line-fits : isLarge (figuresFrom site′ j r source (pathwayAt p)) ≡ false → first (chained (largeLine site′ j r source before) (p + 1)) ≡ Read
   unfolding largeLine first
-  line-fits h = goes-on (largeLine site′ r source before) p none Read (rw h refl) refl
+  line-fits h = goes-on (largeLine site′ j r source before) p none Read (rw h refl) refl
 
-  pub line-stops : p < 6 → isLarge (figuresFrom site′ r source (pathwayAt p)) ≡ true → Stopped 42 (before + (p + 1)) 0 ≡ first (largeChemical site′ r source before)
+  pub line-stops : p < 6 → isLarge (figuresFrom site′ j r source (pathwayAt p)) ≡ true → Stopped 42 (before + (p + 1)) 0 ≡ first (largeChemical site′ j r source before)
   unfolding largeLine first largeChemical
   line-stops l h =
-      let here : Stopped 42 (before + (p + 1)) 0 ≡ first (largeLine site′ r source before p) = rw h (ap (λ (n : ℕ). Stopped 42 (before + n) 0) (add-one p)) in
-      stops (largeLine site′ r source before) p none (Stopped 42 (before + (p + 1)) 0) here 6 l 42 (before + (p + 1)) 0 refl
+      let here : Stopped 42 (before + (p + 1)) 0 ≡ first (largeLine site′ j r source before p) = rw h (ap (λ (n : ℕ). Stopped 42 (before + n) 0) (add-one p)) in
+      stops (largeLine site′ j r source before) p none (Stopped 42 (before + (p + 1)) 0) here 6 l 42 (before + (p + 1)) 0 refl
 
 -- Chemical after chemical.
-module _ (site′ r : Values) (sources : Sources) (blank : Source) (i : ℕ) (here : i < length (sources .list)) where
+module _ (site′ : Values) (j : ℕ) (r : Values) (sources : Sources) (blank : Source) (i : ℕ) (here : i < length (sources .list)) where
   source-is : getD (sources .list) i blank ≡ sourceAt sources i
   unfolding sourceAt
   source-is = read-any (sources .list) i here blank noSource
 
-  pub lines-are : (p : ℕ) → p < 6 → (e : Effect) → columnsFrom site′ r (getD (sources .list) i blank) p e ≡ columnsWorked site′ sources r (i * 6 + p) e
+  pub lines-are : (p : ℕ) → p < 6 → (e : Effect) → columnsFrom site′ j r (getD (sources .list) i blank) p e ≡ columnsWorked site′ sources j r (i * 6 + p) e
   unfolding columnsFrom columnsWorked figuresWorked
   lines-are p h e =
       let d : i ≡ (i * 6 + p) / 6 = omega arith in
       let m : p ≡ (i * 6 + p) % 6 = omega arith in
-      ap (λ (s : Source). columnsOf e (figureFor e (figuresFrom site′ r s (pathwayAt p)))) (source-is ∙ ap (sourceAt sources) d)
-      ∙ ap (λ (k : ℕ). columnsOf e (figureFor e (figuresFrom site′ r (sourceAt sources ((i * 6 + p) / 6)) (pathwayAt k)))) m
+      ap (λ (s : Source). columnsOf e (figureFor e (figuresFrom site′ j r s (pathwayAt p)))) (source-is ∙ ap (sourceAt sources) d)
+      ∙ ap (λ (k : ℕ). columnsOf e (figureFor e (figuresFrom site′ j r (sourceAt sources ((i * 6 + p) / 6)) (pathwayAt k)))) m
 
-  module _ (before : ℕ) (s : Status) (is-first : s ≡ first (largeChemical site′ r (getD (sources .list) i blank) (before + i * 6)))
-      (none : first (chained (λ k. largeChemical site′ r (sourceAt sources k) (before + k * 6)) i) ≡ Read) where
-    chemical-is : s ≡ first (largeChemical site′ r (sourceAt sources i) (before + i * 6))
-    chemical-is = is-first ∙ ap (λ (x : Source). first (largeChemical site′ r x (before + i * 6))) source-is
+  module _ (before : ℕ) (s : Status) (is-first : s ≡ first (largeChemical site′ j r (getD (sources .list) i blank) (before + i * 6)))
+      (none : first (chained (λ k. largeChemical site′ j r (sourceAt sources k) (before + k * 6)) i) ≡ Read) where
+    chemical-is : s ≡ first (largeChemical site′ j r (sourceAt sources i) (before + i * 6))
+    chemical-is = is-first ∙ ap (λ (x : Source). first (largeChemical site′ j r x (before + i * 6))) source-is
 
-    pub chemical-on : s ≡ Read → first (chained (λ k. largeChemical site′ r (sourceAt sources k) (before + k * 6)) (i + 1)) ≡ Read
-    chemical-on read = goes-on (λ k. largeChemical site′ r (sourceAt sources k) (before + k * 6)) i none s chemical-is read
+    pub chemical-on : s ≡ Read → first (chained (λ k. largeChemical site′ j r (sourceAt sources k) (before + k * 6)) (i + 1)) ≡ Read
+    chemical-on read = goes-on (λ k. largeChemical site′ j r (sourceAt sources k) (before + k * 6)) i none s chemical-is read
 
-    pub chemical-stops : i < sources .count → (number line field : ℕ) → s ≡ Stopped number line field → s ≡ first (largeWorked site′ sources r before)
+    pub chemical-stops : i < sources .count → (number line field : ℕ) → s ≡ Stopped number line field → s ≡ first (largeWorked site′ sources j r before)
     unfolding largeWorked
     chemical-stops l number line field q =
-        stops (λ k. largeChemical site′ r (sourceAt sources k) (before + k * 6)) i none s chemical-is (sources .count) l number line field q
+        stops (λ k. largeChemical site′ j r (sourceAt sources k) (before + k * 6)) i none s chemical-is (sources .count) l number line field q
 
 -- Receptor after receptor.
 module _ (site′ : Values) (sources : Sources) (list : List Receptor) (blank : Receptor) (j : ℕ) (here : j < length list) (r : Values)
@@ -86,15 +88,15 @@ module _ (site′ : Values) (sources : Sources) (list : List Receptor) (blank : 
   pub receptor-is : r ≡ getD list j noReceptor .values
   receptor-is = is-receptor ∙ ap (λ (x : Receptor). x .values) (read-any list j here blank noReceptor)
 
-  module _ (s : Status) (is-first : s ≡ first (largeWorked site′ sources r (j * perReceptor (sources .count)))) (none : first (allLarge site′ sources list j) ≡ Read) where
-    large-is-here : s ≡ first (largeWorked site′ sources (getD list j noReceptor .values) (j * perReceptor (sources .count)))
-    large-is-here = is-first ∙ ap (λ (x : Values). first (largeWorked site′ sources x (j * perReceptor (sources .count)))) receptor-is
+  module _ (s : Status) (is-first : s ≡ first (largeWorked site′ sources j r (j * perReceptor (sources .count)))) (none : first (allLarge site′ sources list j) ≡ Read) where
+    large-is-here : s ≡ first (largeWorked site′ sources j (getD list j noReceptor .values) (j * perReceptor (sources .count)))
+    large-is-here = is-first ∙ ap (λ (x : Values). first (largeWorked site′ sources j x (j * perReceptor (sources .count)))) receptor-is
 
     pub large-on : s ≡ Read → first (allLarge site′ sources list (j + 1)) ≡ Read
     unfolding allLarge
-    large-on read = goes-on (λ k. largeWorked site′ sources (getD list k noReceptor .values) (k * perReceptor (sources .count))) j none s large-is-here read
+    large-on read = goes-on (λ k. largeWorked site′ sources k (getD list k noReceptor .values) (k * perReceptor (sources .count))) j none s large-is-here read
 
     pub large-stops : (count : ℕ) → j < count → (number line field : ℕ) → s ≡ Stopped number line field → s ≡ first (allLarge site′ sources list count)
     unfolding allLarge
     large-stops count l number line field q =
-        stops (λ k. largeWorked site′ sources (getD list k noReceptor .values) (k * perReceptor (sources .count))) j none s large-is-here count l number line field q
+        stops (λ k. largeWorked site′ sources k (getD list k noReceptor .values) (k * perReceptor (sources .count))) j none s large-is-here count l number line field q

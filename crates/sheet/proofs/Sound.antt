@@ -1,10 +1,15 @@
--- What the laws ask of a scenario: no more records than a sheet has room for, and every slot's pair in range of its exact value, whether it
--- was printed or made. Assumes nothing.
+-- What the laws ask of a scenario: no more records than a sheet has room for, every slot's pair in range of its exact value, whether it was
+-- printed or made, and T2 − tD of the exact difference, where the exposure goes beyond the deposition. Assumes nothing.
+use mathlib.Core.Path.{_≡_}
+use mathlib.Core.Bool.{true}
 use Prim.Native.Nat.{ℕ, _≤_, _<_}
+use Rattle.pair.specs.Fraction.{minus}
+use Rattle.pair.specs.Calls.{is}
 use Rattle.slots.specs.Slots.{Slot}
-use Rattle.equations.proofs.LineLaws.{InRange}
+use Rattle.equations.proofs.Profile.{Good}
+use Rattle.equations.proofs.LineLaws.{ofLater, InRange}
 use Rattle.deck.specs.Kinds.{maxChemicals}
-use Rattle.sheet.specs.Values.{Scenario, mostWorked, pairsAt}
+use Rattle.sheet.specs.Values.{Scenario, mostWorked, stayIn, pairsAt}
 use Rattle.sheet.specs.DemandThree.{Exact}
 
 pub record Sound (scenario : Scenario) (exact : Exact) : Type 0 where
@@ -12,3 +17,5 @@ pub record Sound (scenario : Scenario) (exact : Exact) : Type 0 where
   pub some-receptors : 1 ≤ scenario .receptors .count
   pub few-receptors : scenario .receptors .count ≤ mostWorked
   pub inputs : (j i : ℕ) → j < scenario .receptors .count → i < scenario .chemicals .count → (s : Slot) → InRange s (pairsAt scenario j i) (exact j i s)
+  pub later : (j i : ℕ) → j < scenario .receptors .count → i < scenario .chemicals .count → ofLater (stayIn scenario j) .answered ≡ true
+      → Good (ofLater (stayIn scenario j)) (is (pairsAt scenario j i .later)) (minus (exact j i "T2") (exact j i "tD"))

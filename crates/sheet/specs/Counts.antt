@@ -8,8 +8,13 @@ use lib.ListN.{length, getD, take, drop}
 use Rattle.pair.specs.Calls.{Outcome, is, refused}
 use Rattle.equations.specs.declared.Effect.{Effect}
 use Rattle.equations.specs.declared.Effect.the-variants.{Hazard, Cancer}
+use Rattle.slots.specs.Slots.{placeOf}
+use Rattle.equations.specs.declared.Values.{Values}
+use Rattle.equations.specs.Readings.{valueIn}
 use Rattle.media.specs.declared.Media.{Media}
-use Rattle.media.specs.Media.{mediaInputs, mediaOf}
+use Rattle.media.specs.declared.Ground.{Ground}
+use Rattle.media.specs.Media.{mediaInputs, groundOf, meanMedia}
+use Rattle.sheet.specs.declared.Receptor.{Receptor}
 use Rattle.deck.specs.declared.Status.{Status}
 use Rattle.deck.specs.declared.Status.the-variants.{Read, Stopped}
 use Rattle.deck.specs.Kinds.{maxChemicals}
@@ -18,23 +23,36 @@ use Rattle.deck.specs.Cases.{tabulate}
 use Rattle.totals.specs.declared.Columns.{Columns}
 use Rattle.totals.specs.declared.Columns.the-variants as Cols
 use Rattle.totals.specs.Totals.{totalOf}
-use Rattle.sheet.specs.Values.{Scenario, mostWorked, valuesOf, particlesOf, chemicalIn}
-use Rattle.sheet.specs.Sheet.{pathwaysPerChemical, pathwayAt, columnsAt, chained, largeLines}
+use Rattle.sheet.specs.Values.{Scenario, mostWorked, valuesOf, particlesOf, chemicalIn, receptorIn}
+use Rattle.sheet.specs.Sheet.{pathwaysPerChemical, pathwayAt, columnsAt, chained, anyOf, largeLines}
 
--- ---- what stops a scenario: more records than a deck holds (21), a chemical whose media are refused (41), a line above its cap (42). In a scenario
--- whose values lie in their ranges the media are refused exactly where x's high end is above 64 (`fast-exactly`).
+-- ---- what stops a scenario: more records than a deck holds (21), a chemical whose media are refused (41), those of one receptor's cancer among
+-- them, a line above its cap (42). In a scenario whose values lie in their ranges the media are refused exactly where the high end of x, or of
+-- x′ for a receptor, is above 64 (`fast-exactly`).
 unfoldable pub tooMany : Scenario → Bool
 tooMany scenario = ltb maxChemicals (scenario .chemicals .count) || ltb mostWorked (scenario .receptors .count)
 
-unfoldable pub isRefused : Outcome Media → Bool
+unfoldable pub isRefused : {A : Type 0} → Outcome A → Bool
 isRefused (is m) = false
 isRefused (refused n) = true
 
-unfoldable pub mediaFor : Scenario → ℕ → Outcome Media
-mediaFor scenario i = mediaOf (mediaInputs (valuesOf (scenario .site)) (valuesOf (chemicalIn scenario i)) (particlesOf (chemicalIn scenario i)))
+unfoldable pub groundFor : Scenario → ℕ → Outcome Ground
+groundFor scenario i = groundOf (mediaInputs (valuesOf (scenario .site)) (valuesOf (chemicalIn scenario i)) (particlesOf (chemicalIn scenario i)))
+
+-- the media of a receptor's cancer, from a chemical's ground
+unfoldable pub meanWith : Values → Values → Receptor → Ground → Outcome Media
+meanWith site′ chemical′ r ground = meanMedia ground site′ chemical′ (r .stay) (valueIn (r .values) (placeOf "T2")) (r .later)
+
+unfoldable pub meanFor : Scenario → ℕ → ℕ → Ground → Outcome Media
+meanFor scenario i j ground = meanWith (valuesOf (scenario .site)) (valuesOf (chemicalIn scenario i)) (receptorIn scenario j) ground
+
+-- a ground is refused, or a receptor's media from it
+unfoldable pub stopsAt : Outcome Ground → (ℕ → Ground → Outcome Media) → ℕ → Bool
+stopsAt (is ground) means n = anyOf (λ j. isRefused (means j ground)) n
+stopsAt (refused k) means n = true
 
 unfoldable pub noMediaAt : Scenario → ℕ → List Condition
-noMediaAt scenario i = at 41 (suc i) 0 (isRefused (mediaFor scenario i)) ∷ []
+noMediaAt scenario i = at 41 (suc i) 0 (stopsAt (groundFor scenario i) (meanFor scenario i) (scenario .receptors .count)) ∷ []
 
 unfoldable pub sheetConditions : Scenario → List Condition
 sheetConditions scenario = at 21 0 0 (tooMany scenario) ∷ chained (noMediaAt scenario) (scenario .chemicals .count) ++ largeLines scenario

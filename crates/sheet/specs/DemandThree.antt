@@ -1,5 +1,5 @@
 -- Demand 3 of a scenario: what a receptor's total is set against. The exact sum is that of its lines that have the reference value, each worked
--- exactly from the printed values with N terms of the series, counted in units and not rounded.
+-- exactly from the printed values with N terms of each series, counted in units and not rounded.
 use mathlib.Core.Path.{_≡_}
 use mathlib.Core.Bool.{cond}
 use Prim.Native.Nat.{ℕ, zero, suc, _+_, _*_, _^_, _≤_, _<_}
@@ -17,7 +17,7 @@ use Rattle.slots.specs.declared.Sort.the-variants.{Ordinary}
 use Rattle.slots.specs.Slots.{Slot}
 use Rattle.totals.specs.declared.Columns.{Columns}
 use Rattle.totals.specs.declared.Columns.the-variants as Cols
-use Rattle.sheet.specs.Values.{Scenario, ordinaryOf, exactAt}
+use Rattle.sheet.specs.Values.{Scenario, stayIn, ordinaryOf, exactAt}
 use Rattle.sheet.specs.Sheet.{pathwayAt, pathwaysPerChemical, hasReference, totalAt, fastChemicals, largeLines}
 
 -- a fraction in units of 1E-12, or of 1E-15
@@ -37,7 +37,7 @@ Exact = ℕ → ℕ → Slot → Fraction
 
 -- a line's exact fraction, where it counts
 unfoldable pub exactLine : Effect → Scenario → Exact → ℕ → ℕ → ℕ → Pathway → Fraction
-exactLine e scenario exact N j i p = cond (hasReference e scenario i p) (inUnitsOf e (exactly N (exact j i) (line e p))) nothing
+exactLine e scenario exact N j i p = cond (hasReference e scenario i p) (inUnitsOf e (exactly N (exact j i) (line e (stayIn scenario j) p))) nothing
 
 unfoldable pub lineCounts : Effect → Scenario → ℕ → Pathway → ℕ
 lineCounts e scenario i p = cond (hasReference e scenario i p) 1 0

@@ -14,7 +14,8 @@ use Rattle.equations.specs.declared.Effect.{Effect}
 use Rattle.equations.specs.declared.Effect.the-variants.{Hazard, Cancer}
 use Rattle.equations.specs.declared.Values.{Values}
 use Rattle.media.specs.declared.Media.{Media}
-use Rattle.media.specs.Media.{mediaInputs, mediaOf, noMedia}
+use Rattle.media.specs.declared.Ground.{Ground}
+use Rattle.media.specs.Media.{mediaInputs, groundOf, noMedia}
 use Rattle.pathway.specs.declared.GivenRfd.{GivenRfd}
 use Rattle.pathway.specs.declared.GivenRfd.the-variants as Rfds
 use Rattle.pathway.specs.declared.GivenCsf.{GivenCsf}
@@ -31,11 +32,12 @@ use Rattle.deck.specs.Cases.{noRecord, valueAt, tabulate}
 use Rattle.totals.specs.declared.Columns.{Columns}
 use Rattle.totals.specs.declared.Columns.the-variants as Cols
 use Rattle.sheet.specs.declared.Receptor.{Receptor}
+use Rattle.sheet.specs.declared.Receptors.{Receptors}
 use Rattle.sheet.specs.declared.Source.{Source}
 use Rattle.sheet.specs.declared.Sources.{Sources}
-use Rattle.sheet.specs.Values.{pairOf, valuesOf, particlesOf, noReceptor}
+use Rattle.sheet.specs.Values.{mostWorked, pairOf, valuesOf, particlesOf, noReceptor}
 use Rattle.sheet.specs.Sheet.{pathwayAt, pathwaysPerChemical, unitOf, capOf, countedIn, highAbove, chained}
-use Rattle.sheet.specs.Counts.{Part, Mark, Low, High, cellOf, sideOf, mostLines, effectCells, receptorCells, isRefused}
+use Rattle.sheet.specs.Counts.{Part, Mark, Low, High, cellOf, sideOf, mostLines, effectCells, receptorCells, meanWith, stopsAt}
 
 -- for each of 4 receptors at most six lines for each of 16 chemicals, and a total line: 388
 abbrev pub maxRows : ℕ
@@ -57,8 +59,16 @@ unfoldable pub mediaFrom : Outcome Media → Media
 mediaFrom (is m) = m
 mediaFrom (refused n) = noMedia
 
-unfoldable pub mediaWith : Values → Record → Outcome Media
-mediaWith site′ chemical′ = mediaOf (mediaInputs site′ (valuesOf chemical′) (particlesOf chemical′))
+unfoldable pub groundWith : Values → Record → Outcome Ground
+groundWith site′ chemical′ = groundOf (mediaInputs site′ (valuesOf chemical′) (particlesOf chemical′))
+
+-- the receptors' means, and none where there is no receptor
+unfoldable pub meansOf : Values → Values → Receptors → Ground → List Media
+meansOf site′ chemical′ receptors′ ground =
+    tabulate (receptors′ .count) (λ j. mediaFrom (meanWith site′ chemical′ (getD (receptors′ .list) j noReceptor) ground)) ++ replicate (mostWorked - receptors′ .count) noMedia
+
+unfoldable pub noMeans : List Media
+noMeans = replicate mostWorked noMedia
 
 unfoldable pub rfdOf : Value → GivenRfd
 rfdOf Absent = Rfds.Absent
@@ -77,67 +87,78 @@ referencesOf r =
       «csf_i» = csfOf (valueAt r (placeOf "CSFi"));
     }
 
-unfoldable pub sourceWith : Record → Media → Source
-sourceWith chemical′ media′ = record { absorbed = absorbedOf (valuesOf chemical′); media = media′; references = referencesOf chemical′ }
+unfoldable pub sourceWith : Record → Media → List Media → Source
+sourceWith chemical′ highest means′ = record { absorbed = absorbedOf (valuesOf chemical′); media = highest; means = means′; references = referencesOf chemical′ }
 
-unfoldable pub sourceOf : Values → Record → Source
-sourceOf site′ chemical′ = sourceWith chemical′ (mediaFrom (mediaWith site′ chemical′))
+unfoldable pub sourceFrom : Values → Record → Receptors → Outcome Ground → Source
+sourceFrom site′ chemical′ receptors′ (is ground) = sourceWith chemical′ (ground .highest) (meansOf site′ (valuesOf chemical′) receptors′ ground)
+sourceFrom site′ chemical′ receptors′ (refused n) = sourceWith chemical′ noMedia noMeans
+
+unfoldable pub sourceOf : Values → Receptors → Record → Source
+sourceOf site′ receptors′ chemical′ = sourceFrom site′ chemical′ receptors′ (groundWith site′ chemical′)
 
 -- what stands where there is no chemical
 unfoldable pub noSource : Source
-noSource = sourceWith noRecord noMedia
+noSource = sourceWith noRecord noMedia noMeans
 
-unfoldable pub sourcesOf : Values → Chemicals → Sources
-sourcesOf site′ chemicals′ =
+unfoldable pub sourcesOf : Values → Receptors → Chemicals → Sources
+sourcesOf site′ receptors′ chemicals′ =
     record {
       count = chemicals′ .count;
-      list = tabulate (chemicals′ .count) (λ i. sourceOf site′ (getD (chemicals′ .records) i noRecord)) ++ replicate (maxChemicals - chemicals′ .count) noSource;
+      list = tabulate (chemicals′ .count) (λ i. sourceOf site′ receptors′ (getD (chemicals′ .records) i noRecord)) ++ replicate (maxChemicals - chemicals′ .count) noSource;
     }
 
 unfoldable pub sourceAt : Sources → ℕ → Source
 sourceAt sources i = getD (sources .list) i noSource
 
 -- 41, by chemical
-unfoldable pub refusedSource : Values → List Record → ℕ → List Condition
-refusedSource site′ records i = at 41 (suc i) 0 (isRefused (mediaWith site′ (getD records i noRecord))) ∷ []
+unfoldable pub stopsWith : Values → Receptors → Record → Bool
+stopsWith site′ receptors′ chemical′ =
+    stopsAt (groundWith site′ chemical′) (λ j ground. meanWith site′ (valuesOf chemical′) (getD (receptors′ .list) j noReceptor) ground) (receptors′ .count)
 
--- ---- a line's figures
-unfoldable pub figuresFrom : Values → Values → Source → Pathway → Figured
-figuresFrom site′ r s p = figuresWith (habitsOf r) p site′ (s .absorbed) r (s .media) (s .references)
+unfoldable pub refusedSource : Values → Receptors → List Record → ℕ → List Condition
+refusedSource site′ receptors′ records i = at 41 (suc i) 0 (stopsWith site′ receptors′ (getD records i noRecord)) ∷ []
+
+-- ---- a line's figures, of the receptor at place j with these values
+unfoldable pub meanAt : Source → ℕ → Media
+meanAt s j = getD (s .means) j noMedia
+
+unfoldable pub figuresFrom : Values → ℕ → Values → Source → Pathway → Figured
+figuresFrom site′ j r s p = figuresWith (habitsOf r) p site′ (s .absorbed) r (s .media) (meanAt s j) (s .references)
 
 unfoldable pub figureFor : Effect → Figured → Outcome (Optional Pair)
 figureFor Hazard f = f .hazard
 figureFor Cancer f = f .cancer
 
 -- those of a receptor's line q, counted from 0 without total lines
-unfoldable pub figuresWorked : Values → Sources → Values → ℕ → Figured
-figuresWorked site′ sources r q = figuresFrom site′ r (sourceAt sources (q / pathwaysPerChemical)) (pathwayAt (q % pathwaysPerChemical))
+unfoldable pub figuresWorked : Values → Sources → ℕ → Values → ℕ → Figured
+figuresWorked site′ sources j r q = figuresFrom site′ j r (sourceAt sources (q / pathwaysPerChemical)) (pathwayAt (q % pathwaysPerChemical))
 
-unfoldable pub columnsWorked : Values → Sources → Values → ℕ → Effect → Columns
-columnsWorked site′ sources r q e = columnsOf e (figureFor e (figuresWorked site′ sources r q))
+unfoldable pub columnsWorked : Values → Sources → ℕ → Values → ℕ → Effect → Columns
+columnsWorked site′ sources j r q e = columnsOf e (figureFor e (figuresWorked site′ sources j r q))
 
 -- those of a chemical's lines, by pathway
-unfoldable pub columnsFrom : Values → Values → Source → ℕ → Effect → Columns
-columnsFrom site′ r source p e = columnsOf e (figureFor e (figuresFrom site′ r source (pathwayAt p)))
+unfoldable pub columnsFrom : Values → ℕ → Values → Source → ℕ → Effect → Columns
+columnsFrom site′ j r source p e = columnsOf e (figureFor e (figuresFrom site′ j r source (pathwayAt p)))
 
 unfoldable pub isLarge : Figured → Bool
 isLarge f = aboveCap Hazard (f .hazard) || aboveCap Cancer (f .cancer)
 
 -- 42 at a chemical's line, after so many report lines
-unfoldable pub largeLine : Values → Values → Source → ℕ → ℕ → List Condition
-largeLine site′ r source before p = at 42 (before + suc p) 0 (isLarge (figuresFrom site′ r source (pathwayAt p))) ∷ []
+unfoldable pub largeLine : Values → ℕ → Values → Source → ℕ → ℕ → List Condition
+largeLine site′ j r source before p = at 42 (before + suc p) 0 (isLarge (figuresFrom site′ j r source (pathwayAt p))) ∷ []
 
-unfoldable pub largeChemical : Values → Values → Source → ℕ → List Condition
-largeChemical site′ r source before = chained (largeLine site′ r source before) pathwaysPerChemical
+unfoldable pub largeChemical : Values → ℕ → Values → Source → ℕ → List Condition
+largeChemical site′ j r source before = chained (largeLine site′ j r source before) pathwaysPerChemical
 
-unfoldable pub largeWorked : Values → Sources → Values → ℕ → List Condition
-largeWorked site′ sources r before = chained (λ i. largeChemical site′ r (sourceAt sources i) (before + i * pathwaysPerChemical)) (sources .count)
+unfoldable pub largeWorked : Values → Sources → ℕ → Values → ℕ → List Condition
+largeWorked site′ sources j r before = chained (λ i. largeChemical site′ j r (sourceAt sources i) (before + i * pathwaysPerChemical)) (sources .count)
 
 abbrev pub perReceptor : ℕ → ℕ
 perReceptor n = n * pathwaysPerChemical + 1
 
 unfoldable pub allLarge : Values → Sources → List Receptor → ℕ → List Condition
-allLarge site′ sources receptors′ n = chained (λ j. largeWorked site′ sources (getD receptors′ j noReceptor .values) (j * perReceptor (sources .count))) n
+allLarge site′ sources receptors′ n = chained (λ j. largeWorked site′ sources j (getD receptors′ j noReceptor .values) (j * perReceptor (sources .count))) n
 
 -- ---- cells
 unfoldable pub withCounts : List ℕ → ℕ → Columns → List ℕ
@@ -160,7 +181,7 @@ CellsEmpty n cells base =
 abbrev pub CellsFilled : Values → Sources → List Receptor → ℕ → List ℕ → Type 0
 CellsFilled site′ sources receptors′ n cells =
     (j : ℕ) → j < n →
-    CellsHold (columnsWorked site′ sources (getD receptors′ j noReceptor .values)) (sources .count * pathwaysPerChemical) cells (receptorCells * j)
+    CellsHold (columnsWorked site′ sources j (getD receptors′ j noReceptor .values)) (sources .count * pathwaysPerChemical) cells (receptorCells * j)
     × CellsEmpty (sources .count * pathwaysPerChemical) cells (receptorCells * j)
 
 abbrev pub SameBelow : ℕ → List ℕ → List ℕ → Type 0

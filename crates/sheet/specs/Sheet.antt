@@ -12,17 +12,19 @@ use Rattle.equations.specs.declared.Pathway.{Pathway}
 use Rattle.equations.specs.declared.Pathway.the-variants.{Air, SoilSummer, SoilWinter, Skin, AboveGround, BelowGround}
 use Rattle.equations.specs.declared.Effect.{Effect}
 use Rattle.equations.specs.declared.Effect.the-variants.{Hazard, Cancer}
+use Rattle.equations.specs.declared.Stay.{Stay}
+use Rattle.equations.specs.declared.Stay.the-variants.{Within, Beyond}
 use Rattle.equations.specs.Formula.{pairs}
-use Rattle.equations.specs.Page.{x, line, referenceSlot}
+use Rattle.equations.specs.Page.{x, x′, line, referenceSlot}
 use Rattle.equations.specs.Ranges.{sixtyFour}
-use Rattle.equations.specs.Readings.{plain, worked}
+use Rattle.equations.specs.Readings.{Inputs, plain, plainWith, asAnswers, worked}
 use Rattle.deck.specs.declared.Value.{Value}
 use Rattle.deck.specs.declared.Value.the-variants.{Absent, Printed}
 use Rattle.deck.specs.Conditions.{Condition, at}
 use Rattle.totals.specs.declared.Columns.{Columns}
 use Rattle.totals.specs.declared.Columns.the-variants as Cols
 use Rattle.totals.specs.Totals.{_added_}
-use Rattle.sheet.specs.Values.{Scenario, printedIn, pairsAt}
+use Rattle.sheet.specs.Values.{Scenario, stayIn, printedIn, pairsAt}
 
 abbrev pub pathwaysPerChemical : ℕ
 pathwaysPerChemical = 6
@@ -45,7 +47,7 @@ hasReference e scenario i p = isPrinted (printedIn scenario i (referenceSlot e p
 
 -- the quotient or the risk of chemical i on pathway p for receptor j, by the working rule
 unfoldable pub figureAt : Effect → Scenario → ℕ → ℕ → Pathway → Outcome Pair
-figureAt e scenario j i p = worked (pairsAt scenario j i) (line e p)
+figureAt e scenario j i p = worked (pairsAt scenario j i) (line e (stayIn scenario j) p)
 
 -- quotients are counted in units of 1E-12, risks in 1E-15
 unfoldable pub unitOf : Effect → ℤ
@@ -96,8 +98,26 @@ highAbove bound (refused n) = false
 unfoldable pub exponentAt : Scenario → ℕ → Outcome Pair
 exponentAt scenario i = plain pairs (λ s. is (pairsAt scenario 0 i .value s)) x
 
+-- x′ of receptor j, which is k × (T2 − tD), where T2 is above tD
+unfoldable pub laterExponentAt : Scenario → ℕ → ℕ → Outcome Pair
+laterExponentAt scenario i j =
+    let answers : Inputs (Outcome Pair) = asAnswers (pairsAt scenario j i) in
+    plainWith pairs (answers .value) (answers .later) x′
+
+unfoldable pub isBeyond : Stay → Bool
+isBeyond Within = false
+isBeyond Beyond = true
+
+unfoldable pub fastLater : Scenario → ℕ → ℕ → Bool
+fastLater scenario i j = isBeyond (stayIn scenario j) && highAbove sixtyFour (laterExponentAt scenario i j)
+
+-- f 0 or f 1 .. or f (n − 1)
+unfoldable pub anyOf : (ℕ → Bool) → ℕ → Bool
+anyOf f zero = false
+anyOf f (suc n) = anyOf f n || f n
+
 unfoldable pub tooFast : Scenario → ℕ → List Condition
-tooFast scenario i = at 41 (suc i) 0 (highAbove sixtyFour (exponentAt scenario i)) ∷ []
+tooFast scenario i = at 41 (suc i) 0 (highAbove sixtyFour (exponentAt scenario i) || anyOf (fastLater scenario i) (scenario .receptors .count)) ∷ []
 
 -- a quotient's high end is at most 10,000, a risk's at most 1
 unfoldable pub capOf : Effect → Number

@@ -1,5 +1,6 @@
 -- What a sheet is worked from: the values of a scenario's slots as pairs, and as exact fractions.
 use Prim.Native.Nat.{ℕ}
+use mathlib.Core.Bool.{Bool, true, false}
 use mathlib.Core.List.{map}
 use lib.IntN.{pos}
 use lib.ListN.{getD}
@@ -7,9 +8,13 @@ use Rattle.pair.specs.declared.Pair.{Pair}
 use Rattle.pair.specs.Fraction.{Fraction}
 use Rattle.pair.specs.Calls.{Outcome, is, refused, entry, oneMinusEntry, zeroPair, onePair}
 use Rattle.pair.specs.Promises.{scaled}
+use Rattle.years.specs.declared.Years.{Years}
+use Rattle.years.specs.Years as years
 use Rattle.slots.specs.declared.Sort.the-variants.{Ordinary}
 use Rattle.slots.specs.Slots.{Slot, ownerOf, placeOf}
 use Rattle.equations.specs.declared.Values.{Values}
+use Rattle.equations.specs.declared.Stay.{Stay}
+use Rattle.equations.specs.declared.Stay.the-variants.{Within, Beyond}
 use Rattle.equations.specs.Readings.{Inputs, byOwner, inputs}
 use Rattle.deck.specs.declared.Case.{Case}
 use Rattle.deck.specs.declared.Chemicals.{Chemicals}
@@ -60,7 +65,7 @@ scenarioFrom site′ chemicals′ receptors′ = record { site = site′; chemic
 
 -- no receptor: every value reads as 1
 unfoldable pub noReceptor : Receptor
-noReceptor = record { id = 0; values = valuesOf noRecord }
+noReceptor = record { id = 0; values = valuesOf noRecord; stay = Within; later = onePair }
 
 -- chemical i and receptor j, from 0
 unfoldable pub chemicalIn : Scenario → ℕ → Record
@@ -69,16 +74,20 @@ chemicalIn scenario i = getD (scenario .chemicals .records) i noRecord
 unfoldable pub receptorIn : Scenario → ℕ → Receptor
 receptorIn scenario j = getD (scenario .receptors .list) j noReceptor
 
+unfoldable pub stayIn : Scenario → ℕ → Stay
+stayIn scenario j = receptorIn scenario j .stay
+
 -- what is printed in a slot of the site or of chemical i; nothing is printed of a receptor made of pairs
 unfoldable pub printedIn : Scenario → ℕ → Slot → Value
 printedIn scenario i s = byOwner (ownerOf s) (valueAt (scenario .site) (placeOf s)) (valueAt (chemicalIn scenario i) (placeOf s)) Absent
 
--- every slot's value, and 1 less it, for receptor j and chemical i, both counted from 0
+-- every slot's value, 1 less it, and T2 − tD, for receptor j and chemical i, both counted from 0
 unfoldable pub pairsAt : Scenario → ℕ → ℕ → Inputs Pair
 pairsAt scenario j i =
     record {
       value = inputs (valuesOf (scenario .site)) (valuesOf (chemicalIn scenario i)) (receptorIn scenario j .values);
       rest = λ s. restOf (printedIn scenario i s);
+      later = receptorIn scenario j .later;
     }
 
 -- the site and the chemicals of a case, with these receptors
@@ -94,12 +103,44 @@ unfoldable pub exactWith : Case → (ℕ → Slot → Fraction) → ℕ → ℕ 
 exactWith case receptor j i s =
     byOwner (ownerOf s) (fractionOf (valueAt (case .site) (placeOf s))) (fractionOf (valueAt (chemicalAt case i) (placeOf s))) (receptor j s)
 
+-- ---- the exposure against the deposition (document 02, P4): T2 ≤ tD is decided, and T2 − tD taken, on the printed digits
+-- a printed time, exact; 0 for what no deck prints as a time
+unfoldable pub orNone : Outcome Years → Years
+orNone (is y) = y
+orNone (refused n) = years.none
+
+unfoldable pub printedYears : Value → Years
+printedYears (Printed power digits) = orNone (years.printed digits power)
+printedYears Absent = years.none
+
+unfoldable pub stayIf : Outcome Bool → Stay
+stayIf (is true) = Within
+stayIf (is false) = Beyond
+stayIf (refused n) = Within
+
+unfoldable pub laterIf : Stay → Years → Years → Pair
+laterIf Within exposure deposition = onePair
+laterIf Beyond exposure deposition = orOne (years.beyond exposure deposition)
+
+-- a receptor of these values, exposed for a time that is set against the deposition's
+unfoldable pub receptorWith : ℕ → Values → Years → Years → Receptor
+receptorWith id′ values′ exposure deposition =
+    record {
+      id = id′;
+      values = values′;
+      stay = stayIf (years.atMost exposure deposition);
+      later = laterIf (stayIf (years.atMost exposure deposition)) exposure deposition;
+    }
+
+unfoldable pub depositionOf : Record → Years
+depositionOf site′ = printedYears (valueAt site′ (placeOf "tD"))
+
 -- ---- an ordinary deck's receptors: each slot's pair is the entry of what is printed, its exact value what is printed
-unfoldable pub entered : Record → Receptor
-entered r = record { id = r .id; values = valuesOf r }
+unfoldable pub entered : Years → Record → Receptor
+entered deposition r = receptorWith (r .id) (valuesOf r) (printedYears (valueAt r (placeOf "T2"))) deposition
 
 unfoldable pub enteredFrom : Case → Receptors
-enteredFrom case = record { count = case .receptors .count; list = tabulate mostWorked (λ j. entered (receptorAt case j)) }
+enteredFrom case = record { count = case .receptors .count; list = tabulate mostWorked (λ j. entered (depositionOf (case .site)) (receptorAt case j)) }
 
 unfoldable pub ordinaryOf : Case → Scenario
 ordinaryOf case = scenarioWith case (enteredFrom case)

@@ -1,26 +1,38 @@
 // Each chemical worked once: what its lines take, for every receptor.
 use deck::Chemicals;
 use deck::MAX_CHEMICALS;
+use deck::MAX_RECEPTORS;
 use deck::Record;
 use deck::Status;
 use equations::Values;
 use media::Found;
+use media::Ground;
+use media::Grounded;
 use media::Media;
-use media::concentrations;
+use media::ground_of;
+use media::mean_concentrations;
 use pair::Pair;
 use pathway::Absorbed;
 use pathway::GivenCsf;
 use pathway::GivenRfd;
 use pathway::References;
 use pathway::absorbed_of;
+use slots::T2;
 ghost use mathlib.Core.Path.{_≡_};
+ghost use mathlib.Core.Bool.{true, false, not};
 ghost use Prim.Native.Nat.{_≤_};
+ghost use lib.ListN.{getD};
 ghost use Rattle.deck.specs.declared.Status.the-variants as Statuses;
 ghost use Rattle.deck.specs.Conditions.{first};
-ghost use Rattle.sheet.specs.Values.{valuesOf};
-ghost use Rattle.sheet.specs.Sheet.{chained};
-ghost use Rattle.sheet.specs.Inner.{noSource, sourceWith, sourcesOf, refusedSource};
+ghost use Rattle.media.specs.Media as media;
+ghost use Rattle.pair.specs.Calls.{is};
+ghost use Rattle.sheet.specs.Values.{valuesOf, noReceptor};
+ghost use Rattle.sheet.specs.Sheet.{chained, anyOf};
+ghost use Rattle.sheet.specs.Counts.{isRefused, meanWith};
+ghost use Rattle.sheet.specs.Inner.{meansOf, noSource, sourceFrom, sourceOf, sourcesOf, stopsWith, refusedSource};
 use crate::Prepared;
+use crate::Receptor;
+use crate::Receptors;
 use crate::Source;
 use crate::Sources;
 use crate::values::particles_of;
@@ -28,6 +40,18 @@ use crate::values::references_of;
 use crate::values::values_of;
 
 const TOO_FAST: u32 = 41;
+
+// The media of each receptor's cancer, or that those of one are refused.
+struct Means {
+    worked: bool,
+    list: [Media; MAX_RECEPTORS],
+}
+
+// A chemical's source, or that its media are refused.
+struct Sourced {
+    worked: bool,
+    source: Source,
+}
 
 fn no_source() -> Source
     ensures { λ r. ⌜ r ≡ noSource ⌝ }
@@ -45,18 +69,96 @@ fn no_source() -> Source
             dermal: Pair::ONE,
         },
         media: Media::none(),
+        means: [Media::none(); MAX_RECEPTORS],
         references,
     }
 }
 
-fn source_with(chemical: Record, values: Values, media: Media) -> Source
-    requires { ⌜ values ≡ valuesOf chemical ⌝ }
-    ensures { λ r. ⌜ r ≡ sourceWith chemical media ⌝ }
+fn mean_with(site: Values, chemical: Values, receptor: Receptor, ground: Ground) -> Found
+    ensures { λ r. ⌜ media.found r ≡ meanWith site chemical receptor ground ⌝ }
 {
-    Source {
-        absorbed: absorbed_of(values),
-        media,
-        references: references_of(chemical),
+    let stay = receptor.stay;
+    let later = receptor.later;
+    let values = receptor.values;
+    mean_concentrations(ground, site, chemical, stay, values.value(T2), later)
+}
+
+fn no_means() -> Means
+    ensures { λ r. ⌜ r .worked ≡ false ⌝ }
+{
+    Means {
+        worked: false,
+        list: [Media::none(); MAX_RECEPTORS],
+    }
+}
+
+fn not_sourced() -> Sourced
+    ensures { λ r. ⌜ r .worked ≡ false ⌝ }
+{
+    Sourced {
+        worked: false,
+        source: no_source(),
+    }
+}
+
+// The media of the receptors' cancer.
+fn means_of(site: Values, chemical: Values, receptors: Receptors, ground: Ground) -> Means
+    requires { ⌜ receptors .count ≤ 4 ⌝ }
+    ensures { λ r. ⌜ r .worked ≡ not (anyOf (λ j. isRefused (meanWith site chemical (getD (receptors .list) j noReceptor) ground)) (receptors .count)) ⌝ }
+    ensures { λ r. ⌜ (r .worked ≡ true → r .list ≡ meansOf site chemical receptors ground) ⌝ }
+{
+    let count = receptors.count;
+    let mut list = [Media::none(); MAX_RECEPTORS];
+    let mut j: usize = 0;
+    while j < count {
+        let receptor = receptors.list[j];
+        match mean_with(site, chemical, receptor, ground) {
+            Found::Is(m) => list[j] = m,
+            Found::TooFast => return no_means(),
+            Found::Refused => return no_means(),
+        }
+        j += 1;
+    }
+    Means { worked: true, list }
+}
+
+// What a chemical's lines take, from its ground.
+fn source_from(
+    site: Values,
+    chemical: Record,
+    values: Values,
+    receptors: Receptors,
+    ground: Ground,
+) -> Sourced
+    requires { ⌜ (receptors .count ≤ 4) × (values ≡ valuesOf chemical) ⌝ }
+    ensures { λ r. ⌜ r .worked ≡ not (anyOf (λ j. isRefused (meanWith site (valuesOf chemical) (getD (receptors .list) j noReceptor) ground)) (receptors .count)) ⌝ }
+    ensures { λ r. ⌜ (r .worked ≡ true → r .source ≡ sourceFrom site chemical receptors (is ground)) ⌝ }
+{
+    let highest = ground.highest;
+    let made = means_of(site, values, receptors, ground);
+    let means = made.list;
+    Sourced {
+        worked: made.worked,
+        source: Source {
+            absorbed: absorbed_of(values),
+            media: highest,
+            means,
+            references: references_of(chemical),
+        },
+    }
+}
+
+// What a chemical's lines take, or nothing where its media are refused.
+fn source_of(site: Values, chemical: Record, receptors: Receptors) -> Sourced
+    requires { ⌜ receptors .count ≤ 4 ⌝ }
+    ensures { λ r. ⌜ r .worked ≡ not (stopsWith site receptors chemical) ⌝ }
+    ensures { λ r. ⌜ (r .worked ≡ true → r .source ≡ sourceOf site receptors chemical) ⌝ }
+{
+    let values = values_of(chemical);
+    match ground_of(site, values, particles_of(chemical)) {
+        Grounded::Is(ground) => source_from(site, chemical, values, receptors, ground),
+        Grounded::TooFast => not_sourced(),
+        Grounded::Refused => not_sourced(),
     }
 }
 
@@ -71,11 +173,11 @@ fn stopped_at(i: usize) -> Prepared
     }
 }
 
-// The source of each chemical, or the first whose media are refused: its x is above 64.
-pub(crate) fn sources_of(site: Values, chemicals: Chemicals) -> Prepared
-    requires { ⌜ chemicals .count ≤ 16 ⌝ }
-    ensures { λ r. ⌜ r .status ≡ first (chained (refusedSource site (chemicals .records)) (chemicals .count)) ⌝ }
-    ensures { λ r. ⌜ (r .status ≡ Statuses.Read → r .sources ≡ sourcesOf site chemicals) ⌝ }
+// The source of each chemical, or the first whose media are refused: its x is above 64, or its k × (T2 − tD) for a receptor.
+pub(crate) fn sources_of(site: Values, chemicals: Chemicals, receptors: Receptors) -> Prepared
+    requires { ⌜ (chemicals .count ≤ 16) × (receptors .count ≤ 4) ⌝ }
+    ensures { λ r. ⌜ r .status ≡ first (chained (refusedSource site receptors (chemicals .records)) (chemicals .count)) ⌝ }
+    ensures { λ r. ⌜ (r .status ≡ Statuses.Read → r .sources ≡ sourcesOf site receptors chemicals) ⌝ }
 {
     let count = chemicals.count;
     let mut list = [no_source(); MAX_CHEMICALS];
@@ -83,12 +185,12 @@ pub(crate) fn sources_of(site: Values, chemicals: Chemicals) -> Prepared
     while i < count {
         let next = i + 1;
         let chemical = chemicals.records[i];
-        let values = values_of(chemical);
-        match concentrations(site, values, particles_of(chemical)) {
-            Found::Is(media) => list[i] = source_with(chemical, values, media),
-            Found::TooFast => return stopped_at(next),
-            Found::Refused => return stopped_at(next),
+        let made = source_of(site, chemical, receptors);
+        if !made.worked {
+            return stopped_at(next);
         }
+        let source = made.source;
+        list[i] = source;
         i = next;
     }
     Prepared {

@@ -1,12 +1,16 @@
 //! The sheet of a scenario (document 01, "Units and totals"): each line's quotient and risk counted in units, 41 and 42, and a receptor's totals.
 mod chemicals;
 mod counting;
+mod exposure;
 mod lines;
 mod ordinary;
 mod reading;
 mod values;
 
 use crate::chemicals::sources_of;
+pub use crate::exposure::deposition_of;
+pub use crate::exposure::printed_years;
+pub use crate::exposure::receptor_with;
 use crate::lines::clear;
 use crate::lines::put_all;
 pub use crate::ordinary::entered_from;
@@ -21,8 +25,10 @@ use deck::MAX_RECEPTORS;
 use deck::Record;
 use deck::Status;
 use equations::Effect;
+use equations::Stay;
 use equations::Values;
 use media::Media;
+use pair::Pair;
 use pathway::Absorbed;
 use pathway::References;
 use totals::Columns;
@@ -36,11 +42,13 @@ pub const PATHWAYS: usize = 6;
 // A receptor's lines but its total line, at most: 96.
 pub const MOST_LINES: usize = MAX_CHEMICALS * PATHWAYS;
 
-// A receptor as the equations take it: its id, and the values of its slots as pairs. Whether they were printed or made of life stages,
-// nothing after this asks.
+// A receptor as the equations take it: its id, the values of its slots as pairs, and its exposure T2 against the deposition tD, with
+// T2 − tD where it is above 0. Whether they were printed or made of life stages, nothing after this asks.
 pub struct Receptor {
     pub id: u32,
     pub values: Values,
+    pub stay: Stay,
+    pub later: Pair,
 }
 
 // The first count receptors of the list, in deck order.
@@ -57,10 +65,12 @@ pub const RECEPTOR_CELLS: usize = 2 * EFFECT_CELLS;
 
 pub const CELLS: usize = MAX_RECEPTORS * RECEPTOR_CELLS;
 
-// What a chemical's lines take, for every receptor: the shares absorbed, what it leaves in the media and its reference values.
+// What a chemical's lines take, for every receptor: the shares absorbed, what it leaves in the media, hazard's and each receptor's for
+// cancer, and its reference values.
 pub struct Source {
     pub absorbed: Absorbed,
     pub media: Media,
+    pub means: [Media; MAX_RECEPTORS],
     pub references: References,
 }
 
@@ -79,7 +89,7 @@ pub struct Prepared {
 const TOO_MANY: u32 = 21;
 
 // The counts of a scenario's lines into the cells, or where it stops, and 0 in every cell: more records than a sheet has room for, a chemical
-// whose x is above 64, a line above its cap.
+// whose x is above 64, or its k × (T2 − tD) for a receptor, a line above its cap.
 pub fn counts_of(
     site: Record,
     chemicals: Chemicals,
@@ -97,7 +107,7 @@ pub fn counts_of(
         return Status::Stopped(TOO_MANY, 0, 0);
     }
     let values = values_of(site);
-    let prepared = sources_of(values, chemicals);
+    let prepared = sources_of(values, chemicals, receptors);
     let ready = prepared.status;
     let Status::Read = ready else {
         return ready;

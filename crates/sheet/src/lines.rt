@@ -86,21 +86,23 @@ fn put_counts(cells: &mut [u64], at: usize, columns: Columns)
     }
 }
 
-// The counts of a chemical's six lines into their cells, from base on, or the first line above a cap.
+// The counts of a chemical's six lines, for the receptor at a place, into their cells, from base on, or the first line above a cap.
 fn put_chemical(
     cells: &mut [u64],
     base: usize,
     site: Values,
+    place: usize,
     receptor: Values,
     habits: Habits,
     source: Source,
     before: usize,
 ) -> Status
-    requires { ⌜ (base + effectCells + 2 * mostLines + 6 ≤ length (now cells)) × (before ≤ maxRows + mostLines) × (specs.shared habits ≡ specs.habitsOf receptor) ⌝ }
-    ensures { λ s. ⌜ s ≡ first (largeChemical site receptor source before) ⌝ }
-    ensures { λ s. ⌜ (s ≡ Statuses.Read → CellsHold (columnsFrom site receptor source) 6 (now (cells .exit)) base) ⌝ }
+    requires { ⌜ (base + effectCells + 2 * mostLines + 6 ≤ length (now cells)) × (before ≤ maxRows + mostLines) × (place < 4) × (specs.shared habits ≡ specs.habitsOf receptor) ⌝ }
+    ensures { λ s. ⌜ s ≡ first (largeChemical site place receptor source before) ⌝ }
+    ensures { λ s. ⌜ (s ≡ Statuses.Read → CellsHold (columnsFrom site place receptor source) 6 (now (cells .exit)) base) ⌝ }
     ensures { λ _. ⌜ SameBut 6 base (now (cells .entry)) (now (cells .exit)) ⌝ }
 {
+    let mean = source.means[place];
     let mut p: usize = 0;
     while p < PATHWAYS {
         let next = p + 1;
@@ -112,6 +114,7 @@ fn put_chemical(
             source.absorbed,
             receptor,
             source.media,
+            mean,
             references,
         );
         if is_large(line) {
@@ -132,13 +135,14 @@ fn put_lines(
     cells: &mut [u64],
     base: usize,
     site: Values,
+    place: usize,
     receptor: Values,
     sources: Sources,
     before: usize,
 ) -> Status
-    requires { ⌜ (base + receptorCells ≤ length (now cells)) × (sources .count ≤ 16) × (before ≤ maxRows) ⌝ }
-    ensures { λ s. ⌜ s ≡ first (largeWorked site sources receptor before) ⌝ }
-    ensures { λ s. ⌜ (s ≡ Statuses.Read → CellsHold (columnsWorked site sources receptor) (sources .count * 6) (now (cells .exit)) base) ⌝ }
+    requires { ⌜ (base + receptorCells ≤ length (now cells)) × (sources .count ≤ 16) × (before ≤ maxRows) × (place < 4) ⌝ }
+    ensures { λ s. ⌜ s ≡ first (largeWorked site sources place receptor before) ⌝ }
+    ensures { λ s. ⌜ (s ≡ Statuses.Read → CellsHold (columnsWorked site sources place receptor) (sources .count * 6) (now (cells .exit)) base) ⌝ }
     ensures { λ _. ⌜ SameBelow base (now (cells .entry)) (now (cells .exit)) ⌝ }
     ensures { λ s. ⌜ (ZeroFrom base (now (cells .entry)) → CellsEmpty (sources .count * 6) (now (cells .exit)) base × ZeroFrom (base + receptorCells) (now (cells .exit))) ⌝ }
 {
@@ -153,6 +157,7 @@ fn put_lines(
             cells,
             base + done,
             site,
+            place,
             receptor,
             habits,
             source,
@@ -182,6 +187,7 @@ fn put_receptors(cells: &mut [u64], site: Values, receptors: Receptors, sources:
             cells,
             RECEPTOR_CELLS * j,
             site,
+            j,
             receptor.values,
             sources,
             j * per,

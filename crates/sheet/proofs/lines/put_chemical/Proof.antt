@@ -6,7 +6,7 @@ use Prim.Native.Nat.{ℕ, _+_, _-_, _≤_, _<_}
 use native.Mathlib.Nat.{not-suc-le-zero}
 use native.Mathlib.Omega.{arith}
 use borrow.Author.Needs.{needs}
-use lib.ListN.{length}
+use lib.ListN.{length, length-map}
 use Rattle.equations.specs.declared.Effect.the-variants.{Hazard, Cancer}
 use Rattle.pathway.specs.Lines.{figured}
 use Rattle.deck.specs.declared.Status.the-variants.{Read}
@@ -20,15 +20,21 @@ use Rattle.sheet.proofs.lines.put_chemical.Statement.{statement}
 use Rattle.sheet.proofs.lines.put_chemical.Tie as tie
 
 abbrev Inv-loop : tie.InvT-loop
-Inv-loop cells₀ base site receptor habits source before p₀ cells p =
+Inv-loop cells₀ base site place receptor habits before source mean p₀ cells p =
     (p ≤ 6)
     × (length cells ≡ length cells₀)
-    × CellsHold (columnsFrom site receptor source) p cells base
+    × CellsHold (columnsFrom site place receptor source) p cells base
     × SameBut 6 base cells₀ cells
-    × (first (chained (largeLine site receptor source before) p) ≡ Read)
+    × (first (chained (largeLine site place receptor source before) p) ≡ Read)
 
 abbrev μ-loop : tie.MeasureT-loop
-μ-loop cells₀ base site receptor habits source before p₀ cells p = 6 - p
+μ-loop cells₀ base site place receptor habits before source mean p₀ cells p = 6 - p
+
+mul-mean : tie.Need-mul-mean Inv-loop μ-loop
+mul-mean c = search needs
+
+element-copy-out-mean : tie.Need-element-copy-out-mean Inv-loop μ-loop
+element-copy-out-mean c = search needs
 
 loop-holds : tie.Need-loop-holds Inv-loop μ-loop
 unfolding chained first
@@ -46,20 +52,22 @@ figures-with-requires c κs = search needs
 is-large-requires : tie.Need-is-large-requires Inv-loop μ-loop
 is-large-requires c κs = search needs
 
-add-t18 : tie.Need-add-t18 Inv-loop μ-loop
-add-t18 c = search needs
+add-t27 : tie.Need-add-t27 Inv-loop μ-loop
+add-t27 c = search needs
 
 same-length : tie.Need-same-length Inv-loop μ-loop
-same-length c = c .before .before .before .before .before .before .loop .inv .1
+same-length c = c .before .before .before .before .before .before .before .before .loop .inv .1
 
 returns : tie.Need-returns Inv-loop μ-loop
 returns c =
-    let s = c .before .before .before .before .before .before .before .before in
-    let l = c .before .before .before .before .before .before .loop in
-    let test = c .before .before .before .before .before .loop-test .taken in
+    let s = c .before .before .before .before .before .before .before .before .before .before .before in
+    let l = c .before .before .before .before .before .before .before .before .loop in
+    let test = c .before .before .before .before .before .before .before .loop-test .taken in
     let a = s .args in
-    let large = large-is (a .site) (a .receptor) (a .source) _ (l .p) _ _ (s .pre .2) (c .before .before .before .pathway-at .ensures) (c .before .before .figures-with .ensures) _ (c .before .is-large .ensures) in (
-      line-stops (a .site) (a .receptor) (a .source) (a .before) (l .p) (l .inv .4) test (sym large ∙ c .if1 .taken),
+    let long : length (a .t7 .means) ≡ 4 = sym (length-map (a .t7 .means) _) ∙ s .good .1 .1 .1 .1 .1 .1 .0 .1 .1 .1 .1 .0 .1 .0 .1 in
+    let there : a .place < length (a .t7 .means) = omega (arith, long, s .pre) in
+    let large = large-is (a .site) (a .place) (a .receptor) (a .t7) _ there _ (l .p) _ _ (s .pre .3) (c .before .before .before .before .before .pathway-at .ensures) (c .before .before .figures-with .ensures) _ (c .before .is-large .ensures) in (
+      line-stops (a .site) (a .place) (a .receptor) (a .t7) (a .before) (l .p) (l .inv .4) test (sym large ∙ c .if1 .taken),
       (λ e. absurd (never _ 42 _ 0 refl e), l .inv .3),
     )
 
@@ -87,15 +95,17 @@ loop-less c = search needs
 loop-again : tie.Need-loop-again Inv-loop μ-loop
 unfolding figured figureFor
 loop-again c =
-    let s = c .before .before .before .before .before .before .before .before .before .before .before .before .before .before .before .before .before .before in
-    let l = c .before .before .before .before .before .before .before .before .before .before .before .before .before .before .before .before .loop in
-    let test = c .before .before .before .before .before .before .before .before .before .before .before .before .before .before .before .loop-test .taken in
+    let s = c .before .before .before .before .before .before .before .before .before .before .before .before .before .before .before .before .before .before .before .before .before in
+    let l = c .before .before .before .before .before .before .before .before .before .before .before .before .before .before .before .before .before .before .loop in
+    let test = c .before .before .before .before .before .before .before .before .before .before .before .before .before .before .before .before .before .loop-test .taken in
     let a = s .args in
-    let way = c .before .before .before .before .before .before .before .before .before .before .before .before .before .pathway-at .ensures in
+    let long : length (a .t7 .means) ≡ 4 = sym (length-map (a .t7 .means) _) ∙ s .good .1 .1 .1 .1 .1 .1 .0 .1 .1 .1 .1 .0 .1 .0 .1 in
+    let there : a .place < length (a .t7 .means) = omega (arith, long, s .pre) in
+    let way = c .before .before .before .before .before .before .before .before .before .before .before .before .before .before .before .pathway-at .ensures in
     let figures = c .before .before .before .before .before .before .before .before .before .before .before .before .figures-with .ensures in
-    let large = large-is (a .site) (a .receptor) (a .source) _ (l .p) _ _ (s .pre .2) way figures _ (c .before .before .before .before .before .before .before .before .before .before .before .is-large .ensures) in
-    let h = columns-are (a .site) (a .receptor) (a .source) _ (l .p) _ _ (s .pre .2) way figures Hazard _ (c .before .before .before .before .before .before .before .before .columns-of .ensures) in
-    let k = columns-are (a .site) (a .receptor) (a .source) _ (l .p) _ _ (s .pre .2) way figures Cancer _ (c .before .before .before .columns-of2 .ensures) in
+    let large = large-is (a .site) (a .place) (a .receptor) (a .t7) _ there _ (l .p) _ _ (s .pre .3) way figures _ (c .before .before .before .before .before .before .before .before .before .before .before .is-large .ensures) in
+    let h = columns-are (a .site) (a .place) (a .receptor) (a .t7) _ there _ (l .p) _ _ (s .pre .3) way figures Hazard _ (c .before .before .before .before .before .before .before .before .columns-of .ensures) in
+    let k = columns-are (a .site) (a .place) (a .receptor) (a .t7) _ there _ (l .p) _ _ (s .pre .3) way figures Cancer _ (c .before .before .before .columns-of2 .ensures) in
     let at = a .base + l .p in
     let u = c .before .before .before .before .before .before .before .before .columns-of .result in
     let v = c .before .before .before .columns-of2 .result in
@@ -104,10 +114,10 @@ loop-again c =
     let small : l .p < 96 = omega (arith, test) in (
       omega (arith, test),
       subst (λ (x : List ℕ). length x ≡ length (a .cells .now)) stored (line-length (l .cells) (a .base) (l .p) u v ∙ l .inv .1),
-      subst (λ (x : List ℕ). CellsHold (columnsFrom (a .site) (a .receptor) (a .source)) (l .p + 1) x (a .base)) stored
-          (line-held (l .cells) (a .base) (l .p) u v small (columnsFrom (a .site) (a .receptor) (a .source)) room h k (l .inv .2)),
+      subst (λ (x : List ℕ). CellsHold (columnsFrom (a .site) (a .place) (a .receptor) (a .t7)) (l .p + 1) x (a .base)) stored
+          (line-held (l .cells) (a .base) (l .p) u v small (columnsFrom (a .site) (a .place) (a .receptor) (a .t7)) room h k (l .inv .2)),
       subst (λ (x : List ℕ). SameBut 6 (a .base) (a .cells .now) x) stored (line-others (l .cells) (a .base) (l .p) u v 6 (a .cells .now) test (l .inv .3)),
-      line-fits (a .site) (a .receptor) (a .source) (a .before) (l .p) (l .inv .4) (sym large ∙ c .before .before .before .before .before .before .before .before .before .before .if1 .left),
+      line-fits (a .site) (a .place) (a .receptor) (a .t7) (a .before) (l .p) (l .inv .4) (sym large ∙ c .before .before .before .before .before .before .before .before .before .before .if1 .left),
     )
 
 same-length-2 : tie.Need-same-length-2 Inv-loop μ-loop
@@ -126,12 +136,14 @@ put-chemical-spec =
     (tie.spec
     Inv-loop
     μ-loop
+    mul-mean
+    element-copy-out-mean
     loop-holds
     add-next
     pathway-at-requires
     figures-with-requires
     is-large-requires
-    add-t18
+    add-t27
     same-length
     returns
     add-at

@@ -18,16 +18,16 @@ use Rattle.sheet.proofs.lines.put_lines.Statement.{statement}
 use Rattle.sheet.proofs.lines.put_lines.Tie as tie
 
 abbrev Inv-loop : tie.InvT-loop
-Inv-loop cells₀ base site receptor before sources habits count i₀ cells i =
+Inv-loop cells₀ base site place receptor before sources habits count i₀ cells i =
     (i ≤ count)
     × (length cells ≡ length cells₀)
-    × CellsHold (columnsWorked site sources receptor) (i * 6) cells base
+    × CellsHold (columnsWorked site sources place receptor) (i * 6) cells base
     × SameBelow base cells₀ cells
-    × (first (chained (λ k. largeChemical site receptor (sourceAt sources k) (before + k * 6)) i) ≡ Read)
+    × (first (chained (λ k. largeChemical site place receptor (sourceAt sources k) (before + k * 6)) i) ≡ Read)
     × (ZeroFrom base cells₀ → CellsEmpty (i * 6) cells base × ZeroFrom (base + 576) cells)
 
 abbrev μ-loop : tie.MeasureT-loop
-μ-loop cells₀ base site receptor before sources habits count i₀ cells i = count - i
+μ-loop cells₀ base site place receptor before sources habits count i₀ cells i = count - i
 
 habits-of-requires : tie.Need-habits-of-requires Inv-loop μ-loop
 habits-of-requires c κs = search needs
@@ -69,20 +69,20 @@ returns c =
     let a = s .args in
     let l = c .before .before .before .before .before .before .before .before .loop in
     let test = c .before .before .before .before .before .before .before .loop-test .taken in
-    let long : length (a .t5 .list) ≡ 16 = sym (length-map (a .t5 .list) _) ∙ s .good .1 .1 .1 .1 .0 .1 .1 .1 .0 .1 .0 .1 in
-    let here : l .i < length (a .t5 .list) = omega (arith, test, s .pre) in
+    let long : length (a .t6 .list) ≡ 16 = sym (length-map (a .t6 .list) _) ∙ s .good .1 .1 .1 .1 .1 .0 .1 .1 .1 .0 .1 .0 .1 in
+    let here : l .i < length (a .t6 .list) = omega (arith, test, s .pre) in
     let few : l .i < 16 = omega (arith, test, s .pre) in
     let put = c .before .before .before .before .put-chemical in
     let same = put .ensures .1 .1 in
     let stop = c .enum-told .given .1 in (
-      chemical-stops (a .site) (a .receptor) (a .t5) _ (l .i) here (a .before) (put .result) (put .ensures .0) (l .inv .4) test _ _ _ stop,
+      chemical-stops (a .site) (a .place) (a .receptor) (a .t6) _ (l .i) here (a .before) (put .result) (put .ensures .0) (l .inv .4) test _ _ _ stop,
       (
         λ e. absurd (never _ _ _ _ stop e),
         (
           chemical-below (a .base) (l .i) (l .cells) (put .last .0) few same (a .cells .now) (l .inv .3),
           λ z.
               let kept = l .inv .5 z in (
-                chemical-empty (a .base) (l .i) (l .cells) (put .last .0) few same (a .t5 .count * 6) (omega (arith, test)) (kept .0),
+                chemical-empty (a .base) (l .i) (l .cells) (put .last .0) few same (a .t6 .count * 6) (omega (arith, test)) (kept .0),
                 chemical-zero (a .base) (l .i) (l .cells) (put .last .0) few same (kept .1),
               ),
         ),
@@ -101,21 +101,21 @@ loop-again c =
     let a = s .args in
     let l = c .before .before .before .before .before .before .before .before .loop in
     let test = c .before .before .before .before .before .before .before .loop-test .taken in
-    let long : length (a .t5 .list) ≡ 16 = sym (length-map (a .t5 .list) _) ∙ s .good .1 .1 .1 .1 .0 .1 .1 .1 .0 .1 .0 .1 in
-    let here : l .i < length (a .t5 .list) = omega (arith, test, s .pre) in
+    let long : length (a .t6 .list) ≡ 16 = sym (length-map (a .t6 .list) _) ∙ s .good .1 .1 .1 .1 .1 .0 .1 .1 .1 .0 .1 .0 .1 in
+    let here : l .i < length (a .t6 .list) = omega (arith, test, s .pre) in
     let few : l .i < 16 = omega (arith, test, s .pre) in
     let put = c .before .before .before .before .put-chemical in
     let same = put .ensures .1 .1 in
     let read = c .enum-told2 .given .1 in
-    let columns = columnsWorked (a .site) (a .t5) (a .receptor) in
+    let columns = columnsWorked (a .site) (a .t6) (a .place) (a .receptor) in
     let filled : CellsHold (λ p. columns (l .i * 6 + p)) 6 (put .last .0) (a .base + l .i * 6) =
-    λ e w p h. put .ensures .1 .0 read e w p h ∙ ap (cellOf w) (lines-are (a .site) (a .receptor) (a .t5) _ (l .i) here p h e)
+    λ e w p h. put .ensures .1 .0 read e w p h ∙ ap (cellOf w) (lines-are (a .site) (a .place) (a .receptor) (a .t6) _ (l .i) here p h e)
     in (
       omega (arith, test),
       put .kept .0 ∙ l .inv .1,
       chemical-held (a .base) (l .i) (l .cells) (put .last .0) few same columns (l .inv .2) filled,
       chemical-below (a .base) (l .i) (l .cells) (put .last .0) few same (a .cells .now) (l .inv .3),
-      chemical-on (a .site) (a .receptor) (a .t5) _ (l .i) here (a .before) (put .result) (put .ensures .0) (l .inv .4) read,
+      chemical-on (a .site) (a .place) (a .receptor) (a .t6) _ (l .i) here (a .before) (put .result) (put .ensures .0) (l .inv .4) read,
       λ z.
           let kept = l .inv .5 z in (
             chemical-empty (a .base) (l .i) (l .cells) (put .last .0) few same ((l .i + 1) * 6) (omega arith) (kept .0),
@@ -131,7 +131,7 @@ unfolding largeWorked
 returns-2 c =
     let s = c .before .before .before .before in
     let l = c .before .loop in
-    let all : l .i ≡ s .args .t5 .count = omega arith in
+    let all : l .i ≡ s .args .t6 .count = omega arith in
     (sym (rw all at (l .inv .4)), (λ _. rw all at (l .inv .2), (l .inv .3, rw all at (l .inv .5))))
 
 pub put-lines-spec : {M : Type 1} → statement M

@@ -59,7 +59,7 @@ put-lines-requires c κs =
     let s = c .before .before .before .before .before .before in
     let l = c .before .before .before .loop in
     let most : l .j ≤ 3 = omega (arith, c .before .before .loop-test .taken, s .pre) in
-    (omega (arith, l .inv .1, s .pre .0), s .pre .2, omega (arith, s .pre, mul-le-mul-right (s .args .sources .count * 6 + 1) most))
+    (omega (arith, l .inv .1, s .pre .0), s .pre .2, omega (arith, s .pre, mul-le-mul-right (s .args .sources .count * 6 + 1) most), omega arith)
 
 enum-told : tie.Need-enum-told Inv-loop μ-loop
 enum-told c = search needs
