@@ -4,42 +4,48 @@ use mathlib.Core.Bool.{Bool, true}
 use mathlib.Core.List.{List}
 use Prim.Native.Nat.{ℕ, zero, suc, _-_, _^_, _≤_, _<_}
 use native.Mathlib.Omega.{arith}
-use lib.Dec.{lit≤}
+use lib.Dec.{leb, lit≤}
 use lib.IntN.{ℤ}
 use lib.ListN.{getD}
 use Rattle.pair.specs.declared.Pair.{Pair}
-use Rattle.pair.specs.Fraction.{Fraction, times, over}
+use Rattle.pair.specs.Fraction.{Fraction, minus, times, over}
 use Rattle.pair.specs.Calls.{Outcome, is, entry, onePair}
 use Rattle.pair.proofs.Promises.{_=ᶠ_}
+use Rattle.years.specs.declared.Years.{Years}
+use Rattle.years.specs.Years as years
+use Rattle.years.specs.Years.{amount}
 use Rattle.slots.specs.declared.Owner.{Owner}
 use Rattle.slots.specs.declared.Owner.the-variants.{Receptor}
 use Rattle.slots.specs.declared.Sort.the-variants.{Composite}
-use Rattle.slots.specs.Slots.{Slot, table, same, isIn, placeIn, entryRule, ownerOf, placeOf, ruleOf, ruleFor, neverZero}
+use Rattle.slots.specs.Slots.{Slot, positive, table, same, isIn, placeIn, entryRule, ruleIn, ruleAt, ownerOf, placeOf, ruleOf, ruleFor, neverZero}
 use Rattle.slots.proofs.Laws.{places, inside}
 use Rattle.equations.specs.Formula.{pairs, fractions}
 use Rattle.equations.specs.Readings.{valueIn, byOwner, inputs}
 use Rattle.equations.proofs.Profile.{Profile, Good}
-use Rattle.equations.proofs.LineLaws.{ofPrinted, ofSlot, answeredAs}
+use Rattle.equations.proofs.LineLaws.{ofPrinted, ofSlot, ofLater, answeredAs}
 use Rattle.deck.specs.declared.Case.{Case}
 use Rattle.deck.specs.declared.Value.{Value}
 use Rattle.deck.specs.declared.Value.the-variants as Values
 use Rattle.deck.specs.declared.Reading.{Reading}
 use Rattle.deck.specs.declared.Status.the-variants.{Read}
-use Rattle.deck.specs.Cases.{readOf, caseOf, valueAt, chemicalAt, receptorAt}
+use Rattle.deck.specs.Cases.{readOf, caseOf, valueAt, chemicalAt, receptorAt, ownersRecord, printed}
 use Rattle.deck.specs.Ranged.{Fits, Ranged}
 use Rattle.deck.proofs.Accepted.{accepted, tabulated}
-use Rattle.sheet.specs.Values.{orOne, pairOf, noReceptor, chemicalIn, receptorIn, pairsAt, scenarioWith, exactWith}
+use Rattle.sheet.specs.Values.{orOne, orNone, pairOf, fractionOf, noReceptor, chemicalIn, receptorIn, stayIn, pairsAt, scenarioWith, exactWith, printedYears, depositionOf, receptorWith}
 use Rattle.sheet.proofs.Sound.{Sound}
 use Rattle.sheet.proofs.Inputs.{value-good, value-entered, receptor-fits, made-sound}
+use Rattle.sheet.proofs.ExposureLaws.{time-told, deposition-told, later-good}
 use Rattle.report.specs.Report.{scenarioOf, exactOf}
-use Rattle.report.specs.DemandTwo.{Demand2}
+use Rattle.report.specs.DemandTwo.{Demand2, Timed, Exposed}
 use Rattle.report.specs.DemandThree.{Demand3}
 use Rattle.report.proofs.CallLaws.{deck-read, case-is}
 use Rattle.report.proofs.Fitting.{small-ids}
+use Rattle.report.proofs.Exposures.{exposed}
 use Rattle.report.proofs.DemandTwo.{Sounds, demand-2-of}
 use Rattle.report.proofs.DemandThree.{demand-3-of}
-use Rattle.composite.specs.Composite.{mean, summed, sumOfYears, composed, pairStage, exactStage, lastStage, compositeReceptor, compositeFrom, exactComposite, composite, Composed}
+use Rattle.composite.specs.Composite.{mean, summed, sumOfYears, composed, yearsTogether, pairStage, exactStage, lastStage, stageYears, exposureOf, pairComposite, compositeReceptor, compositeFrom, exactComposite, composite, compositeScenario, Composed}
 use Rattle.composite.proofs.Weighing.{composed-good}
+use Rattle.composite.proofs.ExposureLaws.{Lasting, printed-lasts, together-lasts, together-is, pair-good}
 
 -- an answer is what is taken of it
 answer-taken : (P : Profile) (o : Outcome Pair) (x : Fraction) → Good P o x → o ≡ is (orOne o)
@@ -49,6 +55,14 @@ answer-taken P o x g = g .told ∙ ap (λ (q : Outcome Pair). is (orOne q)) (sym
 years-owner : ownerOf "years" ≡ Receptor
 unfolding ownerOf isIn same table
 years-owner = refl
+
+years-rule : ruleFor Composite "years" ≡ positive
+unfolding ruleFor ruleAt ruleIn ownerOf placeOf placeIn isIn same table
+years-rule = refl
+
+tD-rule : ruleFor Composite "tD" ≡ positive
+unfolding ruleFor ruleAt ruleIn ownerOf placeOf placeIn isIn same table
+tD-rule = refl
 
 years-above : neverZero "years" ≡ true
 unfolding neverZero ruleOf entryRule placeOf ownerOf placeIn isIn same table
@@ -71,27 +85,55 @@ module _ (case : Case) (ranged : Ranged Composite case) where
   years-good : (j : ℕ) → j ≤ lastStage case → Good (answeredAs 20 1 true) (pairStage case j (placeOf "years")) (exactStage case j (placeOf "years"))
   years-good j h = subst (λ (b : Bool). Good (answeredAs 20 1 b) (pairStage case j (placeOf "years")) (exactStage case j (placeOf "years"))) years-above (stage-good "years" years-owner j h)
 
-  -- the composite's
-  slot-good : (s : Slot) → ownerOf s ≡ Receptor → Good (ofSlot s) (composed pairs (pairStage case) (lastStage case) (placeOf s)) (composed fractions (exactStage case) (lastStage case) (placeOf s))
-  slot-good s e = composed-good (pairStage case) (exactStage case) (lastStage case) few s e years-good (stage-good s e)
+  -- the exposure: the sum of the years, exact
+  exact-sum : Fraction
+  exact-sum = sumOfYears fractions (exactStage case) (lastStage case)
 
-  slot-taken : (s : Slot) → ownerOf s ≡ Receptor → composed pairs (pairStage case) (lastStage case) (placeOf s) ≡ is (valueIn (compositeReceptor case .values) (placeOf s))
-  unfolding compositeReceptor valueIn places
+  stage-lasts : (j : ℕ) → j ≤ lastStage case → Lasting 1 (stageYears case j) (exactStage case j (placeOf "years"))
+  unfolding stageYears exactStage
+  stage-lasts j h = printed-lasts Composite "years" (valueAt (receptorAt case j) (placeOf "years")) years-rule (receptor-fits Composite case ranged j (here j h) "years" years-owner)
+
+  exposure-lasts : Lasting (suc (lastStage case)) (exposureOf case) exact-sum
+  unfolding exposureOf exact-sum sumOfYears
+  exposure-lasts = together-lasts (stageYears case) (λ j. exactStage case j (placeOf "years")) (lastStage case) few stage-lasts (lastStage case) (omega arith)
+
+  deposition-lasts : Lasting 1 (depositionOf (case .site)) (fractionOf (valueAt (case .site) (placeOf "tD")))
+  unfolding depositionOf printed ownersRecord ownerOf isIn same table
+  deposition-lasts = printed-lasts Composite "tD" (valueAt (case .site) (placeOf "tD")) tD-rule (ranged .fits 0 0 (ranged .some-receptors) (ranged .some-chemicals) "tD")
+
+  -- the composite's
+  slot-good : (s : Slot) → ownerOf s ≡ Receptor → Good (ofSlot s) (pairComposite case (placeOf s)) (composed fractions (exactStage case) exact-sum (lastStage case) (placeOf s))
+  unfolding pairComposite
+  slot-good s e =
+      composed-good (pairStage case) (exactStage case) (years.asPair (exposureOf case)) exact-sum (lastStage case) few s e
+      (pair-good (suc (lastStage case)) (exposureOf case) exact-sum exposure-lasts) years-good (stage-good s e)
+
+  slot-taken : (s : Slot) → ownerOf s ≡ Receptor → pairComposite case (placeOf s) ≡ is (valueIn (compositeReceptor case .values) (placeOf s))
+  unfolding compositeReceptor receptorWith valueIn places
   slot-taken s e =
-      let f : ℕ → Pair = λ k. orOne (composed pairs (pairStage case) (lastStage case) k) in
       let k : placeOf s < 24 = subst (λ (o : Owner). placeOf s < places o) e (inside s) in
-      answer-taken (ofSlot s) (composed pairs (pairStage case) (lastStage case) (placeOf s)) (composed fractions (exactStage case) (lastStage case) (placeOf s)) (slot-good s e)
-      ∙ ap (λ (p : Pair). is p) (sym (tabulated f onePair 24 (placeOf s) k))
+      answer-taken (ofSlot s) (pairComposite case (placeOf s)) (composed fractions (exactStage case) exact-sum (lastStage case) (placeOf s)) (slot-good s e)
+      ∙ ap (λ (p : Pair). is p) (sym (tabulated (λ i. orOne (pairComposite case i)) onePair 24 (placeOf s) k))
 
   receptor-good : (j : ℕ) → j < 1 → (s : Slot) → ownerOf s ≡ Receptor
       → Good (ofSlot s) (is (valueIn (getD (compositeFrom case .list) j noReceptor .values) (placeOf s))) (exactComposite case j s)
-  unfolding compositeFrom exactComposite
-  receptor-good zero h s e = subst (λ (o : Outcome Pair). Good (ofSlot s) o (composed fractions (exactStage case) (lastStage case) (placeOf s))) (slot-taken s e) (slot-good s e)
+  unfolding compositeFrom exactComposite exact-sum
+  receptor-good zero h s e = subst (λ (o : Outcome Pair). Good (ofSlot s) o (composed fractions (exactStage case) exact-sum (lastStage case) (placeOf s))) (slot-taken s e) (slot-good s e)
   receptor-good (suc j) h s e = absurd (omega arith)
+
+  -- T2 − tD
+  abbrev tD : Fraction
+  tD = fractionOf (valueAt (case .site) (placeOf "tD"))
+
+  receptor-later : (j : ℕ) → j < 1 → ofLater (getD (compositeFrom case .list) j noReceptor .stay) .answered ≡ true
+      → Good (ofLater (getD (compositeFrom case .list) j noReceptor .stay)) (is (getD (compositeFrom case .list) j noReceptor .later)) (minus (exactComposite case j "T2") tD)
+  unfolding compositeFrom compositeReceptor receptorWith exactComposite composed exact-sum placeOf ownerOf placeIn isIn same table
+  receptor-later zero h = later-good (exposureOf case) (depositionOf (case .site)) exact-sum tD (exposure-lasts .exact) (deposition-lasts .exact)
+  receptor-later (suc j) h = absurd (omega arith)
 
   composite-sound : Sound (scenarioWith case (compositeFrom case)) (exactWith case (exactComposite case))
   unfolding compositeFrom
-  composite-sound = made-sound Composite case ranged (compositeFrom case) (exactComposite case) (lit≤ tt) (lit≤ tt) receptor-good
+  composite-sound = made-sound Composite case ranged (compositeFrom case) (exactComposite case) (lit≤ tt) (lit≤ tt) receptor-good receptor-later
 
   stage-entered : (j : ℕ) → j < case .receptors .count → (s : Slot) (digits : ℕ) (power : ℤ) → ownerOf s ≡ Receptor
       → valueAt (receptorAt case j) (placeOf s) ≡ Values.Printed power digits → entry digits power ≡ pairStage case j (placeOf s)
@@ -100,16 +142,40 @@ module _ (case : Case) (ranged : Ranged Composite case) where
       value-entered Composite s digits power (subst (Fits (ruleFor Composite s)) there (receptor-fits Composite case ranged j h s e))
       ∙ ap (λ (v : Value). is (pairOf v)) (sym there)
 
-  made-rule : (i : ℕ) (s : Slot) → ownerOf s ≡ Receptor
-      → composed pairs (pairStage case) (lastStage case) (placeOf s) ≡ is (pairsAt (scenarioWith case (compositeFrom case)) 0 i .value s)
-  unfolding pairsAt inputs scenarioWith receptorIn compositeFrom byOwner
+  made-rule : (i : ℕ) (s : Slot) → ownerOf s ≡ Receptor → pairComposite case (placeOf s) ≡ is (pairsAt (compositeScenario case) 0 i .value s)
+  unfolding pairsAt inputs compositeScenario scenarioWith receptorIn compositeFrom byOwner
   made-rule i s e = rw e (slot-taken s e)
 
+  -- T2 and T2 − tD are taken of times that are told
+  stage-timed : (j : ℕ) → j < case .receptors .count → Timed (valueAt (receptorAt case j) (placeOf "years"))
+  stage-timed j h = record { taken = time-told Composite "years" years-rule (valueAt (receptorAt case j) (placeOf "years")) (receptor-fits Composite case ranged j h "years" years-owner) .told }
+
+  stages-added : (j : ℕ) → suc j < case .receptors .count → years.together (yearsTogether (stageYears case) j) (stageYears case (suc j)) ≡ is (yearsTogether (stageYears case) (suc j))
+  unfolding lastStage
+  stages-added j h = together-is (stageYears case) (λ i. exactStage case i (placeOf "years")) (lastStage case) few stage-lasts j (omega arith)
+
+  exposure-taken : (i : ℕ) → years.asPair (exposureOf case) ≡ is (pairsAt (compositeScenario case) 0 i .value "T2")
+  unfolding pairComposite composed placeOf ownerOf placeIn isIn same table
+  exposure-taken i = made-rule i "T2" refl
+
+  set-against : (i : ℕ) → Exposed (exposureOf case) (depositionOf (case .site)) (stayIn (compositeScenario case) 0) (pairsAt (compositeScenario case) 0 i .later)
+  unfolding stayIn pairsAt compositeScenario scenarioWith receptorIn compositeFrom compositeReceptor receptorWith
+  set-against i = exposed (exposureOf case) (depositionOf (case .site)) (exposure-lasts .exact .time) (deposition-lasts .exact .time)
+
   composite-made : Composed case
-  composite-made = record { entered = stage-entered; rule = made-rule }
+  composite-made =
+      record {
+        entered = stage-entered;
+        rule = made-rule;
+        staged = stage-timed;
+        added = stages-added;
+        deposition = record { taken = deposition-told Composite case ranged .told };
+        taken = exposure-taken;
+        exposed = set-against;
+      }
 
 ids : (deck : List ℕ) → Ranged Composite (caseOf deck) → (j : ℕ) → j < 1 → receptorIn (scenarioOf composite deck) j .id < 10 ^ 6
-unfolding receptorIn scenarioOf composite scenarioWith compositeFrom compositeReceptor
+unfolding receptorIn scenarioOf composite scenarioWith compositeFrom compositeReceptor receptorWith
 ids deck ranged zero h = small-ids deck .0 0 (ranged .some-receptors)
 ids deck ranged (suc j) h = absurd (omega arith)
 

@@ -2,4 +2,5 @@
 -- report has demands 1 to 3 (`Demands`). Assumes nothing.
 mod StageLaws
 mod Weighing
+mod ExposureLaws
 pub mod Demands

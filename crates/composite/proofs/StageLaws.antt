@@ -10,19 +10,21 @@ use borrow.Author.Tests.{ne-eqb}
 use Rattle.pair.specs.declared.Pair.{Pair}
 use Rattle.pair.specs.declared.Answer.{Answer}
 use Rattle.pair.specs.Calls.{Outcome, is, onePair, answer, after, entry, sum, product, quotient}
+use Rattle.years.specs.declared.Years.{Years}
+use Rattle.years.specs.Years.{together, asPair}
 use Rattle.slots.specs.Slots.{table, same, isIn, placeIn, ownerOf, placeOf}
 use Rattle.equations.specs.Formula.{pairs}
 use Rattle.equations.proofs.ValueLaws.{read-any}
 use Rattle.equations.specs.declared.Values.{Values}
 use Rattle.deck.specs.declared.Case.{Case}
 use Rattle.deck.specs.declared.Record.{Record}
-use Rattle.deck.specs.Cases.{noRecord, valueAt, receptorAt}
+use Rattle.deck.specs.Cases.{slotsPerRecord, tabulate, noRecord, valueAt, receptorAt}
 use Rattle.sheet.specs.declared.Receptor.{Receptor}
 use Rattle.sheet.specs.declared.Receptors.{Receptors}
-use Rattle.sheet.specs.Values.{pairOf, noReceptor}
+use Rattle.sheet.specs.Values.{orOne, pairOf, noReceptor, orNone, printedYears, depositionOf, receptorWith}
 use Rattle.deck.proofs.Accepted.{tabulated}
-use Rattle.composite.specs.Composite.{summed, sumOfYears, mean, composed, pairStage, lastStage, compositeReceptor, compositeFrom}
-use Rattle.composite.specs.Inner.{pairIn, stageIn, yearsIn, yearAt, weightAt, composedIn}
+use Rattle.composite.specs.Composite.{summed, sumOfYears, mean, composed, yearsTogether, pairStage, lastStage, stageYears, exposureOf, pairComposite, compositeReceptor, compositeFrom}
+use Rattle.composite.specs.Inner.{pairIn, stageIn, yearsIn, yearAt, weightAt, printedIn, composedIn}
 
 -- terms that agree have one sum
 summed-same : (f g : ℕ → Outcome Pair) (n : ℕ) → ((j : ℕ) → j ≤ n → f j ≡ g j) → summed pairs f n ≡ summed pairs g n
@@ -67,29 +69,57 @@ pub next-sum : (f : ℕ → Outcome Pair) (so-far new : Answer) (term : Outcome 
 unfolding summed pairs
 next-sum f so-far new term n a b e = e ∙ ap₂ (after sum) a (b ∙ ap f (add-one n)) ∙ sym (ap (summed pairs f) (add-one n))
 
+-- ---- the years of the stages as printed, added
+pub printed-is : (records : List Record) (blank : Record) (j : ℕ) → j < length records → printedYears (valueAt (getD records j blank) (placeOf "years")) ≡ printedIn records j
+unfolding printedIn
+printed-is records blank j h = ap (λ (r : Record). printedYears (valueAt r (placeOf "years"))) (read-any records j h blank noRecord)
+
+pub next-years : (f : ℕ → Years) (so-far new term : Years) (n : ℕ) → so-far ≡ yearsTogether f n → term ≡ f (n + 1) → new ≡ orNone (together so-far term) → new ≡ yearsTogether f (n + 1)
+unfolding yearsTogether
+next-years f so-far new term n a b e = e ∙ ap orNone (ap₂ together a (b ∙ ap f (add-one n))) ∙ sym (ap (yearsTogether f) (add-one n))
+
 -- ---- the composite's value at a place
-module _ (stage : ℕ → ℕ → Outcome Pair) (last k : ℕ) (total : Answer) (total-is : answer total ≡ sumOfYears pairs stage last) where
+module _ (stage : ℕ → ℕ → Outcome Pair) (exposure : Outcome Pair) (last k : ℕ) (total : Answer) (total-is : answer total ≡ sumOfYears pairs stage last) where
   -- ED
-  pub total-years : k ≡ 1 → answer total ≡ composed pairs stage last k
+  pub total-years : k ≡ 1 → answer total ≡ composed pairs stage exposure last k
   unfolding composed placeOf ownerOf placeIn isIn same table
   total-years e = total-is ∙ rw e refl
 
   -- ATc
-  pub total-days : k ≡ 2 → (days r : Answer) → answer days ≡ entry 365 (pos 0) → answer r ≡ after product (answer days) (answer total) → answer r ≡ composed pairs stage last k
+  pub total-days : k ≡ 2 → (days r : Answer) → answer days ≡ entry 365 (pos 0) → answer r ≡ after product (answer days) (answer total) → answer r ≡ composed pairs stage exposure last k
   unfolding composed pairs placeOf ownerOf placeIn isIn same table
   total-days e days r d t = t ∙ ap₂ (after product) d total-is ∙ rw e refl
 
+  -- T2
+  pub total-exposure : k ≡ 21 → exposure ≡ composed pairs stage exposure last k
+  unfolding composed placeOf ownerOf placeIn isIn same table
+  total-exposure e = rw e refl
+
   -- any other slot
-  pub weighted-mean : (k ≡ 1 → ⊥) → (k ≡ 2 → ⊥) → (w r : Answer) → answer w ≡ summed pairs (λ j. after product (stage j (placeOf "years")) (stage j k)) last
-      → answer r ≡ after quotient (answer w) (answer total) → answer r ≡ composed pairs stage last k
+  pub weighted-mean : (k ≡ 1 → ⊥) → (k ≡ 2 → ⊥) → (k ≡ 21 → ⊥) → (w r : Answer) → answer w ≡ summed pairs (λ j. after product (stage j (placeOf "years")) (stage j k)) last
+      → answer r ≡ after quotient (answer w) (answer total) → answer r ≡ composed pairs stage exposure last k
   unfolding composed mean pairs placeOf ownerOf placeIn isIn same table
-  weighted-mean a b w r s q = q ∙ ap₂ (after quotient) s total-is ∙ rw (ne-eqb k 1 a, ne-eqb k 2 b) refl
+  weighted-mean a b c w r s q = q ∙ ap₂ (after quotient) s total-is ∙ rw (ne-eqb k 1 a, ne-eqb k 2 b, ne-eqb k 21 c) refl
 
 -- ---- the receptor as it is made
-pub composite-made : (case : Case) (blank : Record) → 0 < length (case .receptors .records) → (values′ : Values) (none : Receptor)
-    → values′ .list ≡ composedIn (case .receptors .records) (case .receptors .count - 1) → none ≡ noReceptor
-    → _≡_ {A = Receptors} (record { count = 1; list = record { id = getD (case .receptors .records) 0 blank .id; values = values′ } ∷ none ∷ none ∷ none ∷ [] }) (compositeFrom case)
-unfolding compositeFrom compositeReceptor composedIn stageIn pairIn pairStage lastStage receptorAt
-composite-made case blank h values′ none e n =
-    let first : getD (case .receptors .records) 0 blank .id ≡ getD (case .receptors .records) 0 noRecord .id = ap (λ (r : Record). r .id) (read-any (case .receptors .records) 0 h blank noRecord) in
-    λ i. record { count = 1; list = record { id = first i; values = record { list = e i } } ∷ n i ∷ n i ∷ n i ∷ [] }
+module _ (case : Case) (blank : Record) (h : 0 < length (case .receptors .records)) (values′ : Values) (exposure : Years) (rounded : Outcome Pair)
+    (exposure-is : exposure ≡ yearsTogether (printedIn (case .receptors .records)) (case .receptors .count - 1)) (rounded-is : rounded ≡ asPair exposure)
+    (values-are : values′ .list ≡ composedIn (case .receptors .records) rounded (case .receptors .count - 1)) where
+  exposure-made : exposure ≡ exposureOf case
+  unfolding exposureOf stageYears printedIn lastStage receptorAt
+  exposure-made = exposure-is
+
+  values-made : _≡_ {A = Values} values′ (record { list = tabulate slotsPerRecord (λ k. orOne (pairComposite case k)) })
+  unfolding pairComposite composedIn stageIn pairIn pairStage lastStage receptorAt
+  values-made =
+      let e = values-are ∙ ap (λ (o : Outcome Pair). composedIn (case .receptors .records) o (case .receptors .count - 1)) (rounded-is ∙ ap asPair exposure-made) in
+      λ i. record { list = e i }
+
+  pub composite-made : (deposition : Years) (receptor none : Receptor) → deposition ≡ depositionOf (case .site)
+      → receptor ≡ receptorWith (getD (case .receptors .records) 0 blank .id) values′ exposure deposition → none ≡ noReceptor
+      → _≡_ {A = Receptors} (record { count = 1; list = receptor ∷ none ∷ none ∷ none ∷ [] }) (compositeFrom case)
+  unfolding compositeFrom compositeReceptor receptorAt
+  composite-made deposition receptor none d r n =
+      let first : getD (case .receptors .records) 0 blank .id ≡ getD (case .receptors .records) 0 noRecord .id = ap (λ (r : Record). r .id) (read-any (case .receptors .records) 0 h blank noRecord) in
+      let made : receptor ≡ compositeReceptor case = r ∙ (λ i. receptorWith (first i) (values-made i) (exposure-made i) (d i)) in
+      λ i. record { count = 1; list = made i ∷ n i ∷ n i ∷ n i ∷ [] }

@@ -99,8 +99,9 @@ unfolding joined joint usable
 weighted-answered true = refl
 weighted-answered false = refl
 
--- ---- the composite of stages 0 to last, whose years and values are good
-module _ (stage : ℕ → ℕ → Outcome Pair) (exact : ℕ → ℕ → Fraction) (last : ℕ) (few : last < 8) (s : Slot) (e : ownerOf s ≡ Receptor)
+-- ---- the composite of stages 0 to last, whose exposure, years and values are good
+module _ (stage : ℕ → ℕ → Outcome Pair) (exact : ℕ → ℕ → Fraction) (exposure : Outcome Pair) (exact-exposure : Fraction) (last : ℕ) (few : last < 8) (s : Slot) (e : ownerOf s ≡ Receptor)
+    (of-exposure : Good (answeredAs 27 1 true) exposure exact-exposure)
     (of-years : (j : ℕ) → j ≤ last → Good years (stage j (placeOf "years")) (exact j (placeOf "years")))
     (of-values : (j : ℕ) → j ≤ last → Good (answeredAs 20 1 (neverZero s)) (stage j (placeOf s)) (exact j (placeOf s))) where
   abbrev b : Bool
@@ -138,9 +139,10 @@ module _ (stage : ℕ → ℕ → Outcome Pair) (exact : ℕ → ℕ → Fractio
   mean-good = good-op quotients (weights b last) (total last) weights-good total-good (answered-of b (average b last) (checks .1 .1 .0))
 
   -- every slot of the composite is in range of the exact composite's value
-  pub composed-good : Good (ofSlot s) (composed pairs stage last (placeOf s)) (composed fractions exact last (placeOf s))
-  unfolding composed
+  pub composed-good : Good (ofSlot s) (composed pairs stage exposure last (placeOf s)) (composed fractions exact exact-exposure last (placeOf s))
+  unfolding composed taken
   composed-good =
       choose (eqb (placeOf s) (placeOf "ED")) (ofSlot s) _ _ _ _ (fits-slot s e true (total last) (checks .0) (λ z. refl) total-good)
       (choose (eqb (placeOf s) (placeOf "ATc")) (ofSlot s) _ _ _ _ (fits-slot s e true (days last) (checks .1 .0) (λ z. refl) days-good)
-      (fits-slot s e b (average b last) (checks .1 .1 .0) (λ z. z) mean-good))
+      (choose (eqb (placeOf s) (placeOf "T2")) (ofSlot s) _ _ _ _ (fits-slot s e true (answeredAs 27 1 true) refl (λ z. refl) of-exposure)
+      (fits-slot s e b (average b last) (checks .1 .1 .0) (λ z. z) mean-good)))

@@ -4,12 +4,13 @@ use Prim.Native.Nat.{ℕ}
 use lib.ListN.{getD}
 use Rattle.pair.specs.declared.Pair.{Pair}
 use Rattle.pair.specs.Calls.{Outcome, is, onePair, after, product}
+use Rattle.years.specs.declared.Years.{Years}
 use Rattle.slots.specs.Slots.{placeOf}
 use Rattle.equations.specs.Formula.{pairs}
 use Rattle.deck.specs.declared.Record.{Record}
 use Rattle.deck.specs.Kinds.{mostReceptors}
 use Rattle.deck.specs.Cases.{slotsPerRecord, tabulate, noRecord, valueAt}
-use Rattle.sheet.specs.Values.{orOne, pairOf}
+use Rattle.sheet.specs.Values.{orOne, pairOf, printedYears}
 use Rattle.composite.specs.Composite.{composed}
 
 -- the pair at place k of record j
@@ -29,6 +30,10 @@ yearAt years j = is (getD years j onePair)
 unfoldable pub weightAt : List Record → List Pair → ℕ → ℕ → Outcome Pair
 weightAt records years k j = after product (yearAt years j) (stageIn records j k)
 
+-- the years of stage j as printed
+unfoldable pub printedIn : List Record → ℕ → Years
+printedIn records j = printedYears (valueAt (getD records j noRecord) (placeOf "years"))
+
 -- the composite's values, place by place
-unfoldable pub composedIn : List Record → ℕ → List Pair
-composedIn records last = tabulate slotsPerRecord (λ k. orOne (composed pairs (stageIn records) last k))
+unfoldable pub composedIn : List Record → Outcome Pair → ℕ → List Pair
+composedIn records exposure last = tabulate slotsPerRecord (λ k. orOne (composed pairs (stageIn records) exposure last k))

@@ -3,6 +3,7 @@ use deck::Case;
 use deck::MAX_STAGES;
 use deck::Receptors;
 use deck::Record;
+use equations::Stay;
 use equations::Values;
 use pair::Answer;
 use pair::Pair;
@@ -10,18 +11,23 @@ use sheet::Receptor;
 use slots::ATC;
 use slots::ED;
 use slots::SLOTS;
+use slots::T2;
 use slots::YEARS;
+use years::Time;
+use years::Years;
 ghost use mathlib.Core.Path.{_≡_};
 ghost use Prim.Native.Nat.{_<_, _≤_};
 ghost use Rattle.pair.specs.Calls.{answer};
+ghost use Rattle.years.specs.Years.{together};
+ghost use Rattle.slots.specs.Slots.{placeOf};
 ghost use Rattle.equations.specs.Formula.{pairs};
 ghost use Rattle.deck.specs.Cases.{valueAt};
-ghost use Rattle.sheet.specs.Values.{pairOf, noReceptor};
-ghost use Rattle.composite.specs.Composite.{summed, sumOfYears, composed, compositeFrom};
-ghost use Rattle.composite.specs.Inner.{stageIn, yearsIn, yearAt, weightAt, composedIn};
+ghost use Rattle.sheet.specs.Values.{pairOf, noReceptor, orNone, printedYears};
+ghost use Rattle.composite.specs.Composite.{summed, sumOfYears, composed, yearsTogether, compositeFrom};
+ghost use Rattle.composite.specs.Inner.{stageIn, yearsIn, yearAt, weightAt, printedIn, composedIn};
 
-// The years of each stage, entered once.
-struct Years {
+// The years of each stage as pairs, entered once.
+struct YearPairs {
     list: [Pair; MAX_STAGES],
 }
 
@@ -35,7 +41,7 @@ fn value_in(stage: Record, k: usize) -> Pair
     sheet::pair_of(v)
 }
 
-fn years_of(stages: Receptors) -> Years
+fn years_of(stages: Receptors) -> YearPairs
     ensures { λ r. ⌜ r .list ≡ yearsIn (stages .records) ⌝ }
 {
     let mut list = [Pair::ONE; MAX_STAGES];
@@ -45,11 +51,11 @@ fn years_of(stages: Receptors) -> Years
         list[j] = value_in(stage, YEARS);
         j += 1;
     }
-    Years { list }
+    YearPairs { list }
 }
 
 // The sum of the years of stages 0 to last, in deck order.
-fn sum_of_years(years: Years, last: usize) -> Answer
+fn sum_of_years(years: YearPairs, last: usize) -> Answer
     requires { ⌜ last < 8 ⌝ }
     ensures { λ r. ⌜ answer r ≡ summed pairs (yearAt (years .list)) last ⌝ }
 {
@@ -66,7 +72,7 @@ fn sum_of_years(years: Years, last: usize) -> Answer
 }
 
 // The sum of years × value at place k, of stages 0 to last. A stage is copied out for its turn; all of them are passed on once for each place.
-fn weighted_sum(stages: Receptors, years: Years, last: usize, k: usize) -> Answer
+fn weighted_sum(stages: Receptors, years: YearPairs, last: usize, k: usize) -> Answer
     requires { ⌜ (last < 8) × (k < 24) ⌝ }
     ensures { λ r. ⌜ answer r ≡ summed pairs (weightAt (stages .records) (years .list) k) last ⌝ }
 {
@@ -83,29 +89,73 @@ fn weighted_sum(stages: Receptors, years: Years, last: usize, k: usize) -> Answe
     sum
 }
 
+// A stage's years as printed.
+fn printed_in(stage: Record) -> Years
+    ensures { λ y. ⌜ y ≡ printedYears (valueAt stage (placeOf "years")) ⌝ }
+{
+    let slot = stage.slots[YEARS];
+    let v = slot.value;
+    sheet::printed_years(v)
+}
+
+// The sum of two times; 0 for one that is refused, which printed years in range never come to.
+fn added(sum: Years, next: Years) -> Years
+    ensures { λ y. ⌜ y ≡ orNone (together sum next) ⌝ }
+{
+    let Time::Is(y) = sum.together(next) else {
+        return Years::NONE;
+    };
+    y
+}
+
+// The exposure of stages 0 to last, exact.
+fn exposure_of(stages: Receptors, last: usize) -> Years
+    requires { ⌜ last < 8 ⌝ }
+    ensures { λ y. ⌜ y ≡ yearsTogether (printedIn (stages .records)) last ⌝ }
+{
+    let first = stages.records[0];
+    let mut sum = printed_in(first);
+    let mut j: usize = 0;
+    while j < last {
+        let next = j + 1;
+        let stage = stages.records[next];
+        sum = added(sum, printed_in(stage));
+        j = next;
+    }
+    sum
+}
+
 // The composite's value at place k.
-fn composed_at(stages: Receptors, years: Years, total: Answer, last: usize, k: usize) -> Answer
+fn composed_at(
+    stages: Receptors,
+    years: YearPairs,
+    total: Answer,
+    exposure: Answer,
+    last: usize,
+    k: usize,
+) -> Answer
     requires { ⌜ (last < 8) × (k < 24) × (years .list ≡ yearsIn (stages .records)) ⌝ }
     requires { ⌜ answer total ≡ sumOfYears pairs (stageIn (stages .records)) last ⌝ }
-    ensures { λ r. ⌜ answer r ≡ composed pairs (stageIn (stages .records)) last k ⌝ }
+    ensures { λ r. ⌜ answer r ≡ composed pairs (stageIn (stages .records)) (answer exposure) last k ⌝ }
 {
     match k {
         ED => total,
         ATC => Pair::entry(365, 0).times(total),
+        T2 => exposure,
         _ => weighted_sum(stages, years, last, k).over(total),
     }
 }
 
-fn composed_values(stages: Receptors, last: usize) -> Values
+fn composed_values(stages: Receptors, exposure: Answer, last: usize) -> Values
     requires { ⌜ last < 8 ⌝ }
-    ensures { λ r. ⌜ r .list ≡ composedIn (stages .records) last ⌝ }
+    ensures { λ r. ⌜ r .list ≡ composedIn (stages .records) (answer exposure) last ⌝ }
 {
     let years = years_of(stages);
     let total = sum_of_years(years, last);
     let mut list = [Pair::ONE; SLOTS];
     let mut k: usize = 0;
     while k < SLOTS {
-        list[k] = sheet::or_one(composed_at(stages, years, total, last, k));
+        list[k] = sheet::or_one(composed_at(stages, years, total, exposure, last, k));
         k += 1;
     }
     Values { list }
@@ -118,6 +168,8 @@ fn no_receptor() -> Receptor
     Receptor {
         id: 0,
         values: Values { list },
+        stay: Stay::Within,
+        later: Pair::ONE,
     }
 }
 
@@ -128,16 +180,12 @@ pub(crate) fn composite_of(case: Case) -> sheet::Receptors
 {
     let stages = case.receptors;
     let first = stages.records[0];
-    let values = composed_values(stages, stages.count - 1);
+    let last = stages.count - 1;
+    let exposure = exposure_of(stages, last);
+    let values = composed_values(stages, exposure.pair(), last);
+    let deposition = sheet::deposition_of(case.site);
+    let receptor = sheet::receptor_with(first.id, values, exposure, deposition);
     let none = no_receptor();
-    let list = [
-        Receptor {
-            id: first.id,
-            values,
-        },
-        none,
-        none,
-        none,
-    ];
+    let list = [receptor, none, none, none];
     sheet::Receptors { count: 1, list }
 }

@@ -6,7 +6,7 @@ use native.Mathlib.Omega.{arith}
 use borrow.Author.Needs.{needs}
 use lib.ListN.{replicate}
 use Rattle.pair.specs.Number.{one}
-use Rattle.pair.specs.Calls.{onePair}
+use Rattle.pair.specs.Calls.{onePair, answer}
 use Rattle.equations.specs.Formula.{pairs}
 use Rattle.deck.specs.Cases.{tabulate}
 use Rattle.deck.proofs.CaseLaws.{filled-start, filled-more}
@@ -18,10 +18,10 @@ use Rattle.composite.proofs.stages.composed_values.Statement.{statement
 use Rattle.composite.proofs.stages.composed_values.Tie as tie
 
 abbrev Inv-loop : tie.InvT-loop
-Inv-loop stages last years total list₀ k₀ list k = (k ≤ 24) × (list ≡ tabulate k (λ i. orOne (composed pairs (stageIn (stages .records)) last i)) ++ replicate (24 - k) onePair)
+Inv-loop stages exposure last years total list₀ k₀ list k = (k ≤ 24) × (list ≡ tabulate k (λ i. orOne (composed pairs (stageIn (stages .records)) (answer exposure) last i)) ++ replicate (24 - k) onePair)
 
 abbrev μ-loop : tie.MeasureT-loop
-μ-loop stages last years total list₀ k₀ list k = 24 - k
+μ-loop stages exposure last years total list₀ k₀ list k = 24 - k
 
 years-of-requires : tie.Need-years-of-requires Inv-loop μ-loop
 years-of-requires c κs = search needs
@@ -33,7 +33,7 @@ loop-holds : tie.Need-loop-holds Inv-loop μ-loop
 unfolding onePair one
 loop-holds c =
     let s = c .before .before in
-    (omega arith, filled-start (λ i. orOne (composed pairs (stageIn (s .args .stages .records)) (s .args .last) i)) onePair 24)
+    (omega arith, filled-start (λ i. orOne (composed pairs (stageIn (s .args .stages .records)) (answer (s .args .exposure)) (s .args .last) i)) onePair 24)
 
 composed-at-requires : tie.Need-composed-at-requires Inv-loop μ-loop
 composed-at-requires c κs =
@@ -59,7 +59,7 @@ loop-again c =
     let s = c .before .before .before .before .before .before in
     let l = c .before .before .before .loop in (
       omega (arith, c .before .before .loop-test .taken),
-      filled-more (λ i. orOne (composed pairs (stageIn (s .args .stages .records)) (s .args .last) i)) onePair 24 (l .k) (omega (arith, c .before .before .loop-test .taken)) (l .list) (l .inv .1) (c .or-one .result) (c .or-one .ensures ∙ ap orOne (c .before .composed-at .ensures)),
+      filled-more (λ i. orOne (composed pairs (stageIn (s .args .stages .records)) (answer (s .args .exposure)) (s .args .last) i)) onePair 24 (l .k) (omega (arith, c .before .before .loop-test .taken)) (l .list) (l .inv .1) (c .or-one .result) (c .or-one .ensures ∙ ap orOne {y = composed pairs (stageIn (s .args .stages .records)) (answer (s .args .exposure)) (s .args .last) (l .k)} (c .before .composed-at .ensures)),
     )
 
 returns : tie.Need-returns Inv-loop μ-loop
@@ -68,7 +68,7 @@ returns c =
     let s = c .before .before .before .before in
     let l = c .before .loop in
     let all : l .k ≡ 24 = omega (arith, c .loop-test .left) in
-    (rw all at (l .inv .1)) ∙ append-nil (tabulate 24 (λ i. orOne (composed pairs (stageIn (s .args .stages .records)) (s .args .last) i)))
+    (rw all at (l .inv .1)) ∙ append-nil (tabulate 24 (λ i. orOne (composed pairs (stageIn (s .args .stages .records)) (answer (s .args .exposure)) (s .args .last) i)))
 
 pub composed-values-spec : {M : Type 1} → statement M
 composed-values-spec =

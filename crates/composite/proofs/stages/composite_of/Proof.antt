@@ -3,6 +3,7 @@ use mathlib.Core.Path.{_≡_, sym, _∙_}
 use native.Mathlib.Omega.{arith}
 use borrow.Author.Needs.{needs}
 use lib.ListN.{length, length-map}
+use Rattle.pair.specs.Calls.{answer}
 use Rattle.composite.proofs.StageLaws.{composite-made}
 use Rattle.composite.proofs.stages.composite_of.Statement.{statement}
 use Rattle.composite.proofs.stages.composite_of.Tie as tie
@@ -10,27 +11,49 @@ use Rattle.composite.proofs.stages.composite_of.Tie as tie
 element-copy-out-first : tie.Need-element-copy-out-first
 element-copy-out-first c = search needs
 
-sub-composed-values : tie.Need-sub-composed-values
-sub-composed-values c = search needs
+sub-last : tie.Need-sub-last
+sub-last c = search needs
+
+exposure-of-requires : tie.Need-exposure-of-requires
+exposure-of-requires c κs = search needs
+
+pair-requires : tie.Need-pair-requires
+pair-requires c κs = search needs
 
 composed-values-requires : tie.Need-composed-values-requires
 composed-values-requires c κs = search needs
+
+deposition-of-requires : tie.Need-deposition-of-requires
+deposition-of-requires c κs = search needs
+
+receptor-with-requires : tie.Need-receptor-with-requires
+receptor-with-requires c κs = search needs
 
 no-receptor-requires : tie.Need-no-receptor-requires
 no-receptor-requires c κs = search needs
 
 returns : tie.Need-returns
 returns c =
-    let s = c .before .before .before .before in
+    let r = c .before in
+    let d = r .before in
+    let v = d .before in
+    let p = v .before in
+    let e = p .before in
+    let s = e .before .before .before in
     let long : length (s .args .case .receptors .records) ≡ 8 = sym (length-map (s .args .case .receptors .records) _) ∙ s .good .0 .1 .1 .1 .1 .0 .1 .1 .1 .0 .1 .0 .1 in
-    composite-made (s .args .case) _ (omega arith) (c .before .composed-values .result) (c .no-receptor .result) (c .before .composed-values .ensures) (c .no-receptor .ensures)
+    composite-made (s .args .case) _ (omega arith) (v .composed-values .result) (e .exposure-of .result) (answer (p .pair .result)) (e .exposure-of .ensures) (p .pair .ensures) (v .composed-values .ensures)
+    (d .deposition-of .result) (r .receptor-with .result) (c .no-receptor .result) (d .deposition-of .ensures) (r .receptor-with .ensures) (c .no-receptor .ensures)
 
 pub composite-of-spec : {M : Type 1} → statement M
 composite-of-spec =
     tie.close
     (tie.spec
     element-copy-out-first
-    sub-composed-values
+    sub-last
+    exposure-of-requires
+    pair-requires
     composed-values-requires
+    deposition-of-requires
+    receptor-with-requires
     no-receptor-requires
     returns)
