@@ -9,7 +9,8 @@
  *   31  a field is neither blank nor a lone - nor a number
  *   32  a needed field is blank, - stands where a value is needed, or a later field is not blank
  *   33  a value is out of its range
- *   41  a chemical is lost too fast: the high end of loss times years is above 64
+ *   41  a chemical is lost too fast: the high end of its loss times tD, the years of deposition, is above 64; or of its loss times
+ *       T2 - tD, for a receptor whose length of exposure T2 is above tD
  *   42  a report line is too large: a quotient's high end above 10,000, or a risk's above 1
  *   51  the report buffer is shorter than 95 bytes for each report line
  *   52  a list of units is longer than 96 numbers, or has one above 1E+16
@@ -52,13 +53,15 @@ extern "C" {
  * line and field are always written. On a refusal they say where: line counts from 1 (41: the chemical's place; 42: the report line,
  * total lines counted too; 11 and 51: 0), and field is 1 to 6, or 0 where no field is meant. */
 
-/* The report of a deck of n bytes, into a buffer of room bytes. On 0, *line is the report's length in bytes and *field is 0; the bytes
- * of the buffer past the report stay as they were. On a refusal the whole buffer does.
+/* The report of a deck of n bytes, into a buffer of room bytes. Each receptor has its length of exposure in slot 22, over which cancer's
+ * soil is a mean. On 0, *line is the report's length in bytes and *field is 0; the bytes of the buffer past the report stay as they were.
+ * On a refusal the whole buffer does.
  * Refusals, the first that holds: 11; then line by line 12, 21, 22, and in each field 31, 32, 33; then 51, 41, 42. */
 uint32_t zilmorga_report(const uint8_t *deck, size_t n, uint8_t *report, size_t room, size_t *line, size_t *field);
 
 /* The report of a composite's deck: its one to eight receptors are the life stages of one person, each with its years in slot 23, and the
- * report has that one person, under the first stage's id. Told and refused as zilmorga_report is. */
+ * report has that one person, under the first stage's id. The length of exposure is the exact sum of the years, so slot 22 is blank.
+ * Told and refused as zilmorga_report is. */
 uint32_t zilmorga_composite_report(const uint8_t *deck, size_t n, uint8_t *report, size_t room, size_t *line, size_t *field);
 
 /* Read an ordinary deck, or a composite's, and do no more. On 0, *line and *field are 0. Refusals: 11, 12, 21, 22, 31, 32, 33. */
@@ -94,8 +97,10 @@ uint32_t zilmorga_quotient(const int64_t a[4], const int64_t b[4], int64_t out[4
 /* 1 - f: the low end from f's high end, the high end from f's low end. 53: f's high end is above 1. */
 uint32_t zilmorga_one_minus(const int64_t f[4], int64_t out[4]);
 
-/* The series 1 + x/2 + x^2/6 + .. of 256 terms, with the last term's high end added to the high end once more. */
+/* The series 1 + x/2 + x^2/6 + .., which is x^n / (n+1)! added up, for the soil of the highest year; and 1/2 + x/3 + x^2/8 + .., which is
+ * (n+1) x^n / (n+2)! added up, for the mean soil. Each has 256 terms, with the last term's high end added to the high end once more. */
 uint32_t zilmorga_series(const int64_t x[4], int64_t out[4]);
+uint32_t zilmorga_mean_series(const int64_t x[4], int64_t out[4]);
 
 /* Whether a working number is at most a bound: *at_most is 1 or 0. */
 uint32_t zilmorga_compare(const int64_t end[2], const int64_t bound[2], uint32_t *at_most);

@@ -3,26 +3,27 @@
 
 Writes FOLDER/decks, FOLDER/composites, and FOLDER/stdout, which is what a trial of the one and then of the other prints.
 
-The answers of FOLDER/decks are those of level 1: document 01 with request P1. The decks of document 01 are still chosen by their answers at
-level 0, so they stay the ones they were; a deck whose numbers have at most nine digits must have the same answer at both levels, else the script
-stops. Request P2 changes no ordinary deck's answer: each is held to the one at level 2 too. FOLDER/composites has the composite call's answers,
-of level 2.
+The answers are those of level 4: document 01 with requests P1, P2 and P4 (P3 changes none). P4 changes cancer alone: each deck is held to its answer
+at level 2, an ordinary one with slot 22 cleared. Where both are reports, all hazard figures and the air's risks must be the same; a refusal must be
+the same but for 32 and 33 at a T2, 41 by one, and 42 by the risk of soil or produce. Else the script stops.
 """
 import collections
+import functools
 import random
 import sys
 sys.path.insert(0, sys.argv[1])
 import oracle
 import decks
-from oracle import SITE, CHEM, REC, NOVALUE, NONZERO, ATMOST1, ATMOST366, deck_text, report, Refusal
+from oracle import SITE, CHEM, NOVALUE, NONZERO, ATMOST1, ATMOST366, deck_text, report, Refusal
 
 SEED = int(sys.argv[2])
 rng = random.Random(SEED)
 LINE = 95
-LEVEL = 1
-ORDINARY, COMPOSITE = (2, False), (2, True)
-call = (0, False)       # the level and whether it is the composite call, whose answers choose the decks
-short_decks, long_decks, moved = collections.Counter(), collections.Counter(), collections.Counter()
+LEVEL = 4
+ORDINARY, COMPOSITE = (LEVEL, False), (LEVEL, True)
+REC = oracle.REC + ["T2"]
+call = ORDINARY         # the level and whether it is the composite call
+moved = collections.Counter()
 
 
 class File:
@@ -59,22 +60,29 @@ def any_room(deck):
     return rng.choice([n, n, n + 1, n + rng.randint(2, 700), n + 95, n + rng.randint(100, 900)])
 
 
-def most_digits(deck):
-    """the most digits that a field has before an exponent"""
-    fields = [deck[i + 8 + 12 * f:i + 20 + 12 * f] for i in range(0, len(deck), 81) for f in range(6)]
-    return max([sum(48 <= c <= 57 for c in x.split(b"E")[0]) for x in fields], default=0)
+def without_exposure(deck):
+    """an ordinary deck as it was before P4"""
+    for at in range(0, len(deck) - 80, 81):
+        if deck[at:at + 2] == b"R4" and all(32 <= c <= 126 for c in deck[at + 44:at + 56]):
+            deck = deck[:at + 44] + b" " * 12 + deck[at + 56:]
+    return deck
+
+
+def not_cancer(text):
+    """the columns of a report that P4 leaves: hazard's, and the air's risks"""
+    return [line if line[12:14] == b" 1" else line[:54] for line in text.splitlines()]
 
 
 def held(deck, room):
-    """an ordinary deck's answer at level 1, which is the one at level 2, and at level 0 where no number has more than nine digits"""
-    before, now = answer(deck, room, (0, False)), answer(deck, room, (LEVEL, False))
-    assert now == answer(deck, room, ORDINARY)
-    if most_digits(deck) <= 9:
-        assert before == now
-        short_decks[call] += 1
-    else:
-        long_decks[call] += 1
-        moved[call, before[0][0], now[0][0]] += before != now
+    """the deck's answer, which differs from the one before P4 in what P4 changes alone"""
+    then, now = answer(deck if call == COMPOSITE else without_exposure(deck), room, (2, call[1])), answer(deck, room)
+    before, number, line, field = then[0][0], *now[0]
+    if before == number == 0:
+        assert not_cancer(then[1]) == not_cancer(now[1])
+    elif then[0] != now[0]:
+        at_T2 = call == ORDINARY and number in (31, 32, 33) and field == 4 and deck[81 * line - 81:81 * line - 79] == b"R4"
+        assert at_T2 or number == 41 or {before, number} <= {0, 42}, (then[0], now[0])
+    moved[call[1], before, number] += then != now
     return now
 
 
@@ -86,7 +94,7 @@ def put(kind, deck, room=None, want=None):
         return False
     if want is not None and answer(deck, room)[0][0] not in want:
         return False
-    told, rep = answer(deck, room) if call == COMPOSITE else held(deck, room)
+    told, rep = held(deck, room)
     assert len(deck) <= 8192 and room <= 40000, (len(deck), room)
     file.have.add((deck, room))
     file.stored.append("".join(f"{x:>6}" for x in (len(deck), room) + told).encode() + b"\n" + deck + rep)
@@ -112,7 +120,7 @@ def fill(kind, count, make, want=None):
 # ---- records ----
 S0 = "20 1.5 30 0.2 0.36 0.2 1 18.94 27.5 0.01 0.61".split()
 C0 = ("0.01 1 0.48 0.35 0.8 0.6 0.02 0.03 0.04 0.05 120 0.03 0.01 0.05 12.5 0.9 0.75 0.1 0.003 0.0011 1.5 0.5").split()
-R0 = "63.3 75 27375 15.8 0.9 350 25 0.8 214 151 9000 0.01 890 0.1 0.5 0.1 0.25 0.05 0.3 0.9 350".split()
+R0 = "63.3 75 27375 15.8 0.9 350 25 0.8 214 151 9000 0.01 890 0.1 0.5 0.1 0.25 0.05 0.3 0.9 350 70".split()
 NAMES = [("S", SITE), ("C", CHEM), ("R", REC)]
 
 
@@ -153,7 +161,7 @@ def some_deck():
 
 
 # ---- document 01's example, each kind of buffer ----
-EX = oracle.EXAMPLE
+EX = oracle.example(*ORDINARY)
 n = need(EX)
 for room in (0, 1, n - 95, n - 1, n, n + 1, n + 95, n + 700):
     put("document 01's example", EX, room)
@@ -212,7 +220,7 @@ fill(K, 4, few_ends_deck, {42})
 # ---- x near 64 ----
 K = "x near 64"
 ONLY = dict(Xe="0", RO="0", R="0")
-near = lambda tD, ksg, ksv="0", **more: put(K, one(S(tD=tD, **{**ONLY, **more}), C(ksg=ksg, ksv=ksv)))
+near = lambda tD, ksg, ksv: put(K, one(S(tD=tD, **ONLY), C(ksg=ksg, ksv=ksv), R(T2=rng.choice([tD, tD, "1E-20"]))))
 for tD, ksg, ksv in (("1", "64", "0"), ("1", "63.9999999", "0"), ("1", "64.0000001", "0"), ("30", "2.13333333", "0"), ("30", "2.13333334", "0"),
                      ("1", "32", "32"), ("1", "63.9999999", "1E-20"), ("1", "64", "1E-20"), ("1", "63.9999999", "0.0000001"),
                      ("1", "63.9999999", "1.1E-07"), ("2", "32", "0"), ("2", "32.0000001", "0"), ("2", "31.9999999", "0"), ("64", "1", "0"),
@@ -240,7 +248,7 @@ def x_other():
     e = len(f"{v:.0f}") if v >= 1 else 1
     t = f"{v:.{9 - e}f}" if v >= 1e-2 and v < 9e8 else f"{v:.6e}".replace("e", "E")
     s[SITE.index(which)] = t[:12]
-    return one(s, c)
+    return one(s, c, R(T2=s[2]))
 
 
 fill(K, 6, x_other, {41})
@@ -251,6 +259,8 @@ def x_place(nc=None):
     nc = nc or rng.choice([2, 3, 5, 16])
     s, cs, rs = realistic(nc, rng.choice([1, 1, 2]))
     s[1][2] = "1"
+    for _, r in rs:
+        r[21] = rng.choice(["1", "0.5"])
     for k in rng.sample(range(nc), rng.choice([1, 1, 2])):
         cs[k][1][11] = rng.choice(["64.0000001", "70", "1E+09", "65"])
     return deck_text(s, cs, rs)
@@ -291,7 +301,7 @@ for p in range(1, 7):
         name = field + ("i" if p == 1 else "o")
         ref = {k: "-" for k in ("RfDo", "RfDi", "CSFo", "CSFi")}
         big = dict(Q="1000", RCF="1E+04") if p in (2, 3, 4, 6) else dict(Q="100")
-        make = lambda t: one(None, C(**{**ref, **big, name: t}), R(**ALONE[p]))
+        make = lambda t: one(None, C(**{**ref, **big, name: t}), R(T2="70" if p % 2 else "20", **ALONE[p]))
         lo, hi = adjacent(make, 0, 90_000_000 * 29)
         for k in (lo, hi):
             put(K, make(nine(k)))
@@ -300,13 +310,12 @@ for p in range(1, 7):
             put(K, make(nine(hi)), n - 1)
 
 # exactly at the caps
-exf = [oracle.EXAMPLE[i:i + 81] for i in range(0, len(EX), 81)]
 XS = "10 2 30 0.2 0 0 0 0 0 0.01 0.5".split()
 XC = "1 1 1 0 0 1 0 0 0.001 0 100 0 0 0.1 10 1 1 0.1 0.001 0.001 1 -".split()
-XR = "20 5 27375 10 1 365 80 1 73 146 1000 0.02 400 0.1 1 0.1 0.5 0.2 0.5 1 365".split()
+XR = "20 5 27375 10 1 365 80 1 73 146 1000 0.02 400 0.1 1 0.1 0.5 0.2 0.5 1 365 1".split()
 for q in ("20000", "20000.0001", "19999.9999", "2E+04", "20000.1"):
     put(K, one(XS, with_(XC, CHEM, Q=q), XR))
-for q in ("400000", "399999.999", "399999.99", "400000.001"):
+for q in ("800000", "799999.999", "799999.99", "800000.001"):     # T2 below tD and k = 0: half of the highest year's soil
     put(K, one(XS, with_(XC, CHEM, Q=q, RfDo="-", RfDi="-"), XR))
 for csf in ("2000", "2000.00001", "1999.99999"):     # pathway 1: risk = intake × CSFi, intake exact
     put(K, one(XS, with_(XC, CHEM, Q="10", CSFo="-", CSFi=csf), with_(XR, REC, ATc="18250")))
@@ -443,12 +452,11 @@ put(K, deck_text((1, S0), [(1, C0)], [(9, R0), (9, R0)]), None, {22})
 put(K, deck_text((1, S0), [(1, C0)], [(10, R0), (9, R0)]), None, {22})
 put(K, deck_text((7, S0), [(7, C0), (999999, C0)], [(7, R0), (8, R0)]))
 for number, count in ((11, 2), (12, 12), (21, 4), (22, 10), (31, 16), (32, 14), (33, 14)):
-    fill(K, count, lambda: decks.damage(rng, some_deck(), 0), {number})
-fill(K, 8, lambda: decks.damage(rng, some_deck(), 0), {0})
+    fill(K, count, lambda: decks.damage(rng, some_deck(), LEVEL), {number})
+fill(K, 8, lambda: decks.damage(rng, some_deck(), LEVEL), {0})
 
 
 # ---- request P1: as many digits as twelve columns hold ----
-call = (LEVEL, False)
 RECORD = {name: kind for kind, names in NAMES for name in names}
 PLAIN = {**dict(zip(SITE, S0)), **dict(zip(CHEM, C0)), **dict(zip(REC, R0)), "Q": "1000"}     # all nine figures are printed
 
@@ -581,13 +589,19 @@ OTHER_WAYS = (lambda A, one, f: (oracle.of(one - f, False),) * 2, lambda A, one,
               lambda A, one, f: oracle.one_minus(oracle.around(f)))
 
 
-def otherwise(deck, way, owner=oracle.Pairs, name="less"):
-    """the report with 1 - Fv, or what else is named, taken another way"""
-    kept = getattr(owner, name)
+def otherwise(deck, way, owner, name):
+    """the report with what is named taken another way"""
+    kept = owner.__dict__[name]
     setattr(owner, name, way)
     told = answer(deck, None)[1]
     setattr(owner, name, kept)
     return told
+
+
+def rest_otherwise(deck, way):
+    """the report with 1 - Fv taken another way, and T2 - tD as ever"""
+    kept = oracle.Pairs.less
+    return otherwise(deck, lambda A, a, b: (way if type(a) is int else kept)(A, a, b), oracle.Pairs, "less")
 
 
 def share(t, **more):
@@ -601,7 +615,7 @@ def share(t, **more):
         figures = {k: f"{rng.choice([100, rng.randint(100, 999)])}E{e - 2:+03d}" for k, e in (("Cyp", s - 1), ("Dydp", s - 2), ("Dywp", s - 2), ("Q", q))}
         deck = at(Fv=t, **figures, **more)
         told, rep = answer(deck, None)
-        apart = sum(rep != otherwise(deck, w) for w in ways)
+        apart = sum(rep != rest_otherwise(deck, w) for w in ways)
         if told[0] == 0 and apart > best:
             best, kept = apart, deck
         if best == len(ways):
@@ -642,10 +656,10 @@ for tD, ksg, ksv in (("1", "64.000000000", "0"), ("1", "64.000000001", "0"), ("1
                      ("32", "2.0000000001", "0"), ("1", "32.000000000", "32.000000000"), ("1", "32.000000001", "31.999999998"), ("1", "63.999999999", "0.0000000001"),
                      ("1", "63.999999900", "0.0000000999"), ("1", "63.999999900", "0.0000001001"), ("1000000000.0", "0.0000000640", "0.0000000000"),
                      ("1000000000.0", "0.0000000640", "1E-20")):
-    assert put(K, one(S(tD=tD, **ONLY), C(ksg=ksg, ksv=ksv)), None, {0, 41})
+    assert put(K, one(S(tD=tD, **ONLY), C(ksg=ksg, ksv=ksv), R(T2=tD)), None, {0, 41})
 for place in (2, 3):
     cs = [(i, C(ksg="63.999999999" if i < place else "64.000000001", ksv="0")) for i in (1, 2, 3)]
-    assert put(K, deck_text((1, S(tD="1", **ONLY)), cs, [(1, R0)]), None, {41})
+    assert put(K, deck_text((1, S(tD="1", **ONLY)), cs, [(1, R(T2="1"))]), None, {41})
 
 # a quotient at 10,000 and a risk at 1, and eleven digits on both sides of the cap
 K = "P1: figures near their caps"
@@ -697,7 +711,7 @@ work = oracle.composite_person
 
 
 def stage(years="1", **c):
-    return with_(R0 + ["", years, ""], STAGE, **c)
+    return with_(R0[:21] + ["", years, ""], STAGE, **c)
 
 
 FIVE = [stage(**ALIKE, **{k: v.split()[i] for k, v in TABLE.items()}) for i in range(5)]    # document 002's: crates/tally_composite says which are ours
@@ -711,6 +725,14 @@ def each(stages, **c):
 def composite(stages, s=None, cs=None, first=1):
     assert all(len(t) <= 12 for f in stages for t in f)
     return deck_text((1, s or S0), list(enumerate(cs or [C(Q="1000")], 1)), list(enumerate(stages, first)))
+
+
+SLOW = S(**ONLY), [C(Q="1000", ksg="5E-09", ksv="0")]      # for a T2 of up to 8E+9 years
+
+
+def slow_if_long(stages):
+    """the plain deck of these stages, with a slow loss where their years are many"""
+    return composite(stages, *(SLOW if sum(value_of(f[22]) for f in stages) > 500 else ()))
 
 
 def real_composite(nc, nr):
@@ -734,14 +756,14 @@ def digits(v, count):
     return f"{v:.{max(count - len(str(int(v))), 0)}f}"
 
 
-# one stage alone is the ordinary receptor with ED its years and ATc 365 times them, where nine figures hold each years × value
+# one stage alone is the ordinary receptor with ED and T2 its years and ATc 365 times them, where nine figures hold each years × value
 def alone(figures):
     """a composite's deck of one stage, years and values of so many figures, and that receptor's ordinary deck"""
     while True:
-        some = {k: digits(min(max(lively(k), .001), 365), figures) for k in REC if k not in ("ED", "ATc")}
+        some = {k: digits(min(max(lively(k), .001), 365), figures) for k in oracle.REC if k not in ("ED", "ATc")}
         years = digits(rng.uniform(1, 76), figures)
         fields = stage(years, ED="70", ATc="9", **{k: v for k, v in some.items() if value_of(v)})
-        plain = with_(fields[:len(REC)], REC, ED=years, ATc=decks.exactly(365 * value_of(years)))
+        plain = with_(fields[:22], REC, ED=years, ATc=decks.exactly(365 * value_of(years)), T2=years)
         pair = composite([fields], None, [C(Q="10")]), one(None, C(Q="10"), plain)
         if answer(pair[0], None, COMPOSITE)[0][0] == 0:
             return pair
@@ -755,8 +777,8 @@ print("one stage alone, of 100 with so many figures how many have not the ordina
 # ordinary decks, whose slot 23 stays blank
 call = ORDINARY
 most = real_composite(16, 8)
-K = "P2: a slot past EFp filled"
-for field, t in ((4, "1"), (5, "1"), (5, "0"), (5, "1E-20"), (5, "1E+09"), (5, "1.1E+09"), (5, "-"), (5, "75.000000001"), (6, "1")):
+K = "P2: a slot past T2 filled"
+for field, t in ((5, "1"), (5, "0"), (5, "1E-20"), (5, "1E+09"), (5, "1.1E+09"), (5, "-"), (5, "75.000000001"), (6, "1")):
     assert put(K, set_field(EX, 10, field, t), None, {32})
 assert put(K, set_field(EX, 10, 5, "1E5"), None, {31})
 assert put(K, set_field(deck_text((1, S0), [(1, C0), (2, C0)], [(1, R0), (2, R0)]), 18, 5, "56"), None, {32})
@@ -772,6 +794,221 @@ for d in (big[1] + big[1][-81:], big[1][:-81] + big[1][-405:], real_composite(16
 K = "P2: the receptor that a composite of one stage equals"
 for _, deck in singles[4][:6]:
     assert put(K, deck, None, {0})
+
+# ---- request P4: cancer's soil is a mean over the exposure ----
+def soils_otherwise(within=lambda T2, tD: T2 <= tD, rest=lambda A, T2, tD: A.less(T2, tD), mean=oracle.h_at, divisor=lambda A, T2: A.num(T2)):
+    """the oracle's soils, with one part taken another way"""
+    def soils(A, site, c, T2s, over):
+        k, D, tD = oracle.loss(A, site, c), oracle.deposition(A, site, c), A.num(site["tD"])
+        x = A.mul(k, tD)
+        C, h = oracle.products(A, D, tD, oracle.g_at(A, x, False)), mean(A, x, False)
+
+        def soil(T2):
+            if within(T2, site["tD"]):
+                return oracle.products(A, D, tD, h)
+            left = rest(A, T2, site["tD"])
+            later = oracle.products(A, C, left, oracle.g_at(A, A.mul(k, left), False))
+            return A.div(A.add(oracle.products(A, D, tD, tD, h), later), divisor(A, T2))
+        return C, [soil(T2) for T2 in T2s]
+    return soils
+
+
+def from_the_ends(A, T2, tD):
+    (low, high), (least, most) = map(oracle.around, (T2, tD))
+    return tuple(oracle.of(max(oracle.value(a) - oracle.value(b), 0), up) for a, b, up in ((low, most, False), (high, least, True)))
+
+
+def highest_year(A, site, c, T2s, over):
+    C, _ = soils_kept(A, site, c, T2s, over)
+    return C, [C] * len(T2s)
+
+
+def psi_cut(x):
+    """without the last term's high end once more"""
+    s = psi = oracle.div(oracle.ONE, oracle.WHOLE[2])
+    for n in range(1, 256):
+        s = oracle.div(oracle.div(oracle.mul(oracle.mul(s, x), oracle.WHOLE[n + 1]), oracle.WHOLE[n]), oracle.WHOLE[n + 2])
+        psi = oracle.add(psi, s)
+    return psi
+
+
+def produce_of_hazard():
+    """cancer's produce grown in hazard's soil, which is asked for first"""
+    kept, first = oracle.media, {}
+
+    def media(A, site, c, C):
+        found = kept(A, site, c, C)
+        return {**found, **{p: first.setdefault(id(c), found)[p] for p in (5, 6)}}
+    return media
+
+
+def years_as_pairs(end):
+    """a composite's T2 an end of the sum of pairs, which is its ED"""
+    kept = oracle.people
+    return lambda recs, rules: [(i, oracle.value(oracle.sums(PAIRS, [PAIRS.num(r["years"]) for r in recs])[end]), f) for i, _, f in kept(recs, rules)]
+
+
+soils_kept = oracle.soils
+psi_cut = functools.lru_cache(512)(psi_cut)
+SOIL = lambda **part: (lambda: soils_otherwise(**part), oracle, "soils")
+EXPOSURE_WAYS = {
+    "T2 < tD for T2 <= tD": SOIL(within=lambda T2, tD: T2 < tD),
+    "the mean over tD alone": SOIL(within=lambda T2, tD: True),
+    "T2 - tD from the ends": SOIL(rest=from_the_ends),
+    "T2 - tD down to equal ends": SOIL(rest=lambda A, T2, tD: (A.less(T2, tD)[0],) * 2),
+    "T2 - tD up to equal ends": SOIL(rest=lambda A, T2, tD: (A.less(T2, tD)[1],) * 2),
+    "T2 for T2 - tD": SOIL(rest=lambda A, T2, tD: A.num(T2)),
+    "T2's low end divides": SOIL(divisor=lambda A, T2: (A.num(T2)[0],) * 2),
+    "T2's high end divides": SOIL(divisor=lambda A, T2: (A.num(T2)[1],) * 2),
+    "g for h": SOIL(mean=oracle.g_at),
+    "the highest year's soil": (lambda: highest_year, oracle, "soils"),
+    "psi's last term once": (lambda: staticmethod(psi_cut), oracle.Pairs, "psi"),
+    "produce of hazard": (produce_of_hazard, oracle, "media"),
+}
+YEAR_WAYS = {**EXPOSURE_WAYS, "years added as pairs, the low end": (lambda: years_as_pairs(0), oracle, "people"),
+             "years added as pairs, the high end": (lambda: years_as_pairs(1), oracle, "people")}
+tells = collections.Counter()
+
+
+def told_apart(deck):
+    """the ways whose report is another one"""
+    told, rep = answer(deck, None)
+    return {w for w, (way, *where) in (YEAR_WAYS if call == COMPOSITE else EXPOSURE_WAYS).items() if otherwise(deck, way(), *where) != rep}
+
+
+def scaled(v, power):
+    """six figures of v x 10^power"""
+    return f"{v * 10.0 ** power:.5e}".replace("e", "E")
+
+
+def figures(tD="30"):
+    """what makes the roundings of soil and produce others: the soil about the same for any tD, risks of nine figures and more where that can be"""
+    more = len(str(int(1 / float(tD)))) if float(tD) < 1 else 2 - len(str(int(float(tD))))
+    q, d = max(min(more, 5), -20), max(min(more - 5, 9), 0)
+    return dict(Q=scaled(rng.uniform(20, 200), q), Dydp=scaled(rng.uniform(.01, .1), d), Dywp=scaled(rng.uniform(.01, .1), d), HgA="0", Br=digits(rng.uniform(.01, .1), 5),
+                CSFo=scaled(1.5, max(more - 14, 0)), RfDo="1E+05", RfDi="1E+05")
+
+
+def telling_best(make, tD="30", tries=40):
+    """of the decks of one exposure the one that tells the most ways apart"""
+    best = None, set()
+    for _ in range(tries):
+        deck = make(figures(tD))
+        if answer(deck, None)[0][0] != 0:
+            return deck
+        apart = told_apart(deck)
+        if best[0] is None or len(apart) > len(best[1]):
+            best = deck, apart
+    tells.update((call[1], w) for w in best[1])
+    return best[0]
+
+
+def exposed(tD, T2, loss={}, site={}):
+    """a receptor's T2 beside a tD"""
+    return telling_best(lambda some: one(S(tD=tD, **site), C(**{**some, **loss}), R(T2=T2)), tD)
+
+
+K = "P4: T2 below tD, at it and above it"
+for loss in ({}, dict(ksg="0.9")):
+    for T2 in ("1E-20", "0.5", "29.9999999", "30", "30.0000001", "30.5", "60", "75.5"):
+        assert put(K, exposed("30", T2, loss), None, {0})
+for T2 in ("29", "31", "1E+09"):
+    assert put(K, exposed("30", T2, dict(ksg="5E-09", ksv="0"), ONLY), None, {0})
+
+K = "P4: T2 and tD that differ in their last digits"
+for tD, T2 in (("30.000000000", "30.000000001"), ("30.000000001", "30.000000000"), ("30.000000001", "30.000000001"), ("30", "30.000000001"), ("30", "29.999999999"),
+               ("0.1234567891", "0.1234567892"), ("0.1234567892", "0.1234567891"), ("1.2345678901", "1.2345678909"), ("9.9999999999", "10"),
+               ("9.9999999999", "10.000000001"),
+               ("10.000000001", "11.111111112"), ("12.345678901", "75.123456789"), ("0.1234567891", "75.5"), ("7.7777777777", "66.666666666"),
+               ("0.0000000001", "0.0000000003")):
+    assert put(K, exposed(tD, T2), None, {0})
+for tD, T2 in (("10000000E-27", "10000001E-27"), ("10000001E-27", "10000000E-27"), ("1.000000E-20", "10000000E-27"), ("1E-20", "1"), ("1E-20", "56.123456789")):
+    assert put(K, exposed(tD, T2), None, {0})
+for tD, T2 in (("1E-20", "1E+09"), ("1E+09", "1E-20"), ("999999999.98", "999999999.99"), ("999999999.99", "999999999.98"), ("999999999.99", "1000000000.0"),
+               ("1E+09", "1000000000.0"), ("1", "999999999.99")):
+    assert put(K, exposed(tD, T2, dict(ksg="5E-09", ksv="0"), ONLY), None, {0})
+
+K = "P4: T2 that is tD in another spelling"
+for T2 in ("30.0", "3E+01", "0.3E+02", "300E-01", "000000000030", "30.000000000"):
+    same, other = (one(S(tD=t), C(Q="1000"), R(T2=u)) for t, u in (("30", "30"), ("30", T2)))
+    assert answer(same, None) == answer(other, None) and put(K, other, None, {0})
+
+# no loss: half of the highest year's soil up to tD, three quarters at twice tD
+K = "P4: no loss"
+for T2, share_of in (("30", "0.5"), ("1E-20", "0.5"), ("15", "0.5"), ("60", "0.75"), ("120", "0.875"), ("1E+09", None)):
+    deck = one(XS, XC, with_(XR, REC, T2=T2))
+    site, (chemical,), (receptor,) = oracle.read_deck(deck, *ORDINARY)
+    highest, (mean,) = oracle.soils(PAIRS, site, chemical, [receptor["T2"]], collections.defaultdict(bool))
+    assert share_of is None or all(oracle.value(end) == oracle.F(share_of) * oracle.value(highest[0]) for end in mean)
+    assert put(K, deck, None, {0})
+
+K = "P4: k x (T2 - tD) near 64"
+for tD, T2, ksg, ksv in (("1", "33", "2", "0"), ("1", "33.0000001", "2", "0"), ("1", "32.9999999", "2", "0"), ("1", "33.000000001", "2", "0"),
+                         ("1", "32.999999999", "2", "0"),
+                         ("1.0000000001", "33.0000000", "2", "0"), ("1.0000000001", "33.000000001", "2", "0"), ("32", "64", "2", "0"), ("32", "64.000000001", "2", "0"),
+                         ("31.999999999", "64", "2", "0"), ("32", "64", "1.9999999", "1.1E-07"), ("1", "65", "1", "0"), ("1", "65", "1.00000001", "0"),
+                         ("1", "65", "0.99999999", "1E-20"),
+                         ("1", "65", "1", "1E-20"), ("1E-20", "1E+09", "6.4E-08", "0"), ("1E-20", "1E+09", "6.400001E-08", "0"), ("1E-20", "1", "64", "0"),
+                         ("1E-20", "1", "64.0000001", "0"),
+                         ("30", "30.000000001", "2.1333333", "0"), ("0.5", "100", "64", "0"), ("0.5", "0.5", "64", "0")):
+    assert put(K, one(S(tD=tD, **ONLY), C(ksg=ksg, ksv=ksv), R(T2=T2)), None, {0, 41})
+for tD, T2 in (("20", "52.1234567"), ("25", "50")):
+    loss = lambda t: one(S(tD=tD), C(ksg=t), R(T2=T2))
+    for k in adjacent(loss, 0, MOST, eleven):
+        assert put(K, loss(eleven(k)), None, {0, 41})
+
+K = "P4: one receptor's T2 above the bound"
+for place, chemical, count in ((1, 1, 1), (2, 1, 1), (3, 2, 2), (4, 3, 3), (4, 16, 16)):
+    cs = [(i, C(ksg="2" if i == chemical else "0.5", ksv="0")) for i in range(1, count + 1)]
+    for T2 in ("33", "33.000000001"):
+        assert put(K, deck_text((1, S(tD="1", **ONLY)), cs, [(i, R(T2=T2 if i == place else str(5 * i))) for i in range(1, 5)]), None, {0 if T2 == "33" else 41})
+late = [(1, C(ksg="1", ksv="0")), (2, C(ksg="2", ksv="0"))]
+assert put(K, deck_text((1, S(tD="1", **ONLY)), late, [(1, R(T2="34")), (2, R(T2="66"))]), None, {41})      # the first chemical, by the second receptor
+assert put(K, deck_text((1, S(tD="1", **ONLY)), late[::-1][:1] + [(3, C(ksg="64.1", ksv="0"))], [(1, R(T2="34"))]), None, {41})
+hot = [(1, C(CSFo="1E+09", Q="1E+09")), (2, C(ksg="2", ksv="0"))]
+assert put(K, deck_text((1, S(tD="1", **ONLY)), hot, [(1, R(T2="1")), (2, R(T2="34"))]), None, {41})
+assert put(K, deck_text((1, S(tD="1", **ONLY)), hot, [(1, R(T2="1")), (2, R(T2="34"))]), 95 * 26 - 1, {51})
+
+K = "P4: receptors that differ in T2 alone"
+for loss, count in (({}, 1), ({}, 3), (dict(ksg="0.9"), 2), (dict(ksg="0.9", ksv="0"), 16)):
+    d = telling_best(lambda some: deck_text((1, S0), [(i, C(**{**some, **loss, "Kds": str(10 * i)})) for i in range(1, count + 1)],
+                                            [(i, R(T2=t)) for i, t in enumerate(("12.345678901", "30", "30.000000001", "75.123456789"), 1)]), tries=8)
+    assert put(K, d, None, {0})
+    assert put(K, deck_text((1, S0), [(1, C(Q="1000", **loss))], [(i, R(T2=t)) for i, t in enumerate(rng.sample(["1", "30", "30.5", "80"], count % 4 + 1), 1)]),
+               None, {0})
+
+# a risk at its cap by eleven digits of T2: the mean rises from T2 = tD on, while the soil is above it
+K = "P4: a risk near its cap by T2"
+
+
+def after_ten(k):
+    t = str(10_000_000_000 + k)
+    return f"{t[:2]}.{t[2:]}"
+
+
+for p in (2, 5, 6):
+    refs = {k: "-" for k in REFS}
+    for csf in [f"{m}E{e:+03d}" for e in range(-5, 8) for m in range(10, 100, 2)]:
+        make = lambda t: one(None, C(**{**refs, "Q": "1E+05", "RCF": "1E+04", "CSFo": csf}), R(T2=t, **ALONE[p]))
+        if [answer(make(t), None)[0][0] for t in ("30", "45")] == [0, 42]:
+            break
+    for k, number in zip(adjacent(make, 20_000_000_000, 35_000_000_000, after_ten), (0, 42)):
+        assert put(K, make(after_ten(k)), None, {number})
+
+K = "P4: T2 missing, misspelled or out of range"
+for t, number in (("", 32), ("-", 32), ("0", 33), ("1E-21", 33), ("1.1E+09", 33), ("1E5", 31), ("0.0000000000", 33), ("1000000000.1", 33), ("75.", 31)):
+    assert put(K, set_field(EX, 10, 4, t), None, {number})
+two = deck_text((1, S0), [(1, C0)], [(1, R0), (2, R0)])
+for line, t, number in ((10, "", 32), (14, "", 32), (14, "0", 33)):
+    assert put(K, set_field(two, line, 4, t), None, {number})
+assert put(K, set_field(set_field(two, 14, 4, ""), 10, 5, "1"), 0, {32})
+assert put(K, set_field(two, 14, 4, ""), 0, {32})
+K = "P4: a deck from before, without T2"
+for deck in (oracle.EXAMPLE, without_exposure(two), without_exposure(big[2])):
+    assert put(K, deck, None, {32})
+K = "P4: by the reading's own generator"
+for number, count in ((0, 8), (41, 4), (42, 1)):
+    fill(K, count, lambda: decks.deck(rng, *ORDINARY), {number})
 
 # composites
 call = COMPOSITE
@@ -847,7 +1084,7 @@ def slot_in_turn(name):
 
 K = "each slot in turn, its values unlike"
 never_told = collections.Counter()
-for name in REC:
+for name in oracle.REC:
     if name not in ("ED", "ATc"):
         deck, left = slot_in_turn(name)
         never_told.update(left)
@@ -881,7 +1118,7 @@ for K, lists in {
         ["999999999.99"], ["0.0000000005"] * 8, ["76.000000000"]),
 }.items():
     for years in lists:
-        assert put(K, composite([with_(f, STAGE, years=y) for f, y in zip(EIGHT, years)]), None, {0})
+        assert put(K, slow_if_long([with_(f, STAGE, years=y) for f, y in zip(EIGHT, years)]), None, {0})
 
 K = "values and years of ten to twelve digits"
 long_record = lambda names: ["" if k is None else long(lively(k)) for k in names]
@@ -891,11 +1128,11 @@ for nr in (1, 2, 3, 4, 5, 6, 7, 8):
 K = "fields at the ends of their ranges"
 ends_of_stage = {True: ["" if k is None else top(k) for k in STAGE], False: ["" if k is None else "1E-20" for k in STAGE]}
 for highs in ((False,), (True,), (False, True), (True, False), (False, True) * 4, (False,) * 8, (True,) * 8):
-    assert put(K, composite([ends_of_stage[h] for h in highs], None, [C(Q="1E-06")]), None, {0})
+    assert put(K, composite([ends_of_stage[h] for h in highs], SLOW[0], [C(Q="1E-06", ksg="0", ksv="0")]), None, {0})
 
 # 0 in one stage, and in all
 for K, zeros in (("0 in a slot of one stage", 1), ("0 in a slot of all stages", 5)):
-    for name in REC:
+    for name in oracle.REC:
         if name not in NONZERO:
             stages = each(FIVE, IRag="0.02", IRbg="0.01")
             for i in rng.sample(range(5), zeros):
@@ -904,14 +1141,14 @@ for K, zeros in (("0 in a slot of one stage", 1), ("0 in a slot of all stages", 
 
 # at most 1, and at most 366, is asked of each stage and not of the composite
 K = "shares of 1 and 366 days in all stages"
-FULL = {k: top(k) for k in REC if k in ATMOST1 | ATMOST366}
+FULL = {k: top(k) for k in oracle.REC if k in ATMOST1 | ATMOST366}
 for above, lists in {
     True: (["0.123456789", "123.456789"], ["0.123456789", "1234.56789", "56.7891234"], ["0.3333333333"], ["999999999.5", "0.5"], ["1E+09", "1"], ["1E-20", "1"],
            ["7.77777777", "88.8888888", "99999.9999", "0.11111111"], ["12.345678901"] * 8, ["1.0000000001"] * 5),
     False: (["56"], ["0.5", "4.5", "7", "8", "56"], ["1E+09"] * 8),
 }.items():
     for years in lists:
-        deck = composite(each(map(stage, years), **FULL))
+        deck = slow_if_long(each(map(stage, years), **FULL))
         person = work(PAIRS, oracle.read_deck(deck, *COMPOSITE)[2])
         for k, t in FULL.items():
             low, high = map(oracle.value, person[k])
@@ -923,7 +1160,7 @@ for deck, _ in singles[4][:6]:
     assert put(K, deck, None, {0})
 K = "one stage alone, not the ordinary report"
 for years in ("7.7777777", "1.2345678"):
-    plain = oracle.example(*ORDINARY, recs=[{"ED": years, "ATc": decks.exactly(365 * value_of(years))}])
+    plain = oracle.example(*ORDINARY, recs=[{"ED": years, "ATc": decks.exactly(365 * value_of(years)), "T2": years}])
     assert put(K, oracle.example(*COMPOSITE, recs=[{"years": years}])) and files["composites"].stored[-1][-665:] != answer(plain, None, ORDINARY)[1]
 for deck, _ in unlike[5][:2] + unlike[7][:2]:
     assert put(K, deck, None, {0})
@@ -956,12 +1193,13 @@ for nc, nr in ((1, 1), (1, 8), (2, 5), (5, 8), (16, 1)):
         assert put(K, d, room, {0 if room >= m else 51})
 
 K = "x near 64"
+YEAR = [with_(f, STAGE, years=y) for f, y in zip(FIVE, "0.1 0.2 0.3 0.15 0.25".split())]     # 1 in all
 for tD, ksg, ksv in (("1", "64", "0"), ("1", "63.999999999", "0"), ("1", "64.000000001", "0"), ("1", "64", "1E-20"), ("30", "2.13333333", "0"),
                      ("30", "2.13333334", "0")):
-    assert put(K, composite(FIVE, S(tD=tD, **ONLY), [C(ksg=ksg, ksv=ksv)]), None, {0, 41})
+    assert put(K, composite(YEAR, S(tD=tD, **ONLY), [C(ksg=ksg, ksv=ksv)]), None, {0, 41})
 for place, count in ((2, 3), (16, 16)):
     cs = [C(ksg="65" if i >= place else "63", ksv="0") for i in range(1, count + 1)]
-    assert put(K, composite(FIVE, S(tD="1", **ONLY), cs), None, {41})
+    assert put(K, composite(YEAR, S(tD="1", **ONLY), cs), None, {41})
 
 # a quotient at 10,000 and a risk at 1, and neighbouring values on both sides of the cap
 NAMED = ("IRinh", "IRsoil", "IRsoil", "SAh", "IRag", "IRbg")
@@ -983,7 +1221,7 @@ for p in range(1, 7):
             for k, number in zip(adjacent(make, 0, MOST, eleven), (0, 42)):
                 assert put(K, make(eleven(k)), None, {number})
 K = "figures at their caps"
-XR1, XR3 = (with_(XR + ["", y, ""], STAGE, ED="9", ATc="8") for y in ("1", "3"))
+XR1, XR3 = (with_(XR[:21] + ["", y, ""], STAGE, ED="9", ATc="8") for y in ("1", "3"))
 for stages in ([XR1], [XR1, XR3, XR3]):
     for q in ("20000", "20000.000001", "19999.999999"):
         assert put(K, composite(stages, XS, [with_(XC, CHEM, Q=q, CSFo="-")]), None, {0, 42})
@@ -1070,6 +1308,46 @@ K = "damaged decks"
 for number, count in ((0, 3), (11, 1), (12, 3), (21, 3), (22, 3), (31, 3), (32, 4), (33, 4)):
     fill(K, count, lambda: decks.damage(rng, real_composite(rng.choice([1, 1, 2]), rng.choice([1, 2, 3, 5])), *COMPOSITE), {number})
 
+# ---- request P4: a composite's T2 is the exact sum of its years ----
+def lived(tD, years, loss={}, site={}):
+    """these years beside a tD"""
+    stages = [with_(f, STAGE, years=y) for f, y in zip(EIGHT, years)]
+    return telling_best(lambda some: composite(stages, S(tD=tD, **site), [C(**{**some, **loss})]), tD)
+
+
+K = "P4: years that add to less than tD, to tD and to more"
+for tD, *lists in (("76", "0.5 4.5 7 8 56", "0.5 4.5 7 8 55.999999999", "0.5 4.5 7 8 56.000000001", "0.5 4.5 7 8 56 1E-20", "56 8 7 4.5 0.4999999999",
+                   "0.5 4.5 7 8 20"),
+                   ("76.000000001", "0.5 4.5 7 8 56", "0.5 4.5 7 8 56.000000001"),
+                   ("0.8", "0.1 0.1 0.1 0.1 0.1 0.1 0.1 0.1", "0.1 0.1 0.1 0.1 0.1 0.1 0.1 0.1000000001", "0.1 0.1 0.1 0.1 0.1 0.1 0.1 0.0999999999"),
+                   ("1", "0.3333333333 0.3333333333 0.3333333333", "0.3333333333 0.3333333333 0.3333333334", "0.3333333333 0.3333333333 0.3333333335",
+                   "0.9999999999 1E-20"),
+                   ("99.999999999", "33.333333333 33.333333333 33.333333333", "33.333333333 33.333333333 33.333333334", "33.333333333 33.333333333 33.333333332"),
+                   ("30", "30 1E-20", "29.999999999 0.0000000001", "15.000000001 14.999999999", "10.123456789 10.123456789 9.753086423", "1E-20 1E-20"),
+                   ("12.345678901", "1.2345678901 2.3456789012 3.4567890123 4.5678901234", "61.728394506 6.1728394506", "40.123456789 0.1111111111 7.7777777777"),
+                   ("30000000E-27", "10000000E-27 20000000E-27", "10000000E-27 20000001E-27", "10000000E-27 19999999E-27")):
+    for years in lists:
+        assert put(K, lived(tD, years.split()), None, {0})
+for tD, years in (("1E+09", "1E+09"), ("1E+09", "999999999.99 0.01"), ("1E+09", "999999999.99 0.0099999999"), ("1E+09", "1E+09 1E-20"), ("1E-20", "1E+09 1E-20"),
+                  ("1000000000.0", "999999999 1 1E-20"), ("1", "999999999.99 999999999.99 999999999.99 999999999.99"),
+                  ("1E-20", "1E+09 1E+09 1E+09 1E+09 1E+09 1E+09 1E+09 1E+09")):
+    assert put(K, lived(tD, years.split(), dict(ksg="5E-09", ksv="0"), ONLY), None, {0})
+
+K = "P4: no loss, half and three quarters"
+for tD, years in (("30", "15 15"), ("30", "30"), ("30", "5 5 5"), ("30", "20 40"), ("30", "120")):
+    assert put(K, composite([with_(XR1, STAGE, years=y) for y in years.split()], with_(XS, SITE, tD=tD), [XC]), None, {0})
+
+K = "P4: k x (T2 - tD) near 64"
+for tD, years, ksg, number in (("1", "16 17", "2", 0), ("1", "16 17.0000001", "2", 41), ("1", "16 17.000000001", "2", 41), ("1", "16 16.999999999", "2", 0),
+                               ("1", "33 1E-20", "2", 41),
+                               ("32", "32 32", "2", 0), ("32", "32 32.000000001", "2", 41), ("1E-20", "1E+09 1E-20", "6.4E-08", 0),
+                               ("1E-20", "1E+09 3E-20", "6.4E-08", 41),
+                               ("0.5", "100", "64", 41), ("1", "0.5 0.5", "64", 0)):
+    assert put(K, composite([with_(f, STAGE, years=y) for f, y in zip(FIVE, years.split())], S(tD=tD, **ONLY),
+               [C(ksg="0.01"), C(ksg=ksg, ksv="0")][-1 if "E" in ksg else 0:]),
+               None, {number})
+print("of the decks for P4 so many tell apart:", {f"{w}{', composites' if c else ''}": n for (c, w), n in sorted(tells.items())})
+
 for name, file in files.items():
     data = b"".join(file.stored)
     open(f"{sys.argv[3]}/{name}", "wb").write(data)
@@ -1080,6 +1358,5 @@ for name, file in files.items():
         print(f"{kind:56} {sum(told.values()):4}", dict(sorted(told.items())))
     with open(f"{sys.argv[3]}/stdout", "a" if name == "composites" else "w") as f:
         f.write(f"decks {len(file.stored)}\naccepted {accepted}\nrefused {refused}\ndiffering 0\n")
-for how, whose in (((0, False), "document 01's decks"), ((LEVEL, False), "decks for P1"), (ORDINARY, "ordinary decks for P2")):
-    print(f"{whose}: at most nine digits {short_decks[how]}, all as at level 0; more digits {long_decks[how]}, of these changed:",
-          {f"{a} to {b}": n for (h, a, b), n in sorted(moved.items()) if h == how and n})
+for composites, whose in ((False, "ordinary"), (True, "a composite's")):
+    print(f"{whose} decks that P4 answers otherwise:", {f"{a} to {b}": n for (c, a, b), n in sorted(moved.items()) if c == composites and n})

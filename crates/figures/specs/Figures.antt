@@ -14,12 +14,14 @@ use Rattle.pair.specs.Calls.{Outcome, is, mapped, afterOne, entry, oneMinus, on
 use Rattle.pair.specs.Figures.{_⊘_, whole, bothEnds}
 use Rattle.equations.specs.declared.Pathway.the-variants.{SoilWinter}
 use Rattle.equations.specs.declared.Effect.the-variants.{Hazard, Cancer}
+use Rattle.years.specs.declared.Years.{Years}
+use Rattle.years.specs.Years as years
 use Rattle.slots.specs.Slots.{Slot, placeOf}
 use Rattle.equations.specs.declared.Values.{Values}
 use Rattle.equations.specs.Formula.{pairs}
-use Rattle.equations.specs.Letters.{φ}
-use Rattle.equations.specs.Page.{x, g, AT}
-use Rattle.equations.specs.Readings.{inputs}
+use Rattle.equations.specs.Letters.{φ, ψ}
+use Rattle.equations.specs.Page.{x, g, h, C, soil, AT}
+use Rattle.equations.specs.Readings.{worked, inputs}
 use Rattle.media.specs.Media.{ofSlots, ofMedia}
 use Rattle.pathway.specs.Lines.{workedFor, factorOf}
 use Rattle.deck.specs.declared.Status.the-variants.{Read}
@@ -28,7 +30,8 @@ use Rattle.totals.specs.declared.Columns.{Columns}
 use Rattle.totals.specs.declared.Columns.the-variants.{Absent, Counted}
 use Rattle.text.specs.declared.Row.{Row}
 use Rattle.text.specs.Text.{linesText}
-use Rattle.composite.specs.Composite.{composed, composite}
+use Rattle.sheet.specs.Values.{orNone, stayIn, pairsAt}
+use Rattle.composite.specs.Composite.{composed, yearsTogether, composite}
 use Rattle.report.specs.Report.{rowsOf, ordinary, scenarioOf, allConditions, outcomeOf}
 
 -- a text's bytes; every character here is one byte
@@ -58,8 +61,20 @@ deckWith r4 =
     ∷ "EN                                                                              "
     ∷ [])
 
+-- with 1 in the slot that document 02's P4 adds, T2
 unfoldable pub deck : List ℕ
-deck = deckWith "R4     1         0.5           1         365                                    "
+deck = deckWith "R4     1         0.5           1         365           1                        "
+
+-- with T2 equal to tD, and with T2 twice as long
+unfoldable pub equalDeck : List ℕ
+equalDeck = deckWith "R4     1         0.5           1         365          30                        "
+
+unfoldable pub longDeck : List ℕ
+longDeck = deckWith "R4     1         0.5           1         365          60                        "
+
+-- the soil of cancer for the first chemical and receptor, by the working rule
+unfoldable pub cancerSoil : List ℕ → Outcome Pair
+cancerSoil deck′ = worked (pairsAt (scenarioOf ordinary deck′) 0 0) (soil Cancer (stayIn (scenarioOf ordinary deck′) 0))
 
 -- with 1 in the slot that document 02's P2 adds: a composite's deck of one stage, its years 1
 unfoldable pub compositeDeck : List ℕ
@@ -69,12 +84,12 @@ compositeDeck = deckWith "R4     1         0.5           1         365          
 unfoldable pub printedLines : List String
 printedLines =
     "     1     1 1        500000000000        500000000000                   -                   -"
-    ∷ "     1     1 2           120000000           120000000             7999999             8000001"
-    ∷ "     1     1 3           120000000           120000000             7999999             8000001"
-    ∷ "     1     1 4             9000000             9000000              600000              600000"
-    ∷ "     1     1 5         37500000000         37500000000          2499999990          2500000010"
-    ∷ "     1     1 6           750000000           750000000            49999999            50000001"
-    ∷ "     1     0 0        538499000000        538499000000          2566599987          2566600013"
+    ∷ "     1     1 2           120000000           120000000             3999999             4000001"
+    ∷ "     1     1 3           120000000           120000000             3999999             4000001"
+    ∷ "     1     1 4             9000000             9000000              300000              300000"
+    ∷ "     1     1 5         37500000000         37500000000          1249999990          1250000010"
+    ∷ "     1     1 6           750000000           750000000            24999999            25000001"
+    ∷ "     1     0 0        538499000000        538499000000          1283299987          1283300013"
     ∷ []
 
 unfoldable pub printedText : List ℕ
@@ -87,36 +102,36 @@ row r c p h k = record { receptor = r; chemical = c; pathway = p; hazard = h; ca
 unfoldable pub rows : List Row
 rows =
     row 1 1 1 (Counted 500000000000 500000000000) Absent
-    ∷ row 1 1 2 (Counted 120000000 120000000) (Counted 7999999 8000001)
-    ∷ row 1 1 3 (Counted 120000000 120000000) (Counted 7999999 8000001)
-    ∷ row 1 1 4 (Counted 9000000 9000000) (Counted 600000 600000)
-    ∷ row 1 1 5 (Counted 37500000000 37500000000) (Counted 2499999990 2500000010)
-    ∷ row 1 1 6 (Counted 750000000 750000000) (Counted 49999999 50000001)
-    ∷ row 1 0 0 (Counted 538499000000 538499000000) (Counted 2566599987 2566600013)
+    ∷ row 1 1 2 (Counted 120000000 120000000) (Counted 3999999 4000001)
+    ∷ row 1 1 3 (Counted 120000000 120000000) (Counted 3999999 4000001)
+    ∷ row 1 1 4 (Counted 9000000 9000000) (Counted 300000 300000)
+    ∷ row 1 1 5 (Counted 37500000000 37500000000) (Counted 1249999990 1250000010)
+    ∷ row 1 1 6 (Counted 750000000 750000000) (Counted 24999999 25000001)
+    ∷ row 1 0 0 (Counted 538499000000 538499000000) (Counted 1283299987 1283300013)
     ∷ []
 
--- what `tally_composite` prints of the composite's deck, in which ED is 1 and ATc 365
+-- what `tally_composite` prints of the composite's deck, in which ED and T2 are 1 and ATc 365
 unfoldable pub compositeText : List ℕ
 compositeText =
     lines
     ("     1     1 1        500000000000        500000000000                   -                   -"
-    ∷ "     1     1 2           120000000           120000000           120000000           120000000"
-    ∷ "     1     1 3           120000000           120000000           120000000           120000000"
-    ∷ "     1     1 4             9000000             9000000             9000000             9000000"
-    ∷ "     1     1 5         37500000000         37500000000         37500000000         37500000000"
-    ∷ "     1     1 6           750000000           750000000           750000000           750000000"
-    ∷ "     1     0 0        538499000000        538499000000         38499000000         38499000000"
+    ∷ "     1     1 2           120000000           120000000            60000000            60000000"
+    ∷ "     1     1 3           120000000           120000000            60000000            60000000"
+    ∷ "     1     1 4             9000000             9000000             4500000             4500000"
+    ∷ "     1     1 5         37500000000         37500000000         18750000000         18750000000"
+    ∷ "     1     1 6           750000000           750000000           375000000           375000000"
+    ∷ "     1     0 0        538499000000        538499000000         19249500000         19249500000"
     ∷ [])
 
 unfoldable pub compositeRows : List Row
 compositeRows =
     row 1 1 1 (Counted 500000000000 500000000000) Absent
-    ∷ row 1 1 2 (Counted 120000000 120000000) (Counted 120000000 120000000)
-    ∷ row 1 1 3 (Counted 120000000 120000000) (Counted 120000000 120000000)
-    ∷ row 1 1 4 (Counted 9000000 9000000) (Counted 9000000 9000000)
-    ∷ row 1 1 5 (Counted 37500000000 37500000000) (Counted 37500000000 37500000000)
-    ∷ row 1 1 6 (Counted 750000000 750000000) (Counted 750000000 750000000)
-    ∷ row 1 0 0 (Counted 538499000000 538499000000) (Counted 38499000000 38499000000)
+    ∷ row 1 1 2 (Counted 120000000 120000000) (Counted 60000000 60000000)
+    ∷ row 1 1 3 (Counted 120000000 120000000) (Counted 60000000 60000000)
+    ∷ row 1 1 4 (Counted 9000000 9000000) (Counted 4500000 4500000)
+    ∷ row 1 1 5 (Counted 37500000000 37500000000) (Counted 18750000000 18750000000)
+    ∷ row 1 1 6 (Counted 750000000 750000000) (Counted 375000000 375000000)
+    ∷ row 1 0 0 (Counted 538499000000 538499000000) (Counted 19249500000 19249500000)
     ∷ []
 
 -- 002's five life stages, infant to adult: their years, and their body weights in every other slot
@@ -125,6 +140,11 @@ fiveStages j k =
     cond (eqb k (placeOf "years"))
     (getD (entry 5 (negsuc 0) ∷ entry 45 (negsuc 0) ∷ whole 7 ∷ whole 8 ∷ whole 56 ∷ []) j (whole 0))
     (getD (entry 82 (negsuc 0) ∷ entry 165 (negsuc 0) ∷ entry 329 (negsuc 0) ∷ entry 597 (negsuc 0) ∷ entry 707 (negsuc 0) ∷ []) j (whole 0))
+
+-- their years as they are printed
+unfoldable pub fiveYears : ℕ → Years
+fiveYears j =
+    orNone (getD (years.printed 5 (negsuc 0) ∷ years.printed 45 (negsuc 0) ∷ years.printed 7 (pos 0) ∷ years.printed 8 (pos 0) ∷ years.printed 56 (pos 0) ∷ []) j (years.printed 0 (pos 0)))
 
 -- every one of a list holds
 abbrev pub All : List (Type 0) → Type 0
@@ -142,7 +162,7 @@ pub record Winter (env : Slot → Pair) : Type 0 where
   pub BW : is (env "BW") ≡ entry 633 (negsuc 0)
   pub ATc : is (env "ATc") ≡ whole 27375
 
--- document 01's cases, and the figures of document 02's P1 and P2
+-- document 01's cases, and the figures of document 02's P1, P2 and P4
 unfoldable pub cases : List (Type 0)
 cases =
     -- 2 / 3
@@ -152,6 +172,9 @@ cases =
     ≡ is (record { low = record { significand = 999999999; exponent = negsuc 8 }; high = record { significand = 100000000; exponent = negsuc 7 } }))
     -- x = 0: φ and g are 1, as the media read them
     ∷ ((site chemical : Values) (particles : Pair) → ofSlots site chemical x ≡ is zeroPair → (ofMedia site chemical particles φ ≡ is onePair) × (ofMedia site chemical particles g ≡ is onePair))
+    -- ψ and h are 1/2 there
+    ∷ ((site chemical : Values) (particles : Pair) → ofSlots site chemical x ≡ is zeroPair
+    → (ofMedia site chemical particles ψ ≡ bothEnds 500000000 500000000 (negsuc 8)) × (ofMedia site chemical particles h ≡ bothEnds 500000000 500000000 (negsuc 8)))
     -- ED 4.5: AT is 1642.5, as the pathways read it
     ∷ ((site chemical receptor : Values) → is (inputs site chemical receptor "ED") ≡ entry 45 (negsuc 0) → workedFor site chemical receptor (AT Hazard) ≡ bothEnds 164250000 164250000 (negsuc 4))
     -- 002's winter factor
@@ -165,14 +188,19 @@ cases =
     ∷ (outcomeOf ordinary deck 665 ≡ record { number = 0; line = 665; field = 0 })
     ∷ (rowsOf (scenarioOf ordinary deck) ≡ rows)
     ∷ (linesText (rowsOf (scenarioOf ordinary deck)) ≡ printedText)
+    -- its highest-year soil is 0.15 mg/kg; with nothing lost the soil of cancer is half of it where T2 is tD, and three quarters where T2 is twice tD
+    ∷ (worked (pairsAt (scenarioOf ordinary deck) 0 0) C ≡ bothEnds 150000000 150000000 (negsuc 8))
+    ∷ (cancerSoil equalDeck ≡ bothEnds 750000000 750000000 (negsuc 9))
+    ∷ (cancerSoil longDeck ≡ bothEnds 112500000 112500000 (negsuc 8))
     -- the composite's deck likewise
     ∷ (first (allConditions composite compositeDeck 665) ≡ Read)
     ∷ (outcomeOf composite compositeDeck 665 ≡ record { number = 0; line = 665; field = 0 })
     ∷ (rowsOf (scenarioOf composite compositeDeck) ≡ compositeRows)
     ∷ (linesText (rowsOf (scenarioOf composite compositeDeck)) ≡ compositeText)
-    -- 002's five stages weigh 62.44 kg, where 002 prints 63.3; their years add to 76
-    ∷ (composed pairs fiveStages 4 (placeOf "BW") ≡ bothEnds 624401315 624401316 (negsuc 6))
-    ∷ (composed pairs fiveStages 4 (placeOf "ED") ≡ whole 76)
+    -- 002's five stages weigh 62.44 kg, where 002 prints 63.3; their years add to 76, as pairs and to the last digit
+    ∷ (composed pairs fiveStages (whole 76) 4 (placeOf "BW") ≡ bothEnds 624401315 624401316 (negsuc 6))
+    ∷ (composed pairs fiveStages (whole 76) 4 (placeOf "ED") ≡ whole 76)
+    ∷ (years.asPair (yearsTogether fiveYears 4) ≡ whole 76)
     ∷ []
 
 -- all of them, jointly

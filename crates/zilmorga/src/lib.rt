@@ -5,6 +5,7 @@ mod numbers;
 ghost use mathlib.Core.Path.{_≡_};
 ghost use lib.ListN.{length};
 ghost use Rattle.pair.specs.Calls as calls;
+ghost use Rattle.equations.specs.Formula.{phi, psi};
 ghost use Rattle.equations.specs.Series.{pairSeries};
 ghost use Rattle.report.specs.Report.{ordinary, outcomeOf, bufferOf};
 ghost use Rattle.composite.specs.Composite.{composite};
@@ -157,12 +158,23 @@ pub extern "C" fn zilmorga_one_minus(f: &[i64; 4], out: &mut [i64; 4]) -> u32
 // φ at x.
 #[no_mangle]
 pub extern "C" fn zilmorga_series(x: &[i64; 4], out: &mut [i64; 4]) -> u32
-    ensures { λ r. ⌜ left r (now (out .exit)) ≡ onOnePair (λ p. pairSeries (calls.is p)) (now (x .entry)) (now (out .entry)) ⌝ }
+    ensures { λ r. ⌜ left r (now (out .exit)) ≡ onOnePair (λ p. pairSeries phi (calls.is p)) (now (x .entry)) (now (out .entry)) ⌝ }
 {
     let Answer::Is(p) = pair_from(x) else {
         return REFUSED;
     };
     put(media::series(p), out)
+}
+
+// ψ at x.
+#[no_mangle]
+pub extern "C" fn zilmorga_mean_series(x: &[i64; 4], out: &mut [i64; 4]) -> u32
+    ensures { λ r. ⌜ left r (now (out .exit)) ≡ onOnePair (λ p. pairSeries psi (calls.is p)) (now (x .entry)) (now (out .entry)) ⌝ }
+{
+    let Answer::Is(p) = pair_from(x) else {
+        return REFUSED;
+    };
+    put(media::mean_series(p), out)
 }
 
 // Whether a working number is at most a bound: 1 or 0.

@@ -1,4 +1,4 @@
--- `zilmorga_series` writes the series at x, or refuses. Assumes nothing.
+-- `zilmorga_series` writes φ at x, or refuses. Assumes nothing.
 use mathlib.Core.Path.{refl}
 use Rattle.pair.specs.Calls.{answer, afterOne}
 use Rattle.zilmorga.specs.Calls.{leaves, onOnePair}
