@@ -85,13 +85,21 @@ pub fn one_minus_entry(digits: u64, power: i32) -> Answer<Raw> {
     result(Pair::one_minus_entry(digits, power))
 }
 
-pub fn series(x: &Raw) -> Answer<Raw> {
-    let (phi, near) = pairs::series(operand(x)?);
+/// A series, unless a step of it left the exponent's reach.
+fn summed((sum, near): (Pair, bool)) -> Answer<Raw> {
     if near {
-        result(phi)
+        result(sum)
     } else {
         Err(REFUSED)
     }
+}
+
+pub fn series(x: &Raw) -> Answer<Raw> {
+    summed(pairs::series(operand(x)?))
+}
+
+pub fn mean_series(x: &Raw) -> Answer<Raw> {
+    summed(pairs::mean_series(operand(x)?))
 }
 
 /// Whether an end is at most a bound.
@@ -146,5 +154,21 @@ mod tests {
         assert_eq!(compare(&[100_000_000, -8], &[0, 7]), Err(53));
         assert_eq!(compare(&[0, 0], &[0, 0]), Ok(true));
         assert_eq!(in_units(&[0; 4], 100_000), Err(53));
+    }
+
+    #[test]
+    fn refusals_of_the_series() {
+        let like = |e| [500_000_000, e, 500_000_000, e];
+        for call in [series, mean_series] {
+            assert_eq!(call(&[100_000_000, 0, 0, 0]), Err(53));
+            // The last term of either leaves the reach downwards or upwards.
+            for (within, without) in [(-390, -400), (370, 390)] {
+                assert!(call(&like(within)).is_ok() && call(&like(without)) == Err(53), "{within} {without}");
+            }
+            // 0 has no terms that could.
+            assert!(call(&[0; 4]).is_ok() && call(&[0, 0, 100_000_000, -8]).is_ok());
+        }
+        let half = [500_000_000, -9, 500_000_000, -9];
+        assert_eq!((series(&[0; 4]), mean_series(&[0; 4])), (Ok(ONE), Ok(half)));
     }
 }

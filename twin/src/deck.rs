@@ -1,6 +1,7 @@
 //! A deck read into a case, or where it stops.
 
 use crate::pairs::{Pair, Working};
+use crate::years::Years;
 use crate::Outcome;
 
 pub const LINE: usize = 81;
@@ -32,11 +33,20 @@ impl Sort {
         LINE * (2 + 4 * MOST_CHEMICALS + 4 * self.most_receptors() + 1)
     }
 
+    /// The place of a receptor's years: T2 in slot 22, or those of a life stage in slot 23. The other one stays blank.
+    pub const fn years_at(self) -> usize {
+        match self {
+            Sort::Ordinary => 21,
+            Sort::Composite => 22,
+        }
+    }
+
     /// What a receptor's slot takes; `None` for one that stays blank.
     pub fn receptor_slot(self, at: usize) -> Option<&'static Slot> {
-        match self {
-            Sort::Composite if at == YEARS_AT => Some(&YEARS),
-            _ => RECEPTOR.get(at),
+        if at == self.years_at() {
+            Some(&YEARS)
+        } else {
+            RECEPTOR.get(at)
         }
     }
 }
@@ -91,10 +101,11 @@ pub const RECEPTOR: [Slot; 21] = [
     ANY, ANY, SHARE, ANY, SHARE, ANY, //
     SHARE, SHARE, DAYS,
 ];
-/// The years of a life stage.
+/// T2, or the years of a life stage.
 pub const YEARS: Slot = POS;
-/// Their place: slot 22 before them stays blank.
-pub const YEARS_AT: usize = 22;
+
+/// The place of tD among the site's slots.
+pub const TD: usize = 2;
 
 /// A chemical's slots before its reference values.
 pub const CHEMICAL_VALUES: usize = 18;
@@ -118,14 +129,18 @@ pub struct Chemical {
 pub struct Receptor {
     pub id: u32,
     pub value: [Pair; 21],
-    /// Of a life stage; 0 in an ordinary deck.
+    /// T2, or the years of a life stage.
     pub years: Pair,
+    /// The same as printed.
+    pub exact_years: Years,
 }
 
 /// What an accepted deck says.
 #[derive(Clone, Debug)]
 pub struct Case {
     pub site: [Pair; 11],
+    /// tD once more, as printed.
+    pub td: Years,
     pub chemicals: usize,
     pub receptors: usize,
     chemical: [Chemical; MOST_CHEMICALS],
@@ -138,13 +153,15 @@ impl Chemical {
 }
 
 impl Receptor {
-    pub const EMPTY: Receptor = Receptor { id: 0, value: [Pair::ZERO; 21], years: Pair::ZERO };
+    pub const EMPTY: Receptor =
+        Receptor { id: 0, value: [Pair::ZERO; 21], years: Pair::ZERO, exact_years: Years::NONE };
 }
 
 impl Case {
     pub fn empty() -> Case {
         Case {
             site: [Pair::ZERO; 11],
+            td: Years::NONE,
             chemicals: 0,
             receptors: 0,
             chemical: [Chemical::EMPTY; MOST_CHEMICALS],
@@ -254,7 +271,12 @@ pub fn read_case(sort: Sort, deck: &[u8], case: &mut Case) -> Result<(), Outcome
                 continue;
             }
             match kind {
-                Kind::Site(_) => case.site[at] = value.unwrap_or(Pair::ZERO),
+                Kind::Site(_) => {
+                    case.site[at] = value.unwrap_or(Pair::ZERO);
+                    if let (TD, Mark::Number(printed)) = (at, mark) {
+                        case.td = Years::printed(printed);
+                    }
+                }
                 Kind::Chemical(_) => {
                     let c = &mut case.chemical[case.chemicals - 1];
                     if at < CHEMICAL_VALUES {
@@ -268,8 +290,13 @@ pub fn read_case(sort: Sort, deck: &[u8], case: &mut Case) -> Result<(), Outcome
                 }
                 _ => {
                     let r = &mut case.receptor[case.receptors - 1];
-                    let place = if at == YEARS_AT { &mut r.years } else { &mut r.value[at] };
-                    *place = value.unwrap_or(Pair::ZERO);
+                    let value = value.unwrap_or(Pair::ZERO);
+                    if at != sort.years_at() {
+                        r.value[at] = value;
+                    } else if let Mark::Number(printed) = mark {
+                        r.years = value;
+                        r.exact_years = Years::printed(printed);
+                    }
                 }
             }
         }
@@ -458,16 +485,37 @@ mod tests {
         }
     }
 
+    /// A number in range has no digit below 1E-27 and no power above 9, whichever way twelve columns spell it.
+    #[test]
+    fn times_in_range_are_whole_numbers_of_the_finest_digit() {
+        let rng = &mut crate::rng::Rng::new(4);
+        let mut finest = 0;
+        for _ in 0..300_000 {
+            let n = rng.between(1, 12) as usize;
+            let digits: String = (0..n).map(|_| rng.one_of(b"00019") as char).collect();
+            let point = rng.below(n + 1);
+            let point = if rng.chance(50) { "" } else { &format!(".{}", &digits[..point]) };
+            let exponent = rng.between(-30, 10);
+            let text = format!("{digits}{point}E{exponent:+03}");
+            let Mark::Number(printed) = m(&text[..text.len().min(12)]) else { continue };
+            if POS.takes(Pair::entry(printed.0, printed.1)) {
+                assert_eq!(Years::printed(printed).pair(), Pair::entry(printed.0, printed.1), "{text}");
+                finest += usize::from(printed.1 == crate::years::FINEST);
+            }
+        }
+        assert!(finest > 100, "{finest}");
+    }
+
     #[test]
     fn slots_of_a_receptor() {
         assert_eq!((Sort::Ordinary.longest_deck(), Sort::Composite.longest_deck()), (6_723, 8_019));
         for at in 0..24 {
             let (ordinary, composite) = (Sort::Ordinary.receptor_slot(at), Sort::Composite.receptor_slot(at));
-            assert_eq!(ordinary.is_some(), at < 21);
-            if at == 22 {
-                assert_eq!(composite, Some(&POS));
-            } else {
-                assert_eq!(composite, ordinary);
+            assert_eq!(ordinary.is_some(), at < 22);
+            match at {
+                21 => assert_eq!((ordinary, composite), (Some(&POS), None)),
+                22 => assert_eq!((ordinary, composite), (None, Some(&POS))),
+                _ => assert_eq!(composite, ordinary),
             }
         }
     }

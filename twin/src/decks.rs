@@ -2,12 +2,13 @@
 //! Either call has its own.
 
 use crate::deck::{
-    Chemical, Printed, Receptor, Slot, Sort, CHEMICAL, CHEMICAL_VALUES, FV, LINE, MOST_CHEMICALS, RECEPTOR, SITE,
-    YEARS, YEARS_AT,
+    Chemical, Printed, Receptor, Slot, Sort, CHEMICAL, CHEMICAL_VALUES, FV, LINE, MOST_CHEMICALS, RECEPTOR, SITE, TD,
+    YEARS,
 };
-use crate::page::{composite, pathways, Body, Figures, Media, Site};
+use crate::page::{composite, pathways, Body, Exposure, Figures, Media, Site};
 use crate::pairs::{Pair, Working};
 use crate::rng::Rng;
+use crate::years::{Years, FINEST};
 use crate::LONGEST_REPORT;
 
 /// A deck, the length of the report buffer lent with it, and the seed of what that buffer holds before.
@@ -25,11 +26,11 @@ pub fn trial(sort: Sort, seed: u64, place: u64) -> Trial {
         Sort::Composite => !mixed,
     });
     let share = rng.below(100);
-    // The years of a few composites' decks were forgotten: an ordinary deck is left, if of too many receptors at times.
+    // A few decks for the composite call are ordinary ones, if of too many receptors at times.
     let made_as = if sort == Sort::Composite && (51..=52).contains(&share) { Sort::Ordinary } else { sort };
     let deck = match share {
-        0..=52 => sound(rng, made_as, sort.most_receptors()),
-        53..=95 => damaged(rng, sort),
+        0..=55 => sound(rng, made_as, sort.most_receptors()),
+        56..=95 => damaged(rng, sort),
         96..=97 => crowded(rng, sort),
         _ => noise(rng, sort),
     };
@@ -114,6 +115,15 @@ fn pair(v: Value) -> Pair {
     v.map_or(Pair::ZERO, |(digits, power)| Pair::entry(digits, power))
 }
 
+/// A time in range, without digits that no field could print.
+fn years(v: Value) -> Years {
+    let (mut digits, mut power) = v.unwrap_or((0, 0));
+    while power < FINEST {
+        (digits, power) = (digits / 10, power + 1);
+    }
+    Years::printed((digits, power))
+}
+
 fn in_range(slot: &Slot, v: Printed) -> bool {
     slot.takes(pair(Some(v)))
 }
@@ -133,18 +143,21 @@ const CHEMICAL_USUAL: [Usual; 22] = [
     (0, 99, -3), (0, 999, -3), (0, 999, -1), (0, 100, -2), (0, 100, -2), (0, 100, -2),
     (1, 99, -3), (1, 99, -3), (1, 99, -2), (1, 99, -2),
 ];
-/// The years of a life stage last.
 #[rustfmt::skip]
-const RECEPTOR_USUAL: [Usual; 22] = [
+const RECEPTOR_USUAL: [Usual; 21] = [
     (8, 80, 0), (5, 75, 0), (25_000, 28_000, 0), (1, 25, 0), (0, 100, -2), (0, 366, 0),
     (10, 200, 0), (0, 100, -2), (0, 366, 0), (0, 366, 0), (100, 20_000, 0), (0, 99, -3),
     (100, 1_000, 0), (0, 99, -2), (0, 100, -2), (0, 500, -3), (0, 100, -2), (0, 500, -3),
-    (0, 100, -2), (0, 100, -2), (0, 366, 0), (2, 700, -1),
+    (0, 100, -2), (0, 100, -2), (0, 366, 0),
 ];
+/// T2, about tD.
+const T2_USUAL: Usual = (1, 100, 0);
+/// The years of a life stage.
+const STAGE_USUAL: Usual = (2, 200, -1);
 
-/// The slots that a receptor of this sort fills, its years last; a draft has a value for each.
-fn receptor_slots(sort: Sort) -> impl Iterator<Item = &'static Slot> {
-    (0..=YEARS_AT).filter_map(move |at| sort.receptor_slot(at))
+/// The slots that a receptor of either sort fills, its years last; a draft has a value for each.
+fn receptor_slots() -> impl Iterator<Item = &'static Slot> {
+    RECEPTOR.iter().chain([&YEARS])
 }
 
 /// A value inside the slot's range, as it might stand in a real deck.
@@ -237,12 +250,12 @@ struct Draft {
 }
 
 // Places of slots that a style sets.
-const TD: usize = 2;
 const FRSNOW: usize = 10;
 const KDS: usize = 10;
 const KSG: usize = 11;
+const KSV: usize = 12;
 const RFDO: usize = 18;
-/// The years in a draft, which leaves out the blank slot before them.
+/// The years in a draft, which leaves out a blank slot before them.
 const DRAFT_YEARS: usize = RECEPTOR.len();
 
 fn ids(rng: &mut Rng, n: usize) -> Vec<u32> {
@@ -274,6 +287,11 @@ impl Draft {
             let each = slots.into_iter().zip(usuals);
             each.map(|(slot, &u)| if rng.chance(odd) { far(rng, slot) } else { usual(rng, slot, u) }).collect()
         }
+        let years_usual = match sort {
+            Sort::Ordinary => T2_USUAL,
+            Sort::Composite => STAGE_USUAL,
+        };
+        let receptor_usual = [&RECEPTOR_USUAL[..], &[years_usual]].concat();
         Draft {
             sort,
             most: 9,
@@ -285,7 +303,7 @@ impl Draft {
                 .collect(),
             receptors: ids(rng, receptors)
                 .into_iter()
-                .map(|id| (id, values(rng, receptor_slots(sort), &RECEPTOR_USUAL, odd)))
+                .map(|id| (id, values(rng, receptor_slots(), &receptor_usual, odd)))
                 .collect(),
         }
     }
@@ -320,12 +338,16 @@ impl Draft {
             chemicals: ids(rng, chemicals).into_iter().map(|id| (id, varied(rng, &chemical, &CHEMICAL))).collect(),
             receptors: ids(rng, receptors)
                 .into_iter()
-                .map(|id| (id, varied(rng, &receptor, receptor_slots(sort))))
+                .map(|id| (id, varied(rng, &receptor, receptor_slots())))
                 .collect(),
         };
-        // 27375 has a factor 3, which no decimal divides by exactly.
         for (_, r) in &mut draft.receptors {
+            // 27375 has a factor 3, which no decimal divides by exactly.
             r[2] = Some((rng.one_of(&[27_375, 36_500, 29_200, 36_500]), 0));
+            // T2 against a tD of 30: what comes to 60, 120 or 240 divides exactly.
+            if sort == Sort::Ordinary && rng.chance(70) {
+                r[DRAFT_YEARS] = Some((rng.one_of(&[1, 30, 30, 31, 60, 60, 120, 240, 75]), 0));
+            }
         }
         // Stages alike but for their years: a composite's fields are theirs, exactly.
         if sort == Sort::Composite && rng.chance(60) {
@@ -379,7 +401,7 @@ impl Draft {
         };
         record(&mut self.site, &mut SITE.iter());
         self.chemicals.iter_mut().for_each(|(_, c)| record(c, &mut CHEMICAL.iter()));
-        self.receptors.iter_mut().for_each(|(_, r)| record(r, &mut receptor_slots(self.sort)));
+        self.receptors.iter_mut().for_each(|(_, r)| record(r, &mut receptor_slots()));
     }
 
     /// Years as no life has them: of any size in range, some next to others of which they are less than a last place, or
@@ -420,7 +442,7 @@ impl Draft {
     fn site(&self) -> Site {
         let mut value = [Pair::ZERO; 11];
         value.iter_mut().zip(&self.site).for_each(|(p, &v)| *p = pair(v));
-        Site::new(&value)
+        Site::new(&value, years(self.site[TD]))
     }
 
     fn chemical(&self, i: usize) -> Chemical {
@@ -438,8 +460,8 @@ impl Draft {
 
     fn receptor(&self, i: usize) -> Receptor {
         let (id, values) = &self.receptors[i];
-        let years = values.get(DRAFT_YEARS).map_or(Pair::ZERO, |&v| pair(v));
-        let mut r = Receptor { id: *id, years, ..Receptor::EMPTY };
+        let own = values[DRAFT_YEARS];
+        let mut r = Receptor { id: *id, years: pair(own), exact_years: years(own), ..Receptor::EMPTY };
         r.value.iter_mut().zip(values).for_each(|(p, &v)| *p = pair(v));
         r
     }
@@ -454,26 +476,163 @@ impl Draft {
         }
     }
 
-    /// The figures of one chemical and receptor, unless x is too high to work them.
+    /// The persons that are reported.
+    fn persons(&self) -> usize {
+        match self.sort {
+            Sort::Ordinary => self.receptors.len(),
+            Sort::Composite => 1,
+        }
+    }
+
+    /// The figures of one chemical and receptor, unless its loss is too fast to work them.
     fn figures(&self, chemical: usize, receptor: usize) -> Option<[Figures; 6]> {
-        let (site, chemical) = (self.site(), self.chemical(chemical));
-        let x = site.x(&chemical);
-        let low = x.high.at_most(crate::page::MOST_X);
-        low.then(|| pathways(&site, &chemical, &Media::new(&site, &chemical, x), &Body::new(&self.person(receptor))))
+        let (site, chemical, person) = (self.site(), self.chemical(chemical), self.person(receptor));
+        let (loss, exposure) = (site.loss(&chemical), site.exposure(&person));
+        let slow = loss.slow_enough(&[exposure]);
+        slow.then(|| {
+            let media = Media::new(&site, &chemical, &loss);
+            pathways(&site, &chemical, &media, &exposure, &Body::new(&person))
+        })
+    }
+
+    /// k of a chemical, about.
+    fn real_k(&self, i: usize) -> f64 {
+        real(self.site().loss(&self.chemical(i)).k().high)
+    }
+
+    /// No loss but by decay.
+    fn decay_alone(&mut self, i: usize) {
+        for at in [4, 7, 8] {
+            self.site[at] = Some((0, 0));
+        }
+        self.chemicals[i].1[KSV] = Some((0, 0));
+    }
+
+    /// Slower decay, if any, and no other loss, where T2 − tD is too long for a chemical that tD is not too long for.
+    fn slow_down(&mut self, rng: &mut Rng) {
+        let site = self.site();
+        let exposures: Vec<Exposure> = (0..self.persons()).map(|r| site.exposure(&self.person(r))).collect();
+        let fast = |i: usize| {
+            let loss = site.loss(&self.chemical(i));
+            loss.slow_enough(&[]) && !loss.slow_enough(&exposures)
+        };
+        if !(0..self.chemicals.len()).any(fast) {
+            return;
+        }
+        let rest = |exposure: &Exposure| match exposure {
+            Exposure::Within => 0.0,
+            Exposure::Beyond { rest, .. } => real(rest.high),
+        };
+        let longest = exposures.iter().map(rest).fold(real(pair(self.site[TD]).high), f64::max);
+        for i in 0..self.chemicals.len() {
+            self.decay_alone(i);
+            let decay = decimal(64.0 / longest * rng.between(0, 999) as f64 / 1000.0, 8);
+            let none = rng.chance(25) || !in_range(&CHEMICAL[KSG], decay);
+            self.chemicals[i].1[KSG] = Some(if none { (0, 0) } else { decay });
+        }
+    }
+
+    /// The years of all receptors but one where they add up, as a composite's do.
+    fn other_years(&self, r: usize) -> u128 {
+        match self.sort {
+            Sort::Ordinary => 0,
+            Sort::Composite => {
+                let all = self.receptors.iter().enumerate();
+                all.filter(|&(i, _)| i != r).map(|(_, (_, values))| years(values[DRAFT_YEARS]).0).sum()
+            }
+        }
+    }
+
+    /// A time as a field can print it, the last of its digits dropped where they do not fit; if it is in range.
+    fn near_years(&self, mut n: u128) -> Value {
+        let mut power = FINEST;
+        while n >= 100_000_000_000 || (n != 0 && n % 10 == 0) {
+            (n, power) = (n / 10, power + 1);
+        }
+        // A whole number of more than eight figures is spelled without a power.
+        while power > 0 && n >= 100_000_000 {
+            (n, power) = (n * 10, power - 1);
+        }
+        let v = self.fitted((n as u64, power));
+        in_range(&YEARS, v).then_some(v)
+    }
+
+    /// Sets one receptor's T2, or one stage's years and so the composite's T2, against tD; or tD against it: equal, different
+    /// in the last place that twelve columns hold, in a place before, or far above.
+    fn bring_t2_to_td(&mut self, rng: &mut Rng, r: usize) {
+        self.most = 12;
+        let (td, others) = (years(self.site[TD]).0, self.other_years(r));
+        let own = years(self.receptors[r].1[DRAFT_YEARS]).0;
+        // With an exponent eight figures fit, without one eleven digits beside the point.
+        let place = if td < 10u128.pow((-9 - FINEST) as u32) {
+            10u128.pow(td.ilog10().saturating_sub(7))
+        } else {
+            let whole = (td / 10u128.pow(-FINEST as u32)).checked_ilog10().map_or(1, |last| last + 1);
+            10u128.pow((-FINEST) as u32 + whole - 11)
+        };
+        let few = place * rng.between(1, 9) as u128;
+        let more = few * 10u128.pow(rng.between(0, 5) as u32);
+        let of_td = rng.chance(if self.sort == Sort::Composite { 50 } else { 10 });
+        // What the other of the two is now.
+        let from = if of_td { others + own } else { td };
+        let wanted = match rng.below(10) {
+            0..=2 => Some(from),
+            3 | 4 => Some(from + few),
+            5 => from.checked_sub(few),
+            6 => Some(from + more),
+            7 => from.checked_sub(more),
+            8 => from.checked_mul(rng.one_of(&[2, 3, 10, 1_000, 1_000_000])),
+            _ => far(rng, &YEARS).map(|v| years(Some(v)).0),
+        };
+        if of_td {
+            if let Some(v) = wanted.and_then(|n| self.near_years(n)) {
+                self.site[TD] = Some(v);
+            }
+        } else if let Some(v) = wanted.and_then(|n| n.checked_sub(others)).and_then(|n| self.near_years(n)) {
+            self.receptors[r].1[DRAFT_YEARS] = Some(v);
+        }
+    }
+
+    /// Sets one receptor's T2, or one stage's years, so that k × (T2 − tD) of the most quickly lost chemical comes to about 64.
+    fn bring_rest_to_64(&mut self, rng: &mut Rng, r: usize) {
+        self.most = 12;
+        if rng.chance(60) {
+            // Loss that divides 64.
+            for i in 0..self.chemicals.len() {
+                self.decay_alone(i);
+                let round = rng.one_of(&[(64, -2), (5, -1), (1, 0), (16, -1), (2, 0), (8, -1), (1, -1), (128, -3)]);
+                self.chemicals[i].1[KSG] = Some(round);
+            }
+        }
+        let k = (0..self.chemicals.len()).map(|i| self.real_k(i)).fold(0.0, f64::max);
+        let mut td = real(pair(self.site[TD]).high);
+        if k * td > 64.0 {
+            let v = decimal(64.0 / k * rng.between(1, 99) as f64 / 100.0, 8);
+            if in_range(&YEARS, v) {
+                self.site[TD] = Some(v);
+                td = real(pair(Some(v)).high);
+            }
+        }
+        let others = real(Years(self.other_years(r)).pair().high);
+        let wanted = td - others + 64.0 / k;
+        if !(1e-20..=1e9).contains(&wanted) {
+            return;
+        }
+        let (digits, power) = decimal(wanted, 11);
+        let near = self.fitted((digits.saturating_add_signed(rng.between(-3, 3)), power));
+        if in_range(&YEARS, near) {
+            self.receptors[r].1[DRAFT_YEARS] = Some(near);
+        }
     }
 
     /// Sets one chemical's decay so that its x comes to about 64.
     fn bring_x_to_64(&mut self, rng: &mut Rng, i: usize) {
         self.chemicals[i].1[KSG] = Some((0, 0));
-        let others = real(self.site().x(&self.chemical(i)).high);
+        let others = real(self.site().loss(&self.chemical(i)).x().high);
         let wanted = if others < 64.0 {
             64.0 - others
         } else {
-            // No other loss.
-            for at in [4, 7, 8] {
-                self.site[at] = Some((0, 0));
-            }
-            self.chemicals[i].1[12] = Some((0, 0));
+            self.decay_alone(i);
             64.0
         };
         let figures = self.most.min(11);
@@ -543,10 +702,10 @@ impl Draft {
                 deck.extend([kind, b'1' + k as u8]);
                 deck.extend(format!("{id:>6}").bytes());
                 for at in 6 * k..6 * k + 6 {
-                    // A draft leaves out the slot before the years.
-                    let value = match (kind, at) {
-                        (b'R', YEARS_AT) => values.get(DRAFT_YEARS),
-                        (b'R', DRAFT_YEARS) => None,
+                    // A draft leaves out a blank slot before the years.
+                    let value = match kind {
+                        b'R' if at == self.sort.years_at() => values.get(DRAFT_YEARS),
+                        b'R' if at == DRAFT_YEARS => None,
                         _ => values.get(at),
                     };
                     let text = match value {
@@ -682,10 +841,21 @@ fn sound(rng: &mut Rng, sort: Sort, most_receptors: usize) -> Vec<u8> {
         let percent = rng.one_of(&[10, 50, 100]);
         draft.lengthen(rng, percent);
     }
-    let i = rng.below(chemicals);
+    if rng.chance(40) {
+        let tries = if sort == Sort::Composite { 1 } else { receptors };
+        for _ in 0..tries {
+            let r = rng.below(receptors);
+            draft.bring_t2_to_td(rng, r);
+        }
+    }
+    if rng.chance(90) {
+        draft.slow_down(rng);
+    }
+    let (i, r) = (rng.below(chemicals), rng.below(receptors));
     match rng.below(100) {
-        0..=9 => draft.bring_x_to_64(rng, i),
-        10..=29 => draft.bring_to_cap(rng, i),
+        0..=6 => draft.bring_x_to_64(rng, i),
+        7..=14 => draft.bring_rest_to_64(rng, r),
+        15..=34 => draft.bring_to_cap(rng, i),
         _ => {}
     }
     draft.deck(rng)
@@ -776,7 +946,7 @@ const SHARE_ENDS: &[&str] = &[
     "99999999E-08", "00000001E-20", "12345678E-20", "000000000001", "0.1000000001", "0.0999999999", "0.8999999999", "0.9000000001",
 ];
 
-/// For a stage's years: none, not above 0, beyond the range and at its ends, misspelled.
+/// For T2 or a stage's years: none, not above 0, beyond the range and at its ends, misspelled.
 #[rustfmt::skip]
 const BAD_YEARS: &[&str] = &[
     "", "", "", "-", "-", "0", "0", "0.0", "0E+99", "0.0000000000", "000000000000", "1E-21", "9.999999E-21", "1E-20", "99999999E-28",
@@ -792,11 +962,7 @@ fn damage(rng: &mut Rng, sort: Sort, deck: &mut Vec<u8>) {
     }
     let line = rng.below(n);
     let from = line * LINE;
-    let ways = match sort {
-        Sort::Ordinary => 31,
-        Sort::Composite => 34,
-    };
-    match rng.below(ways) {
+    match rng.below(34) {
         0 => {
             let at = rng.below(deck.len());
             deck[at] = rng.byte();
@@ -854,7 +1020,7 @@ fn damage(rng: &mut Rng, sort: Sort, deck: &mut Vec<u8>) {
         18 => place_field(deck, line, rng.below(6), "-"),
         19..=22 => place_field(deck, line, rng.below(6), rng.one_of(OUT_OF_RANGE)),
         23 | 24 => {
-            // A later slot: S2 6, C4 5 and 6, R4 4 to 6, of which 5 may be the years.
+            // A later slot: S2 6, C4 5 and 6, R4 4 to 6, of which one has the years.
             let later: Vec<(usize, usize)> = (0..n)
                 .flat_map(|l| match &deck[l * LINE..l * LINE + 2] {
                     b"S2" => vec![(l, 5)],
@@ -906,7 +1072,7 @@ fn damage(rng: &mut Rng, sort: Sort, deck: &mut Vec<u8>) {
         _ => {
             let last: Vec<usize> = (0..n).filter(|l| deck[l * LINE..].starts_with(b"R4")).collect();
             if !last.is_empty() {
-                place_field(deck, rng.one_of(&last), YEARS_AT % 6, rng.one_of(BAD_YEARS));
+                place_field(deck, rng.one_of(&last), sort.years_at() % 6, rng.one_of(BAD_YEARS));
             }
         }
     }
@@ -957,16 +1123,13 @@ mod tests {
     /// themselves, decks of the other sort.
     #[test]
     fn kinds_of_composite_decks() {
-        let (mut stages, mut years_refused) = ([0; 10], [0; 40]);
-        let (mut small, mut large, mut long, mut forgotten) = (0, 0, 0, 0);
+        let sort = Sort::Composite;
+        let mut stages = [0; 10];
+        let (mut small, mut large, mut long, mut ordinary) = (0, 0, 0, 0);
         for place in 0..4_000 {
-            let t = trial(Sort::Composite, 1, place);
-            let told = crate::read(Sort::Composite, &t.deck);
-            if told.0 > 22 && told.2 == YEARS_AT % 6 + 1 && t.deck[(told.1 - 1) * LINE..].starts_with(b"R4") {
-                years_refused[told.0 as usize] += 1;
-            }
-            forgotten += usize::from(crate::read(Sort::Ordinary, &t.deck).0 == 0);
-            if told.0 != 0 {
+            let t = trial(sort, 1, place);
+            ordinary += usize::from(crate::read(Sort::Ordinary, &t.deck).0 == 0);
+            if crate::read(sort, &t.deck).0 != 0 {
                 continue;
             }
             let text = String::from_utf8_lossy(&t.deck).into_owned();
@@ -980,8 +1143,64 @@ mod tests {
             }
         }
         assert!(stages[1..=8].iter().all(|&n| n > 50), "{stages:?}");
-        assert!([31, 32, 33].iter().all(|&n| years_refused[n] > 10), "{years_refused:?}");
-        assert!(small > 50 && large > 50 && long > 500 && forgotten > 10, "{small} {large} {long} {forgotten}");
+        assert!(small > 50 && large > 50 && long > 500 && ordinary > 10, "{small} {large} {long} {ordinary}");
+    }
+
+    /// How T2 lies to tD in the decks that are answered, receptor by receptor; what stops T2 or the years themselves; and how
+    /// near 64 k × (T2 − tD) comes on either side.
+    #[test]
+    fn kinds_of_exposures() {
+        for sort in [Sort::Ordinary, Sort::Composite] {
+            let (mut refused, mut out) = ([0; 40], vec![0; LONGEST_REPORT]);
+            // Below, equal, above in the last four places that twelve columns have beside tD, above, more than a thousand times.
+            let mut lies = [0; 5];
+            let (mut same_pair, mut fast, mut just_fast, mut just_slow) = (0, 0, 0, 0);
+            for place in 0..6_000 {
+                let t = trial(sort, 1, place);
+                let told = crate::report(sort, &t.deck, &mut out);
+                if told.0 > 22 && told.2 == sort.years_at() % 6 + 1 && t.deck[(told.1 - 1) * LINE..].starts_with(b"R4")
+                {
+                    refused[told.0 as usize] += 1;
+                }
+                let mut case = crate::deck::Case::empty();
+                if crate::report::read_reported(sort, &t.deck, &mut case).is_err() {
+                    continue;
+                }
+                let site = Site::new(&case.site, case.td);
+                let exposures: Vec<Exposure> = case.receptors().iter().map(|r| site.exposure(r)).collect();
+                for chemical in case.chemicals() {
+                    let loss = site.loss(chemical);
+                    fast += usize::from(loss.slow_enough(&[]) && !loss.slow_enough(&exposures));
+                    for exposure in &exposures {
+                        let Exposure::Beyond { rest, .. } = exposure else { continue };
+                        let x = loss.k() * *rest;
+                        let near = Pair { low: Working::entry(63_999_999, -6), high: Working::entry(64_000_001, -6) };
+                        if near.low.at_most(x.high) && x.high.at_most(near.high) && loss.slow_enough(&[]) {
+                            *(if loss.slow_enough(&[*exposure]) { &mut just_slow } else { &mut just_fast }) += 1;
+                        }
+                    }
+                }
+                if told.0 != 0 {
+                    continue;
+                }
+                for r in case.receptors() {
+                    let (t2, td) = (r.exact_years.0, case.td.0);
+                    let kind = match t2.checked_sub(td) {
+                        None => 0,
+                        Some(0) => 1,
+                        Some(rest) if rest < td / 1_000_000 => 2,
+                        Some(rest) if rest < td * 1_000 => 3,
+                        _ => 4,
+                    };
+                    lies[kind] += 1;
+                    same_pair += usize::from(kind == 2 && r.years == case.site[TD]);
+                }
+            }
+            let told = format!("{sort:?}: {refused:?} {lies:?} {same_pair} {fast} {just_fast} {just_slow}");
+            assert!([31, 32, 33].iter().all(|&n| refused[n] > 10), "{told}");
+            assert!(lies.iter().all(|&n| n > 60) && same_pair > 10, "{told}");
+            assert!(fast > 100 && just_fast > 20 && just_slow > 20, "{told}");
+        }
     }
 
     #[test]

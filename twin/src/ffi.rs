@@ -33,6 +33,7 @@ mod c {
         pub fn zilmorga_one_minus(f: *const i64, out: *mut i64) -> u32;
         pub fn zilmorga_one_minus_entry(digits: u64, power: i32, out: *mut i64) -> u32;
         pub fn zilmorga_series(x: *const i64, out: *mut i64) -> u32;
+        pub fn zilmorga_mean_series(x: *const i64, out: *mut i64) -> u32;
         pub fn zilmorga_compare(end: *const i64, bound: *const i64, at_most: *mut u32) -> u32;
         pub fn zilmorga_in_units(p: *const i64, unit: i32, low: *mut u64, high: *mut u64) -> u32;
     }
@@ -100,6 +101,10 @@ pub fn one_minus_entry(digits: u64, power: i32, out: &mut Raw) -> u32 {
 
 pub fn series(x: &Raw, out: &mut Raw) -> u32 {
     unsafe { c::zilmorga_series(x.as_ptr(), out.as_mut_ptr()) }
+}
+
+pub fn mean_series(x: &Raw, out: &mut Raw) -> u32 {
+    unsafe { c::zilmorga_mean_series(x.as_ptr(), out.as_mut_ptr()) }
 }
 
 pub fn compare(end: &[i64; 2], bound: &[i64; 2], at_most: &mut u32) -> u32 {

@@ -1,6 +1,6 @@
 //! A second reading of document 01 (hazard and cancer sheets from a case deck) and of requests P1 (numbers of more than nine
-//! digits) and P2 (composite receptor) in document 02, in plain Rust, written from these documents alone and kept apart from
-//! the library, so that an agreement of the two says something about both.
+//! digits), P2 (composite receptor) and P4 (the soil's mean for cancer) in document 02, in plain Rust, written from these
+//! documents alone and kept apart from the library, so that an agreement of the two says something about both.
 
 // A remainder stands beside its quotient throughout.
 #![allow(clippy::manual_is_multiple_of)]
@@ -15,9 +15,10 @@ pub mod pairs;
 pub mod report;
 pub mod rng;
 pub mod vectors;
+pub mod years;
 
 pub use deck::{read, Sort};
-pub use pairs::series;
+pub use pairs::{mean_series, series};
 pub use report::{report, total};
 
 /// Number, line and field; on success 0, the report's length and 0.

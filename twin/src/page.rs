@@ -1,12 +1,13 @@
-//! The page of equations, written as document 01 writes them: the operators of pairs keep its order of operations (brackets,
-//! then × and / from the left, then + from the left), one rounding each.
+//! The page of equations, written as the documents write them: the operators of pairs keep their order of operations
+//! (brackets, then × and / from the left, then + from the left), one rounding each.
 //!
-//! Fields lie between 1E-20 and 1E+9 or are 0, a composite's but for a rounding too and its years below 1E+10, so every
-//! exponent here stays within a few hundred, those of the series (x at most 64 or not used) within some tens of thousands;
-//! and no divisor is 0, since its factors are never 0.
+//! Fields lie between 1E-20 and 1E+9 or are 0, a composite's but for a rounding too and its years below 1E+10, and T2 − tD is
+//! 1E-27 at least, so every exponent here stays within a few hundred, those of the series (x at most 64 or not used) within
+//! some tens of thousands; and no divisor is 0, since its factors are never 0.
 
 use crate::deck::{Chemical, Receptor};
 use crate::pairs::{self, Pair, Working};
+use crate::years::Years;
 
 const TENTH: Pair = Pair::entry(1, -1);
 const MILLIONTH: Pair = Pair::entry(1, -6);
@@ -14,8 +15,8 @@ const HUNDRED: Pair = Pair::entry(100, 0);
 const THOUSAND: Pair = Pair::entry(1000, 0);
 const DAYS_A_YEAR: Pair = Pair::entry(365, 0);
 
-/// x's high end may not be above it.
-pub const MOST_X: Working = Working::entry(64, 0);
+/// The high end of x, and of k × (T2 − tD), may not be above it.
+const MOST_X: Working = Working::entry(64, 0);
 pub const MOST_QUOTIENT: Working = Working::entry(10_000, 0);
 pub const MOST_RISK: Working = Working::ONE;
 
@@ -25,6 +26,7 @@ pub struct Site {
     zs: Pair,
     bd: Pair,
     td: Pair,
+    exact_td: Years,
     theta: Pair,
     xe: Pair,
     sd: Pair,
@@ -36,13 +38,13 @@ pub struct Site {
 }
 
 impl Site {
-    pub fn new(value: &[Pair; 11]) -> Site {
+    pub fn new(value: &[Pair; 11], exact_td: Years) -> Site {
         let [zs, bd, td, theta, xe, sd, er, ro, r, vg, frsnow] = *value;
-        Site { zs, bd, td, theta, xe, sd, er, ro, r, vg, frsnow }
+        Site { zs, bd, td, exact_td, theta, xe, sd, er, ro, r, vg, frsnow }
     }
 
-    /// k × tD.
-    pub fn x(&self, chemical: &Chemical) -> Pair {
+    /// How a chemical is lost from the soil.
+    pub fn loss(&self, chemical: &Chemical) -> Loss {
         let Site { zs, bd, td, theta, xe, sd, er, ro, r, .. } = *self;
         let [_, _, _, _, _, _, _, _, _, _, kds, ksg, ksv, ..] = chemical.value;
         let u = kds * bd;
@@ -50,39 +52,132 @@ impl Site {
         let ksr = ro / (theta * zs) / (Pair::ONE + u / theta);
         let ksl = r / (theta * zs) / (Pair::ONE + u / theta);
         let k = ksg + kse + ksr + ksl + ksv;
-        k * td
+        Loss { k, x: k * td }
+    }
+
+    /// A receptor's exposure, against the deposition.
+    pub fn exposure(&self, receptor: &Receptor) -> Exposure {
+        match receptor.exact_years.beyond(self.exact_td) {
+            None => Exposure::Within,
+            Some(rest) => Exposure::Beyond { t2: receptor.years, rest: rest.pair() },
+        }
+    }
+}
+
+/// How long a receptor is exposed, by the printed digits.
+#[derive(Clone, Copy, PartialEq, Eq, Debug)]
+pub enum Exposure {
+    /// T2 ≤ tD.
+    Within,
+    /// T2 > tD, and T2 − tD.
+    Beyond { t2: Pair, rest: Pair },
+}
+
+/// A chemical's loss from the site's soil.
+#[derive(Clone, Copy)]
+pub struct Loss {
+    k: Pair,
+    /// k × tD.
+    x: Pair,
+}
+
+impl Loss {
+    pub const NONE: Loss = Loss { k: Pair::ZERO, x: Pair::ZERO };
+
+    /// Whether x, and k × (T2 − tD) of all these, can be worked.
+    pub fn slow_enough(&self, exposures: &[Exposure]) -> bool {
+        self.x.high.at_most(MOST_X)
+            && exposures.iter().all(|exposure| match *exposure {
+                Exposure::Within => true,
+                Exposure::Beyond { rest, .. } => (self.k * rest).high.at_most(MOST_X),
+            })
+    }
+
+    pub fn k(&self) -> Pair {
+        self.k
+    }
+
+    pub fn x(&self) -> Pair {
+        self.x
     }
 }
 
 /// Stands for (1 − exp(−x)) / x.
-pub fn g(x: Pair) -> Pair {
-    let (phi, _) = pairs::series(x);
+fn g(x: Pair, phi: Pair) -> Pair {
     Pair::ONE / (Pair::ONE / phi + x)
 }
 
-/// A chemical's concentrations at the site.
+/// Stands for (1 − g) / x.
+fn h(x: Pair, phi: Pair, psi: Pair) -> Pair {
+    psi / (Pair::ONE + x * phi)
+}
+
+/// A soil's concentration and those of what grows in it.
 #[derive(Clone, Copy)]
-pub struct Media {
-    air: Pair,
+struct Ground {
     soil: Pair,
     above_ground: Pair,
     below_ground: Pair,
 }
 
+impl Ground {
+    const NONE: Ground = Ground { soil: Pair::ZERO, above_ground: Pair::ZERO, below_ground: Pair::ZERO };
+
+    fn new(site: &Site, chemical: &Chemical, soil: Pair) -> Ground {
+        let [_, _, _, _, _, _, _, _, _, _, kds, _, _, br, rcf, ..] = chemical.value;
+        Ground { soil, above_ground: soil * br, below_ground: soil * rcf * site.vg / kds }
+    }
+}
+
+/// A chemical's concentrations at the site, all that no receptor changes.
+#[derive(Clone, Copy)]
+pub struct Media {
+    air: Pair,
+    /// The highest year's, C: for hazard.
+    highest: Ground,
+    /// The mean while there is deposition: for cancer, where T2 ≤ tD.
+    mean: Ground,
+    /// D × tD × tD × h.
+    mean_by_td: Pair,
+    k: Pair,
+}
+
 impl Media {
     pub const NONE: Media =
-        Media { air: Pair::ZERO, soil: Pair::ZERO, above_ground: Pair::ZERO, below_ground: Pair::ZERO };
+        Media { air: Pair::ZERO, highest: Ground::NONE, mean: Ground::NONE, mean_by_td: Pair::ZERO, k: Pair::ZERO };
 
-    pub fn new(site: &Site, chemical: &Chemical, x: Pair) -> Media {
-        let Site { zs, bd, td, vg, .. } = *site;
-        let [q, hga, hgd, fv, cyv, cyp, dydv, dywv, dydp, dywp, kds, _, _, br, rcf, ..] = chemical.value;
+    /// The loss is slow enough.
+    pub fn new(site: &Site, chemical: &Chemical, loss: &Loss) -> Media {
+        let Site { zs, bd, td, .. } = *site;
+        let [q, hga, hgd, fv, cyv, cyp, dydv, dywv, dydp, dywp, ..] = chemical.value;
         // From the printed digits: the pair may have lost what they leave of 1.
         let (digits, power) = chemical.fv;
         let one_minus_fv = Pair::one_minus_entry(digits, power);
         let air = q * hga * (fv * cyv + one_minus_fv * cyp) / THOUSAND;
         let d = HUNDRED * hgd * q / (zs * bd) * (fv * (dydv + dywv) + (dydp + dywp) * one_minus_fv);
-        let soil = d * td * g(x);
-        Media { air, soil, above_ground: soil * br, below_ground: soil * rcf * vg / kds }
+        let x = loss.x;
+        let (phi, psi) = pairs::both_series(x);
+        let (g, h) = (g(x, phi), h(x, phi, psi));
+        let deposited = d * td;
+        Media {
+            air,
+            highest: Ground::new(site, chemical, deposited * g),
+            mean: Ground::new(site, chemical, deposited * h),
+            mean_by_td: deposited * td * h,
+            k: loss.k,
+        }
+    }
+
+    /// The soil's mean over an exposure: for cancer.
+    fn mean(&self, site: &Site, chemical: &Chemical, exposure: &Exposure) -> Ground {
+        match *exposure {
+            Exposure::Within => self.mean,
+            Exposure::Beyond { t2, rest } => {
+                let x = self.k * rest;
+                let (phi, _) = pairs::series(x);
+                Ground::new(site, chemical, (self.mean_by_td + self.highest.soil * rest * g(x, phi)) / t2)
+            }
+        }
     }
 }
 
@@ -95,11 +190,13 @@ pub fn averaging_time(ed: Pair) -> Pair {
 const ED: usize = 1;
 const ATC: usize = 2;
 
-/// The person made of life stages, one at least: each field is its mean over the years, ED all of the years, ATc their days.
+/// The person made of life stages, one at least: each field is its mean over the years, ED all of the years, ATc their days;
+/// T2 all of them too, but added as printed.
 pub fn composite(stages: &[Receptor]) -> Receptor {
+    let t2: Years = stages.iter().map(|stage| stage.exact_years).sum();
     // Sums in deck order; 0 + the first is the first, unrounded.
     let years = stages.iter().fold(Pair::ZERO, |sum, stage| sum + stage.years);
-    let mut person = Receptor { years, ..stages[0] };
+    let mut person = Receptor { years: t2.pair(), exact_years: t2, ..stages[0] };
     for (at, value) in person.value.iter_mut().enumerate() {
         *value = match at {
             ED => years,
@@ -137,23 +234,26 @@ pub struct Figures {
 }
 
 /// Pathways 1 to 6 of one receptor and chemical.
-pub fn pathways(site: &Site, chemical: &Chemical, media: &Media, body: &Body) -> [Figures; 6] {
+pub fn pathways(site: &Site, chemical: &Chemical, media: &Media, exposure: &Exposure, body: &Body) -> [Figures; 6] {
     let [_, ed, _, irinh, etinh, efinh, irsoil, etsoil, efs, efw, _, _, _, _, etderm, irag, fag, irbg, fbg, wp, efp] =
         body.value;
     let [.., afinh, aforal, afderm] = chemical.value;
     let [rfdo, rfdi, csfo, csfi] = chemical.reference;
-    // The intake factor's dividend, its medium and its reference values.
-    let figures = |dividend: Pair, medium: Pair, rfd: Option<Pair>, csf: Option<Pair>| Figures {
-        quotient: rfd.map(|rfd| dividend / body.b_hazard * medium / rfd),
-        risk: csf.map(|csf| dividend / body.b_cancer * medium * csf),
+    // The intake factor's dividend; its medium and the reference value, for hazard and for cancer.
+    let figures = |dividend: Pair, hazard: (Pair, Option<Pair>), cancer: (Pair, Option<Pair>)| Figures {
+        quotient: hazard.1.map(|rfd| dividend / body.b_hazard * hazard.0 / rfd),
+        risk: cancer.1.map(|csf| dividend / body.b_cancer * cancer.0 * csf),
     };
+    let (highest, mean) = (&media.highest, media.mean(site, chemical, exposure));
+    let soil = ((highest.soil, rfdo), (mean.soil, csfo));
+    let in_soil = |dividend: Pair| figures(dividend, soil.0, soil.1);
     [
-        figures(irinh * afinh * etinh * efinh * ed, media.air, rfdi, csfi),
-        figures(irsoil * aforal * etsoil * efs * ed * MILLIONTH, media.soil, rfdo, csfo),
-        figures(irsoil * aforal * site.frsnow * etsoil * efw * ed * MILLIONTH, media.soil, rfdo, csfo),
-        figures(body.adhering * afderm * etderm * efs * ed * MILLIONTH, media.soil, rfdo, csfo),
-        figures(irag * fag * wp * aforal * efp * ed, media.above_ground, rfdo, csfo),
-        figures(irbg * fbg * wp * aforal * efp * ed, media.below_ground, rfdo, csfo),
+        figures(irinh * afinh * etinh * efinh * ed, (media.air, rfdi), (media.air, csfi)),
+        in_soil(irsoil * aforal * etsoil * efs * ed * MILLIONTH),
+        in_soil(irsoil * aforal * site.frsnow * etsoil * efw * ed * MILLIONTH),
+        in_soil(body.adhering * afderm * etderm * efs * ed * MILLIONTH),
+        figures(irag * fag * wp * aforal * efp * ed, (highest.above_ground, rfdo), (mean.above_ground, csfo)),
+        figures(irbg * fbg * wp * aforal * efp * ed, (highest.below_ground, rfdo), (mean.below_ground, csfo)),
     ]
 }
 
@@ -163,7 +263,62 @@ mod tests {
 
     #[test]
     fn no_loss() {
-        assert_eq!(g(Pair::ZERO), Pair::ONE);
+        let half = Pair::entry(5, -1);
+        assert_eq!(g(Pair::ZERO, Pair::ONE), Pair::ONE);
+        assert_eq!(h(Pair::ZERO, Pair::ONE, half), half);
+    }
+
+    /// At 64 g and h are 1 / 64 and 63 / 64², but for some 1E-28.
+    #[test]
+    fn most_loss() {
+        let x = Pair::entry(64, 0);
+        let (phi, psi) = pairs::both_series(x);
+        let held = |p: Pair, digits: u64, power: i32| {
+            let exact = Pair::entry(digits, power);
+            let width = Pair::entry(100_007, -5);
+            assert!(p.low.at_most(exact.low) && exact.high.at_most(p.high), "{p:?}");
+            assert!(p.high.at_most((p * width).low), "{p:?}");
+        };
+        held(g(x, phi), 15_625, -6);
+        held(h(x, phi, psi), 15_380_859_375, -12);
+    }
+
+    /// A site with this tD, each other value 1.
+    fn site(td: (u64, i32)) -> Site {
+        let mut value = [Pair::ONE; 11];
+        value[crate::deck::TD] = Pair::entry(td.0, td.1);
+        Site::new(&value, Years::printed(td))
+    }
+
+    #[test]
+    fn exposures_go_by_the_printed_digits() {
+        let exposed = |td, t2: (u64, i32)| site(td).exposure(&stage(t2, Pair::ONE));
+        let beyond = |t2: Pair, rest: Pair| Exposure::Beyond { t2, rest };
+        assert_eq!(exposed((30, 0), (30_000_000_000, -9)), Exposure::Within);
+        assert_eq!(exposed((30_000_000_000, -9), (3, 1)), Exposure::Within);
+        assert_eq!(exposed((30_000_000_001, -9), (3, 1)), Exposure::Within);
+        let above = Pair::entry(30_000_000_001, -9);
+        assert_eq!(exposed((30, 0), (30_000_000_001, -9)), beyond(above, Pair::entry(1, -9)));
+        // Both in the same pair.
+        assert_eq!(exposed((30_000_000_001, -9), (30_000_000_004, -9)), beyond(above, Pair::entry(3, -9)));
+        assert_eq!(exposed((1, -20), (1, 9)), beyond(Pair::entry(1, 9), Pair::entry(999_999_999_999, -3)));
+    }
+
+    /// Years that add to more than tD by the last digit of one: their pairs' sum would not tell.
+    #[test]
+    fn a_composites_t2_is_added_as_printed() {
+        let stages = |last| [(10, 0), (5, 0), last].map(|years| stage(years, Pair::ONE));
+        let exposed = |last| site((30, 0)).exposure(&composite(&stages(last)));
+        assert_eq!(exposed((15, 0)), Exposure::Within);
+        assert_eq!(exposed((14_999_999_999, -9)), Exposure::Within);
+        let t2 = Pair::entry(30_000_000_001, -9);
+        assert_eq!(exposed((15_000_000_001, -9)), Exposure::Beyond { t2, rest: Pair::entry(1, -9) });
+        // ED is the sum of pairs, T2 that of the years: rounded once, whatever the order.
+        let crumb = stage((6, -9), Pair::ONE);
+        let person = composite(&[stage((1, 0), Pair::ONE), crumb, crumb]);
+        let last = |m: u32| Working { m, e: -8 };
+        assert_eq!(person.value[ED], Pair { low: last(100_000_000), high: last(100_000_002) });
+        assert_eq!(person.years, Pair { low: last(100_000_001), high: last(100_000_002) });
     }
 
     #[test]
@@ -171,17 +326,17 @@ mod tests {
         assert_eq!(averaging_time(Pair::entry(45, -1)), Pair::entry(16_425, -1));
     }
 
-    fn stage(years: Pair, value: Pair) -> Receptor {
-        Receptor { id: 7, value: [value; 21], years }
+    fn stage(years: (u64, i32), value: Pair) -> Receptor {
+        Receptor { id: 7, value: [value; 21], years: Pair::entry(years.0, years.1), exact_years: Years::printed(years) }
     }
 
     /// Document 002's body weights and years; it divides by 75, though the years add to 76.
     #[test]
     fn five_stages_of_002() {
         let e = Pair::entry;
-        let stages = [(5, 82), (45, 165), (70, 329), (80, 597), (560, 707)].map(|(y, bw)| stage(e(y, -1), e(bw, -1)));
+        let stages = [(5, 82), (45, 165), (70, 329), (80, 597), (560, 707)].map(|(y, bw)| stage((y, -1), e(bw, -1)));
         let person = composite(&stages);
-        assert_eq!(person.id, 7);
+        assert_eq!((person.id, person.years), (7, e(76, 0)));
         // 4745.45 / 76 = 62.44013157..
         let weight = Pair { low: Working { m: 624_401_315, e: -7 }, high: Working { m: 624_401_316, e: -7 } };
         for (at, value) in person.value.into_iter().enumerate() {
@@ -196,11 +351,10 @@ mod tests {
 
     #[test]
     fn a_composite_rounds_in_deck_order() {
-        let e = Pair::entry;
         let ends = |low: u32, high: u32| Pair { low: Working { m: low, e: -8 }, high: Working { m: high, e: -8 } };
         // Two crumbs after 1 are rounded one by one; before it they are added first.
-        let crumb = stage(e(6, -9), Pair::ONE);
-        let year = stage(Pair::ONE, Pair::ONE);
+        let crumb = stage((6, -9), Pair::ONE);
+        let year = stage((1, 0), Pair::ONE);
         let late = composite(&[year, crumb, crumb]).value;
         assert_eq!(late[ED], ends(100_000_000, 100_000_002));
         let early = composite(&[crumb, crumb, year]).value;
@@ -208,7 +362,7 @@ mod tests {
         // A share of 1 throughout may come to more than 1, and to less: no range holds it.
         assert_eq!(late[0], Pair { low: Working { m: 999_999_980, e: -9 }, high: Working { m: 100_000_002, e: -8 } });
         // The years times 0 are 0.
-        assert_eq!(composite(&[stage(e(1, -20), Pair::ZERO), stage(e(1, 9), Pair::ZERO)]).value[0], Pair::ZERO);
+        assert_eq!(composite(&[stage((1, -20), Pair::ZERO), stage((1, 9), Pair::ZERO)]).value[0], Pair::ZERO);
     }
 
     #[test]

@@ -101,6 +101,17 @@ const fn cut(n: u64, e: i32) -> Cut {
     }
 }
 
+/// n × 10^e, for n of more figures than a `u64` holds too.
+fn cut_long(n: u128, e: i32) -> Cut {
+    if let Ok(n) = u64::try_from(n) {
+        return cut(n, e);
+    }
+    let over = n.ilog10() - 8;
+    let ten = 10u128.pow(over);
+    let m = n / ten;
+    Cut { m: m as u32, e: e + over as i32, off: m * ten != n }
+}
+
 #[inline]
 fn add(a: Working, b: Working) -> Cut {
     if a.m == 0 {
@@ -191,6 +202,12 @@ impl Pair {
         Pair { low: c.down(), high: c.up() }
     }
 
+    /// The same of a number of up to 39 figures.
+    pub fn long_entry(digits: u128, power: i32) -> Pair {
+        let c = cut_long(digits, power);
+        Pair { low: c.down(), high: c.up() }
+    }
+
     /// 1 − f; the high end of f is at most 1.
     #[inline]
     pub fn one_minus(self) -> Pair {
@@ -261,34 +278,71 @@ impl Div for Pair {
     }
 }
 
-/// Terms of the series.
+/// Terms of a series.
 pub const TERMS: usize = 256;
 
-/// The divisors of the series, n + 1 at place n.
-static DIVISORS: [Pair; TERMS] = {
-    let mut d = [Pair::ONE; TERMS];
+/// The whole numbers of the series, n + 1 at place n.
+static WHOLE: [Pair; TERMS + 1] = {
+    let mut w = [Pair::ONE; TERMS + 1];
     let mut n = 0;
-    while n < TERMS {
-        d[n] = Pair::entry(n as u64 + 1, 0);
+    while n <= TERMS {
+        w[n] = Pair::entry(n as u64 + 1, 0);
         n += 1;
     }
-    d
+    w
 };
+
+/// A series' terms added up, and its last term's high end once more: what the terms left out can come to is at most that.
+#[inline]
+fn closed(sum: Pair, last: Pair) -> Pair {
+    Pair { low: sum.low, high: add(sum.high, last.high).up() }
+}
 
 /// φ at x, and whether every step stayed in the exponent's reach.
 pub fn series(x: Pair) -> (Pair, bool) {
     let mut near = true;
     let mut t = Pair::ONE;
     let mut phi = t;
-    for divisor in &DIVISORS[1..] {
+    for divisor in &WHOLE[1..TERMS] {
         let tx = t * x;
         t = tx / *divisor;
         phi = phi + t;
         near &= tx.in_reach() & t.in_reach() & phi.in_reach();
     }
-    // What the terms left out can come to is at most the last one again.
-    let phi = Pair { low: phi.low, high: add(phi.high, t.high).up() };
+    let phi = closed(phi, t);
     (phi, near && phi.in_reach())
+}
+
+/// ψ at x, and whether every step stayed in the exponent's reach.
+pub fn mean_series(x: Pair) -> (Pair, bool) {
+    let mut near = true;
+    let mut s = Pair::entry(5, -1);
+    let mut psi = s;
+    // n, n + 1 and n + 2, for n from 1 to 255.
+    for whole in WHOLE.windows(3) {
+        let sx = s * x;
+        let more = sx * whole[1];
+        let less = more / whole[0];
+        s = less / whole[2];
+        psi = psi + s;
+        near &= sx.in_reach() & more.in_reach() & less.in_reach() & s.in_reach() & psi.in_reach();
+    }
+    let psi = closed(psi, s);
+    (psi, near && psi.in_reach())
+}
+
+/// φ and ψ at an x whose steps all stay in reach. Neither's step waits for the other's, so that the two take less time
+/// together than one after the other.
+pub fn both_series(x: Pair) -> (Pair, Pair) {
+    let (mut t, mut s) = (Pair::ONE, Pair::entry(5, -1));
+    let (mut phi, mut psi) = (t, s);
+    for whole in WHOLE.windows(3) {
+        t = t * x / whole[1];
+        phi = phi + t;
+        s = s * x * whole[1] / whole[0] / whole[2];
+        psi = psi + s;
+    }
+    (closed(phi, t), closed(psi, s))
 }
 
 #[cfg(test)]
@@ -371,8 +425,50 @@ mod tests {
     }
 
     #[test]
+    fn long_entries() {
+        let rng = &mut crate::rng::Rng::new(3);
+        for _ in 0..100_000 {
+            let digits = (rng.word() as u128) << rng.below(65) | rng.word() as u128 & 1;
+            assert_eq!(Pair::long_entry(digits, -27), slowly(digits, -27), "{digits}");
+        }
+        let crumb = 10u128.pow(36) + 1;
+        assert_eq!(Pair::long_entry(crumb, -27), pair(100_000_000, 1, 100_000_001, 1));
+        assert_eq!(Pair::long_entry(crumb - 1, -27), Pair::entry(1, 9));
+        assert_eq!(Pair::long_entry(crumb - 2, -27), pair(999_999_999, 0, 100_000_000, 1));
+        assert_eq!(Pair::long_entry(0, -27), Pair::ZERO);
+    }
+
+    #[test]
     fn series_at_0() {
         assert_eq!(series(Pair::ZERO), (Pair::ONE, true));
+        assert_eq!(mean_series(Pair::ZERO), (Pair::entry(5, -1), true));
+    }
+
+    /// φ is (e^x − 1) / x and ψ is (e^x × (x − 1) + 1) / x²: at 1 e − 1 and 1, at 2 (e² − 1) / 2 and (e² + 1) / 4.
+    #[test]
+    fn series_at_1_and_2() {
+        let near = |p: Pair, v: f64| {
+            let real = |w: Working| w.m as f64 * 10f64.powi(w.e);
+            let (low, high) = (real(p.low), real(p.high));
+            assert!(low <= v * (1.0 + 1e-15) && high >= v * (1.0 - 1e-15) && high - low < 3e-6 * v, "{p:?} {v}");
+        };
+        let (one, two) = (Pair::ONE, Pair::entry(2, 0));
+        near(series(one).0, 1f64.exp() - 1.0);
+        near(mean_series(one).0, 1.0);
+        near(series(two).0, (2f64.exp() - 1.0) / 2.0);
+        near(mean_series(two).0, (2f64.exp() + 1.0) / 4.0);
+    }
+
+    #[test]
+    fn both_series_are_the_two() {
+        let rng = &mut crate::rng::Rng::new(5);
+        for _ in 0..2_000 {
+            let low = Working { m: rng.between(LEAST as i64, MOST as i64) as u32, e: rng.between(-150, -8) as i32 };
+            let x = Pair { low, high: rng.one_of(&[low, add(low, Working::entry(1, low.e)).up()]) };
+            assert_eq!((both_series(x).0, true), series(x), "{x:?}");
+            assert_eq!((both_series(x).1, true), mean_series(x), "{x:?}");
+        }
+        assert_eq!(both_series(Pair::ZERO), (Pair::ONE, Pair::entry(5, -1)));
     }
 
     #[test]

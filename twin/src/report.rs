@@ -1,7 +1,7 @@
 //! The report of a deck, and totals.
 
 use crate::deck::{read_case, Case, Sort, MOST_CHEMICALS, MOST_RECEPTORS};
-use crate::page::{composite, pathways, Body, Media, Site, MOST_QUOTIENT, MOST_RISK, MOST_X};
+use crate::page::{composite, pathways, Body, Exposure, Loss, Media, Site, MOST_QUOTIENT, MOST_RISK};
 use crate::pairs::Pair;
 use crate::Outcome;
 
@@ -41,7 +41,7 @@ pub fn report_length(sort: Sort, deck: &[u8]) -> Result<usize, Outcome> {
 }
 
 /// Reads into an empty case, its receptors those that are reported: from here on a composite is a receptor like any other.
-fn read_reported(sort: Sort, deck: &[u8], case: &mut Case) -> Result<(), Outcome> {
+pub fn read_reported(sort: Sort, deck: &[u8], case: &mut Case) -> Result<(), Outcome> {
     read_case(sort, deck, case)?;
     if sort == Sort::Composite {
         case.set_only_receptor(composite(case.receptors()));
@@ -55,23 +55,27 @@ fn work(sort: Sort, deck: &[u8], room: usize, case: &mut Case, lines: &mut [Line
     if room < case.report_length() {
         return Err((51, 0, 0));
     }
-    let site = Site::new(&case.site);
-    let mut xs = [Pair::ZERO; MOST_CHEMICALS];
+    let site = Site::new(&case.site, case.td);
+    let mut exposures = [Exposure::Within; MOST_RECEPTORS];
+    for (exposure, receptor) in exposures.iter_mut().zip(case.receptors()) {
+        *exposure = site.exposure(receptor);
+    }
+    let mut losses = [Loss::NONE; MOST_CHEMICALS];
     for (i, chemical) in case.chemicals().iter().enumerate() {
-        xs[i] = site.x(chemical);
-        if !xs[i].high.at_most(MOST_X) {
+        losses[i] = site.loss(chemical);
+        if !losses[i].slow_enough(&exposures) {
             return Err((41, i + 1, 0));
         }
     }
     let mut media = [Media::NONE; MOST_CHEMICALS];
     for (i, chemical) in case.chemicals().iter().enumerate() {
-        media[i] = Media::new(&site, chemical, xs[i]);
+        media[i] = Media::new(&site, chemical, &losses[i]);
     }
     let mut at = 0;
     for (r, receptor) in case.receptors().iter().enumerate() {
         let body = Body::new(receptor);
         for (i, chemical) in case.chemicals().iter().enumerate() {
-            for figures in pathways(&site, chemical, &media[i], &body) {
+            for figures in pathways(&site, chemical, &media[i], &exposures[r], &body) {
                 // Each receptor before this one has a total line too.
                 let stop = (42, at + r + 1, 0);
                 lines[at] = [
@@ -213,7 +217,12 @@ mod tests {
     }
 
     fn deck(chemicals: &[&str], receptors: usize) -> Vec<u8> {
-        deck_of(chemicals, &vec![RECEPTOR.to_string(); receptors])
+        deck_of(chemicals, &vec![exposed(RECEPTOR, "1"); receptors])
+    }
+
+    /// A receptor with this T2 in slot 22.
+    fn exposed(receptor: &str, t2: &str) -> String {
+        format!("{receptor} {t2}")
     }
 
     fn report(deck: &[u8], out: &mut [u8]) -> Outcome {
@@ -233,12 +242,12 @@ mod tests {
     fn example_deck() {
         let want = "\
 1 1 1 500000000000 500000000000 - -
-1 1 2 120000000 120000000 7999999 8000001
-1 1 3 120000000 120000000 7999999 8000001
-1 1 4 9000000 9000000 600000 600000
-1 1 5 37500000000 37500000000 2499999990 2500000010
-1 1 6 750000000 750000000 49999999 50000001
-1 0 0 538499000000 538499000000 2566599987 2566600013
+1 1 2 120000000 120000000 3999999 4000001
+1 1 3 120000000 120000000 3999999 4000001
+1 1 4 9000000 9000000 300000 300000
+1 1 5 37500000000 37500000000 1249999990 1250000010
+1 1 6 750000000 750000000 24999999 25000001
+1 0 0 538499000000 538499000000 1283299987 1283300013
 ";
         let mut padded = Vec::new();
         for line in want.lines() {
@@ -316,6 +325,89 @@ mod tests {
         let at = 2 * crate::deck::LINE - 1 - 12;
         deck[at..at + 12].copy_from_slice(b"  1234567890");
         assert_eq!(report(&deck, &mut out), (32, 2, 6));
+    }
+
+    /// Without loss, of 30 years' deposition half of the highest year's soil is the mean of 30 years or less; of 60 years it is
+    /// (30 × half + 30 × whole) / 60. Hazard keeps the whole.
+    #[test]
+    fn cancer_takes_the_mean_soil() {
+        let mut one = [0; 7 * LINE];
+        assert_eq!(report(&deck(&[CHEMICAL], 1), &mut one), (0, 7 * LINE, 0));
+        let mut out = [0; 7 * LINE];
+        for t2 in ["1E-20", "0.0000000001", "29.999999999", "30", "30.000000000", "3E+01"] {
+            assert_eq!(report(&deck_of(&[CHEMICAL], &[exposed(RECEPTOR, t2)]), &mut out), (0, 7 * LINE, 0));
+            assert_eq!(out, one, "{t2}");
+        }
+        let receptor = RECEPTOR.replacen("27375", "36500", 1);
+        for (t2, eaten, above, below) in [
+            ("30", 3_000_000u64, 937_500_000u64, 18_750_000u64),
+            ("60", 4_500_000, 1_406_250_000, 28_125_000),
+            ("120", 5_250_000, 1_640_625_000, 32_812_500),
+        ] {
+            assert_eq!(report(&deck_of(&[CHEMICAL], &[exposed(&receptor, t2)]), &mut out), (0, 7 * LINE, 0));
+            for (pathway, units) in [(2, eaten), (3, eaten), (5, above), (6, below)] {
+                let line = &out[(pathway - 1) * LINE..pathway * LINE];
+                assert_eq!(line[54..94], *format!("{units:>20}{units:>20}").as_bytes(), "{t2} {pathway}");
+                assert_eq!(line[14..54], one[(pathway - 1) * LINE..][14..54]);
+            }
+        }
+        // The last digit beyond tD, at both ends of a pair: next to the half, and some roundings wider.
+        assert_eq!(report(&deck_of(&[CHEMICAL], &[exposed(&receptor, "30.000000001")]), &mut out), (0, 7 * LINE, 0));
+        assert_eq!(out[LINE + 54..LINE + 94], *b"             2999999             3000001");
+    }
+
+    #[test]
+    fn t2_is_needed_in_an_ordinary_deck_alone() {
+        let mut out = [b'#'; 14 * LINE];
+        let mut refused = |t2: &str, number: u32| {
+            let deck = deck_of(&[CHEMICAL], &[exposed(RECEPTOR, "2"), exposed(RECEPTOR, t2)]);
+            assert_eq!(report(&deck, &mut out), (number, 14, 4), "{t2}");
+            assert_eq!(crate::read(Sort::Ordinary, &deck), (number, 14, 4), "{t2}");
+            assert_eq!(out, [b'#'; 14 * LINE]);
+        };
+        for t2 in ["", "-"] {
+            refused(t2, 32);
+        }
+        for t2 in ["0", "0.0", "0E+99", "000000000000", "9.999999E-21", "1E-21", "1000000000.1", "1E+10"] {
+            refused(t2, 33);
+        }
+        for t2 in ["-1", "4,5", ".5", "--"] {
+            refused(t2, 31);
+        }
+        for t2 in ["1E-20", "10000000E-27", "0.0000000001", "1E+09", "1000000000.0", "001000000000"] {
+            let deck = deck_of(&[CHEMICAL], &[exposed(RECEPTOR, "2"), exposed(RECEPTOR, t2)]);
+            assert_eq!(report(&deck, &mut out), (0, 14 * LINE, 0), "{t2}");
+        }
+    }
+
+    /// tD 1 or 100; decay 0.5: 128 years beyond tD pass, and no more.
+    #[test]
+    fn loss_beyond_the_deposition() {
+        let mut out = [b'#'; 26 * LINE];
+        let chemicals = [CHEMICAL, &decaying("0.5")];
+        let with = |td: &str, t2: [&str; 2]| {
+            let deck = deck_of(&chemicals, &t2.map(|t2| exposed(RECEPTOR, t2)));
+            String::from_utf8(deck).unwrap().replacen("          30", &format!("{td:>12}"), 1).into_bytes()
+        };
+        for (td, at, above) in [("1", "129", "129.00000013"), ("100", "228", "228.0000002")] {
+            assert_eq!(report(&with(td, ["1", at]), &mut out), (0, 26 * LINE, 0));
+            assert_eq!(report(&with(td, [at, at]), &mut out), (0, 26 * LINE, 0));
+            out.fill(b'#');
+            assert_eq!(report(&with(td, ["1", above]), &mut out), (41, 2, 0));
+            assert_eq!(report(&with(td, [above, at]), &mut out), (41, 2, 0));
+            assert_eq!(report(&with(td, [above, "1E+09"]), &mut out[..26 * LINE - 1]), (51, 0, 0));
+            assert_eq!(out, [b'#'; 26 * LINE]);
+        }
+        // 41 of any chemical comes before 42 of any line.
+        let over = CHEMICAL.replacen("0.001 0.001 1", "0.001 4E-08 1", 1);
+        let deck = deck_of(&[&over, &decaying("0.5")], &[exposed(RECEPTOR, "1"), exposed(RECEPTOR, "1E+09")]);
+        assert_eq!(report(&deck, &mut out), (41, 2, 0));
+        let deck = deck_of(&[&over, &decaying("0.5")], &[exposed(RECEPTOR, "1"), exposed(RECEPTOR, "150")]);
+        assert_eq!(report(&deck, &mut out), (42, 1, 0));
+        // A composite's, by the sum of its years.
+        let stages = |last: &str| deck_of(&chemicals, &[stage(RECEPTOR, "100"), stage(RECEPTOR, last)]);
+        assert_eq!(composite_report(&stages("58"), &mut out), (0, 13 * LINE, 0));
+        assert_eq!(composite_report(&stages("58.0000002"), &mut out), (41, 2, 0));
     }
 
     /// A chemical with this ksg: x is ksg × 30.
@@ -396,11 +488,14 @@ mod tests {
         let (before, after) = (format!("{RECEPTOR} 1 2"), format!("{RECEPTOR}  2 1"));
         assert_eq!(composite_report(&deck_of(&[CHEMICAL], &[before]), &mut out), (32, 10, 4));
         assert_eq!(composite_report(&deck_of(&[CHEMICAL], &[after]), &mut out), (32, 10, 6));
+        assert_eq!(composite_report(&deck(&[CHEMICAL], 1), &mut out), (32, 10, 4));
         for years in ["2", "0", "-", "1E+99"] {
-            let deck = deck_of(&[CHEMICAL], &[stage(RECEPTOR, years)]);
+            let deck = deck_of(&[CHEMICAL], &[format!("{RECEPTOR} 1 {years}")]);
             assert_eq!(report(&deck, &mut out), (32, 10, 5), "{years}");
         }
-        assert_eq!(report(&deck_of(&[CHEMICAL], &[stage(RECEPTOR, "x")]), &mut out), (31, 10, 5));
+        assert_eq!(report(&deck_of(&[CHEMICAL], &[format!("{RECEPTOR} 1 x")]), &mut out), (31, 10, 5));
+        // A stage's deck has no T2.
+        assert_eq!(report(&deck_of(&[CHEMICAL], &[stage(RECEPTOR, "2")]), &mut out), (32, 10, 4));
     }
 
     #[test]
@@ -429,7 +524,7 @@ mod tests {
             let mut out = [b'#'; 13 * LINE + 3];
             assert_eq!(composite_report(&composite, &mut out), (0, 13 * LINE, 0));
             assert_eq!(out[13 * LINE..], *b"###");
-            let plain = RECEPTOR.replacen("20 5 27375", &format!("20 {years} {days}"), 1);
+            let plain = exposed(&RECEPTOR.replacen("20 5 27375", &format!("20 {years} {days}"), 1), years);
             let mut other = [b'#'; 13 * LINE + 3];
             let told = report(&deck_of(&[CHEMICAL, CHEMICAL], &[plain]), &mut other);
             if years == "1E+09" {
@@ -440,10 +535,10 @@ mod tests {
                 assert_eq!(out, other, "{years}");
             }
         }
-        // Risk is worked with the years' own days: 20 × 1825 instead of 20 × 27375.
+        // Risk is worked with the years' own days: 20 × 1825 instead of 20 × 27375. The soil is half of the highest year's.
         let mut out = [0; 7 * LINE];
         assert_eq!(composite_report(&deck_of(&[CHEMICAL], &[stage(RECEPTOR, "5")]), &mut out), (0, 7 * LINE, 0));
-        assert_eq!(out[LINE + 54..LINE + 94], *b"           120000000           120000000");
+        assert_eq!(out[LINE + 54..LINE + 94], *b"            60000000            60000000");
     }
 
     #[test]
@@ -476,7 +571,7 @@ mod tests {
         assert_eq!(composite_report(&at("4.999999E-08"), &mut out[..13 * LINE - 1]), (51, 0, 0));
         // No stage's own figures are judged: the first alone would stop with 42, the mean does not.
         let light = RECEPTOR.replacen("20 5", "0.0004 5", 1);
-        let alone = deck_of(&[CHEMICAL], std::slice::from_ref(&light));
+        let alone = deck_of(&[CHEMICAL], &[exposed(&light, "1")]);
         assert_eq!(report(&alone, &mut out), (42, 1, 0));
         assert_eq!(composite_report(&deck_of(&[CHEMICAL], &stages(&light)), &mut out), (0, 7 * LINE, 0));
         let decaying = deck_of(&[CHEMICAL, &decaying("3")], &stages(RECEPTOR));

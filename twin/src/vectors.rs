@@ -15,13 +15,25 @@ pub enum Call {
     OneMinus(Raw),
     OneMinusEntry(u64, i32),
     Series(Raw),
+    MeanSeries(Raw),
     Compare([i64; 2], [i64; 2]),
     InUnits(Raw, i32),
     Total(Vec<u64>),
 }
 
-pub const NAMES: [&str; 10] =
-    ["entry", "sum", "product", "quotient", "one_minus", "one_minus_entry", "series", "compare", "in_units", "total"];
+pub const NAMES: [&str; 11] = [
+    "entry",
+    "sum",
+    "product",
+    "quotient",
+    "one_minus",
+    "one_minus_entry",
+    "series",
+    "mean_series",
+    "compare",
+    "in_units",
+    "total",
+];
 
 impl Call {
     pub fn place(&self) -> usize {
@@ -33,9 +45,10 @@ impl Call {
             Call::OneMinus(..) => 4,
             Call::OneMinusEntry(..) => 5,
             Call::Series(..) => 6,
-            Call::Compare(..) => 7,
-            Call::InUnits(..) => 8,
-            Call::Total(..) => 9,
+            Call::MeanSeries(..) => 7,
+            Call::Compare(..) => 8,
+            Call::InUnits(..) => 9,
+            Call::Total(..) => 10,
         }
     }
 }
@@ -59,12 +72,13 @@ pub fn call(seed: u64, place: u64) -> Call {
             Call::OneMinusEntry(digits, power)
         }
         75..=78 => Call::Series(if rng.chance(75) { loss(rng) } else { operand(rng) }),
-        79..=86 => {
+        79..=82 => Call::MeanSeries(if rng.chance(75) { loss(rng) } else { operand(rng) }),
+        83..=88 => {
             let a = end(rng);
             let b = if rng.chance(50) { beside(rng, a) } else { end(rng) };
             Call::Compare(a, b)
         }
-        87..=96 => {
+        89..=96 => {
             let p = operand(rng);
             let unit =
                 if rng.chance(75) { (p[1] as i32).wrapping_sub(rng.between(-12, 13) as i32) } else { power(rng) };
@@ -249,9 +263,11 @@ fn share(rng: &mut Rng) -> Raw {
 
 /// A pair as x has it, some of it where the series leaves the exponent's reach.
 fn loss(rng: &mut Rng) -> Raw {
+    // The last term of either series leaves it at some 10^-390 and 10^394.
+    let (lower, upper) = (rng.between(-400, -396), rng.between(383, 387));
     let a = [
         rng.between(LEAST as i64, MOST as i64),
-        rng.one_of(&[-7, -8, -9, -10, -12, -20, -40, -370, -380, -390, -400, 370, 380, 390, 400]),
+        rng.one_of(&[-7, -8, -9, -10, -12, -20, -40, -370, -380, -390, lower, lower, 370, 380, upper, upper, 400]),
     ];
     let b = beside(rng, a);
     let (low, high) = if at_most(a, b) { (a, b) } else { (b, a) };

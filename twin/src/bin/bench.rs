@@ -57,6 +57,10 @@ mod own {
         put(calls::series(x), out)
     }
     #[inline(never)]
+    pub fn mean_series(x: &Raw, out: &mut Raw) -> u32 {
+        put(calls::mean_series(x), out)
+    }
+    #[inline(never)]
     pub fn compare(end: &[i64; 2], bound: &[i64; 2], at_most: &mut u32) -> u32 {
         match calls::compare(end, bound) {
             Ok(answer) => {
@@ -361,6 +365,7 @@ fn main() {
         comparisons(&ends),
         counts(&quotients, -12),
         on_one("series, 256 terms", &xs, ffi::series, own::series),
+        on_one("mean series, 256 terms", &xs, ffi::mean_series, own::mean_series),
     ];
     for (size, decks) in &decks {
         items.extend(deck_items(size, decks));

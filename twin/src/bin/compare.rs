@@ -92,6 +92,7 @@ fn library(call: &Call) -> Left {
         Call::OneMinus(f) => ffi::one_minus(f, &mut out),
         Call::OneMinusEntry(digits, power) => ffi::one_minus_entry(*digits, *power, &mut out),
         Call::Series(x) => ffi::series(x, &mut out),
+        Call::MeanSeries(x) => ffi::mean_series(x, &mut out),
         Call::Compare(end, bound) => {
             let mut at_most = BEFORE[0] as u32;
             let number = ffi::compare(end, bound, &mut at_most);
@@ -128,6 +129,7 @@ fn twin_left(call: &Call) -> Left {
         Call::OneMinus(f) => pair(calls::one_minus(f)),
         Call::OneMinusEntry(digits, power) => pair(calls::one_minus_entry(*digits, *power)),
         Call::Series(x) => pair(calls::series(x)),
+        Call::MeanSeries(x) => pair(calls::mean_series(x)),
         Call::Compare(end, bound) => {
             let answer = calls::compare(end, bound);
             out[0] = answer.map_or(BEFORE[0] as u32, u32::from) as i64;
@@ -211,7 +213,7 @@ fn decks(sort: Sort, seed: u64, count: u64, full: bool) -> bool {
             println!("  too seldom: {seldom:?}, or the accepted not within 30 and 60 in 100");
             right = false;
         }
-        // Slot 23 has to stop most of these; but composites' decks whose years were forgotten are ordinary ones.
+        // Slots 22 and 23 have to stop most of these; but a few of the composites' decks are ordinary ones.
         if 2 * crossed[32] < all_crossed || (sort == Sort::Composite && 1000 * crossed[0] < all_crossed) {
             println!("  the {} call refused too few with 32, or accepted too few", name(other));
             right = false;
