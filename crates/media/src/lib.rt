@@ -150,7 +150,7 @@ pub fn ground_of(site: Values, chemical: Values, particles: Pair) -> Grounded
     }
 }
 
-// The media of a receptor's cancer: its soil is the mean over the exposure T2, which later passes the deposition by.
+// The media of a receptor's cancer: its soil is the mean over the exposure, T2. later is T2 − tD where T2 is above tD.
 pub fn mean_concentrations(
     ground: Ground,
     site: Values,
