@@ -13,4 +13,5 @@ pub mod Ranges
 pub mod ReadLaws
 pub mod Scan
 pub mod Signed
+pub mod Without
 pub mod Words

@@ -5,6 +5,7 @@ use mathlib.Core.Path.{_≡_}
 use Prim.Native.Nat.{ℕ, zero, suc, _+_, _*_, _-_, _/_, _%_}
 use mathlib.Core.Bool.{Bool, true, false, cond, not, _&&_, _||_}
 use mathlib.Core.List.{List, [], _∷_, _++_}
+use mathlib.Core.Logic.{_≢_}
 use lib.Dec.{leb, ltb, eqb}
 use lib.ListN.{length, getD, take, drop}
 use Rattle.deck.specs.Parts.{deckLineWidth, linesOf, lineOf, fieldIn, leading}
@@ -38,6 +39,11 @@ first (c ∷ cs) = cond (c .holds) (Stopped (c .number) (c .line) (c .field)) (f
 abbrev pub NoneHolds : List Condition → Type 0
 NoneHolds [] = Unit {0}
 NoneHolds (c ∷ cs) = (c .holds ≡ false) × NoneHolds cs
+
+-- none of them has this number
+abbrev pub Without : ℕ → List Condition → Type 0
+Without n [] = Unit {0}
+Without n (c ∷ cs) = (c .number ≢ n) × Without n cs
 
 -- f 1, f 2, .., f n
 unfoldable pub upTo : (ℕ → List Condition) → ℕ → List Condition

@@ -1,4 +1,4 @@
--- The crate's laws. `Promises` is what the crates above may count on. Assumes nothing.
+-- The crate's laws. `Promises` is what the crates above may count on, with `Refusals`. Assumes nothing.
 pub mod Figures
 mod Exponents
 mod Powers
@@ -11,6 +11,7 @@ mod Alignment
 mod Sums
 mod Counts
 pub mod Providing
+pub mod Refusals
 mod Ordered
 mod Fractions
 mod Nearest

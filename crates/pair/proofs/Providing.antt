@@ -35,7 +35,7 @@ pub passed : {r d : Bool} → r ≡ d → not r ≡ false → d ≡ true
 passed {r} e h = sym e ∙ not-false r h
 
 -- what an answered call tells of its condition, and what its condition tells
-never : {A B : Type 0} {n : ℕ} {a : A} → _≡_ {A = Outcome A} (refused n) (is a) → B
+pub never : {A B : Type 0} {n : ℕ} {a : A} → _≡_ {A = Outcome A} (refused n) (is a) → B
 never e = let z : _≡_ {A = ℕ} 0 1 = cc in absurd (omega arith)
 
 pub provided-is : {A : Type 0} (t : Bool) (x : Outcome A) (r : A) → provided t x ≡ is r → (t ≡ true) × (x ≡ is r)
