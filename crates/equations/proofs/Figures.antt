@@ -1,19 +1,21 @@
 -- Document 01's checked figure x = 0: φ and g are 1; and P4's: ψ and h are 1/2. Assumes nothing.
-use mathlib.Core.Path.{_≡_, _∙_, ap, ap₂}
+use mathlib.Core.Path.{_≡_, refl, _∙_, ap, ap₂}
 use mathlib.Core.Bool.{true}
 use Prim.Native.Nat.{ℕ, zero, suc, _+_, _≤_}
 use native.Mathlib.Omega.{arith}
 use lib.Dec.{lit≤, lit<}
 use lib.IntN.{pos, negsuc}
 use Rattle.pair.specs.declared.Pair.{Pair}
-use Rattle.pair.specs.Number.{isPair}
-use Rattle.pair.specs.Calls.{Outcome, is, after, afterOne, zeroPair, onePair, entry, sum, product, quotient}
+use Rattle.pair.specs.Number as numbers
+use Rattle.pair.specs.Number.{nineFigures, inReach, zeroExponent, isZero, isNumber, isPair, lesser, rise, unitsAt, lower, atMost}
+use Rattle.pair.specs.Calls.{Outcome, is, provided, after, afterOne, zeroPair, onePair, entry, sum, product, quotient, compared}
 use Rattle.pair.proofs.Promises.{zero-pair, one-pair, one-entry, entry-answered, entry-around, entry-above, around-pair, scaled-proper, sum-zero, product-zero, zero-product, zero-quotient, quotient-one, entry-written}
 use Rattle.equations.specs.Formula.{Series, phi, psi, read, pairs}
 use Rattle.equations.specs.Series.{first, step, terms, fromZero, pairSeries}
-use Rattle.equations.specs.Page.{x, x′, gAt, g, h}
-use Rattle.equations.specs.Readings.{Inputs, Summed, letters, plainWith, plain, summedAt, asAnswers, worked}
-use Rattle.equations.proofs.Plain.{x-plain}
+use Rattle.equations.specs.Letters.{g, h}
+use Rattle.equations.specs.Page.{x, Pace, Slow, Growth, gWith, growth}
+use Rattle.equations.specs.Ranges.{sixtyFour}
+use Rattle.equations.specs.Readings.{Inputs, letters, plain, exponents, grownAt, asAnswers, paceIf, paceOf, pacesOf, pairGrowing, worked}
 
 -- a whole number, by which may be divided
 record Whole (m : ℕ) : Type 0 where
@@ -92,21 +94,25 @@ unfolding after
 half-over = rw (one-entry, zero-product onePair (one-pair .0), sum-zero onePair (one-pair .0)) (quotient-one (firstPair psi) (first-is psi .1))
 
 -- g at x = 0 is 1, and h is 1/2.
+slow-at-zero : paceOf (is zeroPair) ≡ Slow
+unfolding paceOf paceIf compared provided isNumber isZero zeroExponent inReach atMost unitsAt lower lesser rise nineFigures numbers.zero zeroPair sixtyFour
+slow-at-zero = refl
+
+growth-at-zero : growth pairGrowing Slow (is zeroPair) ≡ record { g = is onePair; h = is (firstPair psi) }
+unfolding growth gWith pairGrowing pairs firstPair
+growth-at-zero = rw (series-at-zero phi, series-at-zero psi) (ap₂ (λ (a b : Outcome Pair). record { g = a; h = b }) one-over half-over)
+
 module _ (env : Inputs Pair) (zero-x : plain pairs (asAnswers env .value) x ≡ is zeroPair) where
-  sums : Summed (Outcome Pair)
-  sums = summedAt pairSeries (plain pairs (asAnswers env .value) x) (plainWith pairs (asAnswers env .value) (asAnswers env .later) x′)
-
-  series-is : (s : Series) → sums .at-x s ≡ is (firstPair s)
-  unfolding sums summedAt
-  series-is s = ap (pairSeries s) zero-x ∙ series-at-zero s
-
-  x-is : read pairs (letters (asAnswers env) sums) x ≡ is zeroPair
-  x-is = x-plain pairs (asAnswers env) sums ∙ zero-x
+  grown-is : growth pairGrowing (pacesOf env .at-x) (plain pairs (asAnswers env .value) x) ≡ record { g = is onePair; h = is (firstPair psi) }
+  unfolding pacesOf exponents
+  grown-is =
+      ap (λ (o : Outcome Pair). growth pairGrowing (paceOf o) o) zero-x
+      ∙ ap (λ (p : Pace). growth pairGrowing p (is zeroPair)) slow-at-zero ∙ growth-at-zero
 
   pub g-at-zero : worked env g ≡ is onePair
-  unfolding worked read pairs letters g gAt sums summedAt firstPair
-  g-at-zero = rw (x-is, series-is phi) one-over
+  unfolding worked read letters grownAt exponents
+  g-at-zero = ap (λ (v : Growth (Outcome Pair)). v .g) grown-is
 
   pub h-at-zero : worked env h ≡ is (firstPair psi)
-  unfolding worked read pairs letters h sums summedAt firstPair
-  h-at-zero = rw (x-is, series-is phi, series-is psi) half-over
+  unfolding worked read letters grownAt exponents
+  h-at-zero = ap (λ (v : Growth (Outcome Pair)). v .h) grown-is

@@ -1,5 +1,5 @@
 -- The crate's laws: every formula's pair reading is answered, holds the exact reading and is narrow. `LineLaws` is what the crates above
--- may count on, with `Profile`, by which inputs are judged, `Limits`, `Plain`, `Rising` and `Tail`'s `term-is`. Assumes nothing.
+-- may count on, with `Profile`, by which inputs are judged, `Limits`, `Plain`, `Rising`, `Refusals` and `Tail`'s `term-is`. Assumes nothing.
 pub mod Nearness
 pub mod Profile
 mod FormulaLaws
@@ -8,9 +8,13 @@ pub mod Tail
 mod Sharper
 mod SeriesTerms
 mod SeriesLaws
+pub mod Refusals
 pub mod EarlyStop
-pub mod LineLaws
 pub mod Limits
+mod Large
+mod FastLaws
+mod GrowthLaws
+pub mod LineLaws
 pub mod Rising
 pub mod Figures
 pub mod ValueLaws

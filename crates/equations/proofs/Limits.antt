@@ -34,3 +34,6 @@ at-most-whole n r few h w =
       λ l. through p (through (value-proper (r .high)) l e) (scaled-whole n .0),
       λ l. through p (through (record { above-zero = lit< tt }) l (scaled-whole n .1)) (a .1 .high),
     )
+
+pub at-least-whole : (n : ℕ) (r : Pair) → n ≤ 999999999 → entry n (pos 0) ≡ is r → whole n ≤ᶠ value (r .high)
+at-least-whole n r few h = through (scaled-proper n (pos 0)) (scaled-whole n .1) (entry-exact n (pos 0) r few h .1 .high)

@@ -30,6 +30,10 @@ pub record Profile : Type 0 where
   pub positive : Bool
   pub answered : Bool
 
+-- an answered pair of this size and width
+abbrev pub answeredAs : ℕ → ℕ → Bool → Profile
+answeredAs size width positive = record { size = size; width = width; positive = positive; answered = true }
+
 -- the constant m × 10^e, of at most nine digits
 unfoldable pub ofNumber : ℕ → ℤ → Profile
 ofNumber m e =
@@ -130,7 +134,7 @@ near-ends products w q h = h
 near-ends quotients w q h = h
 
 -- Rounding both ends costs two parts.
-two-more : {w : ℕ} {x y u v : Fraction} → Proper x → Proper y → Near 1 u x → Near w x y → Near 1 y v → Near (w + 2) u v
+pub two-more : {w : ℕ} {x y u v : Fraction} → Proper x → Proper y → Near 1 u x → Near w x y → Near 1 y v → Near (w + 2) u v
 two-more {w} {u} {v} p q a b c = rw (ends w) at (near-through p a (near-through q b c))
   where
     ends : (n : ℕ) → 1 + (n + 1) ≡ n + 2
@@ -205,7 +209,7 @@ place-down : (n : ℕ) → n ≤ 99000 → place (negsuc n) + (1 + n) ≡ depth
 unfolding depth place
 place-down n h = omega arith
 
-down-is : (n : ℕ) → n ≤ 99000 → 10 ^ place (negsuc n) * (10 * 10 ^ n) ≡ 10 ^ depth
+pub down-is : (n : ℕ) → n ≤ 99000 → 10 ^ place (negsuc n) * (10 * 10 ^ n) ≡ 10 ^ depth
 down-is n h = rw (← (pow-add 10 1 n), ← (pow-add 10 (place (negsuc n)) (1 + n)), place-down n h)
 
 number-size : (m : ℕ) (e : ℤ) → m ≤ 999999999 → mag e ≤ 99000 → Sized (10 + mag e) (scaled m e)

@@ -18,11 +18,10 @@ use Rattle.equations.specs.declared.Effect.the-variants.{Hazard, Cancer}
 use Rattle.equations.specs.declared.Stay.{Stay}
 use Rattle.equations.specs.declared.Stay.the-variants.{Within, Beyond}
 use Rattle.slots.specs.Slots.{Slot, same}
-use Rattle.equations.specs.Formula.{Series, phi, Letter, slot, rest, later, series, phi′, Formula, letter, constant, _⊕_, _⊗_, _⊘_, read, pairs}
-use Rattle.equations.specs.Series.{pairSeries}
+use Rattle.equations.specs.Formula.{Letter, slot, rest, later, g-at-x, h-at-x, g-at-x′, Formula, letter, constant, _⊕_, _⊗_, _⊘_, read, pairs}
 use Rattle.equations.specs.Page as page
-use Rattle.equations.specs.Page.{x, x′}
-use Rattle.equations.specs.Readings.{Inputs, Summed, letters, noSeries, plainWith, plain, summedAt, asAnswers, worked}
+use Rattle.equations.specs.Page.{Growth, x, x′}
+use Rattle.equations.specs.Readings.{Inputs, AtBoth, letters, noGrowth, plainWith, plain, exponents, grownAt, asAnswers, paceOf, pacesOf, pairGrowing, worked}
 use Rattle.equations.proofs.Profile.{both}
 use Rattle.equations.proofs.Plain.{x-plain, x′-plain}
 
@@ -34,13 +33,14 @@ steady mark (f ⊕ g) = steady mark f && steady mark g
 steady mark (f ⊗ g) = steady mark f && steady mark g
 steady mark (f ⊘ g) = steady mark f && steady mark g
 
--- none stands in a divisor, in a difference or in a series
+-- none stands in a divisor, in a difference, in g or in h
 unfoldable pub risingLetter : (Letter → Bool) → Letter → Bool
 risingLetter mark (slot s) = true
 risingLetter mark (rest s) = not (mark (rest s))
 risingLetter mark later = not (mark later)
-risingLetter mark (series s) = not (mark (series s))
-risingLetter mark phi′ = not (mark phi′)
+risingLetter mark g-at-x = not (mark g-at-x)
+risingLetter mark h-at-x = not (mark h-at-x)
+risingLetter mark g-at-x′ = not (mark g-at-x′)
 
 unfoldable pub rising : (Letter → Bool) → Formula → Bool
 rising mark (letter l) = risingLetter mark l
@@ -108,9 +108,10 @@ module _ (mark : Letter → Bool) (env env' : Letter → Outcome Pair) (alike : 
       (formula-rises f (t .0) (c .first) (d .first) (c .first-is) (d .first-is))
       (rw e (ends-itself (c .second)))
 
--- marked slots, and with them 1 less their values; neither T2 − tD nor a series
+-- marked slots, and with them 1 less their values; neither T2 − tD nor g or h
 unfoldable pub marked : (Slot → Bool) → Letter → Bool
-marked mark = letters (record { value = mark; rest = mark; later = false }) (record { at-x = λ s. false; at-x′ = false })
+marked mark =
+    letters (record { value = mark; rest = mark; later = false }) (record { at-x = record { g = false; h = false }; at-x′ = record { g = false; h = false } })
 
 -- the inputs are alike but for the marked slots
 pub record Alike (mark : Slot → Bool) (env env' : Inputs Pair) : Type 0 where
@@ -118,22 +119,18 @@ pub record Alike (mark : Slot → Bool) (env env' : Inputs Pair) : Type 0 where
   pub rest : (s : Slot) → mark s ≡ false → env .rest s ≡ env' .rest s
   pub later : env .later ≡ env' .later
 
--- the series' values are the same
-record SameSums (o o' : Summed (Outcome Pair)) : Type 0 where
-  at-x : (s : Series) → o .at-x s ≡ o' .at-x s
-  at-x′ : o .at-x′ ≡ o' .at-x′
-
 -- Where the marked slots stand neither in x nor in x′, a formula rises with them as it is worked.
 module _ (mark : Slot → Bool) (free : (steady (marked mark) x ≡ true) × (steady (marked mark) x′ ≡ true)) (env env' : Inputs Pair) (alike : Alike mark env env') (risen : (s : Slot) → _≤ₑ_ (env .value s) (env' .value s)) where
-  letter-same : (o o' : Summed (Outcome Pair)) → SameSums o o' → (l : Letter) → marked mark l ≡ false → letters (asAnswers env) o l ≡ letters (asAnswers env') o' l
+  letter-same : (o o' : AtBoth (Growth (Outcome Pair))) → o ≡ o' → (l : Letter) → marked mark l ≡ false → letters (asAnswers env) o l ≡ letters (asAnswers env') o' l
   unfolding letters marked asAnswers
   letter-same o o' e (slot s) h = ap (λ (p : Pair). is p) (alike .value s h)
   letter-same o o' e (rest s) h = ap (λ (p : Pair). is p) (alike .rest s h)
   letter-same o o' e later h = ap (λ (p : Pair). is p) (alike .later)
-  letter-same o o' e (series s) h = e .at-x s
-  letter-same o o' e phi′ h = e .at-x′
+  letter-same o o' e g-at-x h = ap (λ (v : AtBoth (Growth (Outcome Pair))). v .at-x .g) e
+  letter-same o o' e h-at-x h = ap (λ (v : AtBoth (Growth (Outcome Pair))). v .at-x .h) e
+  letter-same o o' e g-at-x′ h = ap (λ (v : AtBoth (Growth (Outcome Pair))). v .at-x′ .g) e
 
-  letter-risen : (o o' : Summed (Outcome Pair)) → SameSums o o' → (l : Letter) → risingLetter (marked mark) l ≡ true → (p p' : Pair) → letters (asAnswers env) o l ≡ is p → letters (asAnswers env') o' l ≡ is p' → _≤ₑ_ p p'
+  letter-risen : (o o' : AtBoth (Growth (Outcome Pair))) → o ≡ o' → (l : Letter) → risingLetter (marked mark) l ≡ true → (p p' : Pair) → letters (asAnswers env) o l ≡ is p → letters (asAnswers env') o' l ≡ is p' → _≤ₑ_ p p'
   unfolding letters marked asAnswers risingLetter
   letter-risen o o' e (slot s) t p p' h h' =
       let i : env .value s ≡ p = cc in
@@ -142,26 +139,31 @@ module _ (mark : Slot → Bool) (free : (steady (marked mark) x ≡ true) × (st
   letter-risen o o' e (rest s) t p p' h h' =
       rw (same-pair p p' (sym (ap (λ (q : Pair). is q) (alike .rest s (not-true (mark s) t))) ∙ h) h') (ends-itself p')
   letter-risen o o' e later t p p' h h' = rw (same-pair p p' (sym (ap (λ (q : Pair). is q) (alike .later)) ∙ h) h') (ends-itself p')
-  letter-risen o o' e (series s) t p p' h h' = rw (same-pair p p' (sym (e .at-x s) ∙ h) h') (ends-itself p')
-  letter-risen o o' e phi′ t p p' h h' = rw (same-pair p p' (sym (e .at-x′) ∙ h) h') (ends-itself p')
+  letter-risen o o' e g-at-x t p p' h h' = rw (same-pair p p' (sym (ap (λ (v : AtBoth (Growth (Outcome Pair))). v .at-x .g) e) ∙ h) h') (ends-itself p')
+  letter-risen o o' e h-at-x t p p' h h' = rw (same-pair p p' (sym (ap (λ (v : AtBoth (Growth (Outcome Pair))). v .at-x .h) e) ∙ h) h') (ends-itself p')
+  letter-risen o o' e g-at-x′ t p p' h h' = rw (same-pair p p' (sym (ap (λ (v : AtBoth (Growth (Outcome Pair))). v .at-x′ .g) e) ∙ h) h') (ends-itself p')
 
-  same-plain : (f : Formula) → steady (marked mark) f ≡ true → read pairs (letters (asAnswers env) (noSeries pairs)) f ≡ read pairs (letters (asAnswers env') (noSeries pairs)) f
+  same-plain : (f : Formula) → steady (marked mark) f ≡ true → read pairs (letters (asAnswers env) (noGrowth pairs)) f ≡ read pairs (letters (asAnswers env') (noGrowth pairs)) f
   same-plain f h =
-      let e : SameSums (noSeries pairs) (noSeries pairs) = record { at-x = λ s. refl; at-x′ = refl } in
-      steady-same (marked mark) (letters (asAnswers env) (noSeries pairs)) (letters (asAnswers env') (noSeries pairs)) (letter-same (noSeries pairs) (noSeries pairs) e) (letter-risen (noSeries pairs) (noSeries pairs) e) f h
+      steady-same (marked mark) (letters (asAnswers env) (noGrowth pairs)) (letters (asAnswers env') (noGrowth pairs)) (letter-same (noGrowth pairs) (noGrowth pairs) refl) (letter-risen (noGrowth pairs) (noGrowth pairs) refl) f h
 
   x-same : plain pairs (asAnswers env .value) x ≡ plain pairs (asAnswers env' .value) x
-  x-same = sym (x-plain pairs (asAnswers env) (noSeries pairs)) ∙ same-plain x (free .0) ∙ x-plain pairs (asAnswers env') (noSeries pairs)
+  x-same = sym (x-plain pairs (asAnswers env) (noGrowth pairs)) ∙ same-plain x (free .0) ∙ x-plain pairs (asAnswers env') (noGrowth pairs)
 
   x′-same : plainWith pairs (asAnswers env .value) (asAnswers env .later) x′ ≡ plainWith pairs (asAnswers env' .value) (asAnswers env' .later) x′
-  x′-same = sym (x′-plain pairs (asAnswers env) (noSeries pairs)) ∙ same-plain x′ (free .1) ∙ x′-plain pairs (asAnswers env') (noSeries pairs)
+  x′-same = sym (x′-plain pairs (asAnswers env) (noGrowth pairs)) ∙ same-plain x′ (free .1) ∙ x′-plain pairs (asAnswers env') (noGrowth pairs)
+
+  exponents-same : exponents pairs (asAnswers env) ≡ exponents pairs (asAnswers env')
+  unfolding exponents
+  exponents-same = ap₂ (λ (a b : Outcome Pair). record { at-x = a; at-x′ = b }) x-same x′-same
 
   pub worked-rises : (f : Formula) → rising (marked mark) f ≡ true → (r r' : Pair) → worked env f ≡ is r → worked env' f ≡ is r' → _≤ₑ_ r r'
-  unfolding worked summedAt
+  unfolding worked pacesOf
   worked-rises f h r r' a b =
-      let o : Summed (Outcome Pair) = summedAt pairSeries (plain pairs (asAnswers env .value) x) (plainWith pairs (asAnswers env .value) (asAnswers env .later) x′) in
-      let o' : Summed (Outcome Pair) = summedAt pairSeries (plain pairs (asAnswers env' .value) x) (plainWith pairs (asAnswers env' .value) (asAnswers env' .later) x′) in
-      let e : SameSums o o' = record { at-x = λ s. ap (pairSeries s) x-same; at-x′ = ap (pairSeries phi) x′-same } in
+      let grown : AtBoth (Outcome Pair) → AtBoth (Growth (Outcome Pair)) = λ e. grownAt pairGrowing (record { at-x = paceOf (e .at-x); at-x′ = paceOf (e .at-x′) }) e in
+      let o : AtBoth (Growth (Outcome Pair)) = grown (exponents pairs (asAnswers env)) in
+      let o' : AtBoth (Growth (Outcome Pair)) = grown (exponents pairs (asAnswers env')) in
+      let e : o ≡ o' = ap grown exponents-same in
       formula-rises (marked mark) (letters (asAnswers env) o) (letters (asAnswers env') o') (letter-same o o' e) (letter-risen o o' e) f h r r' a b
 
 -- The emission rate Q
@@ -173,7 +175,7 @@ unfolding steady marked letters emission same x x′ page.k page.u page.kse page
 x-steady = (refl, refl)
 
 line-rising : (e : Effect) (stay : Stay) (p : Pathway) → rising (marked emission) (page.line e stay p) ≡ true
-unfolding rising risingLetter steady marked letters emission same page.line page.figureBy page.intake page.intakeBy page.factor page.medium page.byMedium page.soil page.mean page.gathered page.exposure page.B page.AT page.reference page.referenceSlot page.byRoute page.A page.C page.D page.gAt page.g page.g′ page.h page.aboveGround page.belowGround x x′ page.k page.u page.kse page.ksr page.ksl
+unfolding rising risingLetter steady marked letters emission same page.line page.figureBy page.intake page.intakeBy page.factor page.medium page.byMedium page.soil page.mean page.gathered page.exposure page.B page.AT page.reference page.referenceSlot page.byRoute page.A page.C page.D page.aboveGround page.belowGround x x′ page.k page.u page.kse page.ksr page.ksl
 line-rising Hazard Within Air = refl
 line-rising Hazard Within SoilSummer = refl
 line-rising Hazard Within SoilWinter = refl

@@ -36,32 +36,32 @@ seriesProfile s P =
       answered = t .total .answered && (leb (joint sums (t .total .size) (t .term .size)) 99991 && leb (parts * 255) 99000);
     }
 
-zero-num : value numbers.zero .num ≡ 0
+pub zero-num : value numbers.zero .num ≡ 0
 unfolding value numbers.zero
 zero-num = omega arith
 
-zero-below : (x : Fraction) → value numbers.zero ≤ᶠ x
+pub zero-below : (x : Fraction) → value numbers.zero ≤ᶠ x
 zero-below x = record { across = rw zero-num (omega arith) }
 
 -- from 0 to the high end of p
-above-zero : Pair → Pair
+unfoldable pub above-zero : Pair → Pair
 above-zero p = record { low = numbers.zero; high = p .high }
 
-above-zero-pair : (p : Pair) → isPair p ≡ true → isPair (above-zero p) ≡ true
+pub above-zero-pair : (p : Pair) → isPair p ≡ true → isPair (above-zero p) ≡ true
 unfolding above-zero zeroPair
 above-zero-pair p h =
     pair-from (above-zero p) (record { low = ordered zeroPair (zero-pair .0) .low; high = ordered p h .high; rising = zero-below (value (p .high)) })
 
-above-zero-within : (k : ℕ) (p : Pair) → Within k p → Within k (above-zero p)
+pub above-zero-within : (k : ℕ) (p : Pair) → Within k p → Within k (above-zero p)
 unfolding above-zero
 above-zero-within k p h = record { low = record { sized = inl zero-num }; high = h .high }
 
-above-zero-holds : (p : Pair) {x y : Fraction} → Holds p x → Proper y → y ≤ᶠ x → Holds (above-zero p) y
+pub above-zero-holds : (p : Pair) {x y : Fraction} → Holds p x → Proper y → y ≤ᶠ x → Holds (above-zero p) y
 unfolding above-zero
 above-zero-holds p {x} {y} h q l = record { proper = q; low = zero-below y; high = through (h .proper) l (h .high) }
 
 -- what is so near that it does not double
-near-half : (w : ℕ) (x y : Fraction) → w ≤ 99000 → Near w x y → x .num * y .den ≤ 2 * y .num * x .den
+pub near-half : (w : ℕ) (x y : Fraction) → w ≤ 99000 → Near w x y → x .num * y .den ≤ 2 * y .num * x .den
 near-half w x y few h = half (100000000 ^ w) (100000001 ^ w) (one-le-pow w 100000000 (lit< tt)) (not-double w few) (h .across)
   where
     half : (e m : ℕ) → 0 < e → m ≤ 2 * e → x .num * y .den * e ≤ y .num * x .den * m → x .num * y .den ≤ 2 * y .num * x .den
@@ -200,7 +200,7 @@ module _ (s : Series) (c j k : ℕ) (T t : Pair) (x : Fraction) (l : Last s c j 
     sum-fits : (told : Bool) → Fits (record { size = 500; width = 65 * c + 513; positive = true; answered = told }) r
     sum-fits told = record { pair = pair-again sums T (above-zero t) r h; within = sum-within .0; wide = sum-wide; positive = λ y. sum-within .1 }
 
-series-is : (s : Series) (x : Fraction) (N : ℕ) → 256 ≤ N → (k : ℕ) × (exactSeries s N x ≡ total s x (255 + k))
+pub series-is : (s : Series) (x : Fraction) (N : ℕ) → 256 ≤ N → (k : ℕ) × (exactSeries s N x ≡ total s x (255 + k))
 series-is s x N h = go (le-dest h)
   where
     next : (k : ℕ) → 256 + k ≡ suc (255 + k)
@@ -208,6 +208,9 @@ series-is s x N h = go (le-dest h)
 
     go : (k : ℕ) × (256 + k ≡ N) → (k : ℕ) × (exactSeries s N x ≡ total s x (255 + k))
     go (k, e) = (k, ap (λ (n : ℕ). exactSeries s n x) (sym e ∙ next k) ∙ (unfold exactSeries in refl))
+
+pub series-proper : (s : Series) {x : Fraction} → Proper x → (N : ℕ) → 256 ≤ N → 0 < exactSeries s N x .den
+series-proper s {x} p N h = let k = series-is s x N h in rw (k .1) (total-proper s p (255 + k .0) .above-zero)
 
 -- A series is answered, fits its profile and holds the exact series of every N from 256 up.
 pub series-good : (s : Series) (P : Profile) {o : Outcome Pair} {x : Fraction} (g : Good P o x) → value (g .answer .high) ≤ᶠ record { num = 64; den = 1 } →

@@ -19,6 +19,11 @@ unfoldable pub factorial : ℕ → ℕ
 factorial zero = 1
 factorial (suc n) = suc n * factorial n
 
+pub factorial-above : (n : ℕ) → 0 < factorial n
+unfolding factorial
+factorial-above zero = lit< tt
+factorial-above (suc n) = mul-pos {m = suc n} (omega arith) (factorial-above n)
+
 abbrev pub term : Series → Fraction → ℕ → Fraction
 term s x n = terms fractions s x n .term
 
@@ -168,11 +173,6 @@ module _ (s : Series) {x : Fraction} (p : Proper x) (h : x .num ≤ 64 * x .den)
       smaller a b a' b' f g m z i k =
           le-of-mul-le-mul-right {k = b} (omega (arith, mul-le-mul-right f i, mul-le-mul-right (64 * b') k)) z
 
-  factorial-above : (n : ℕ) → 0 < factorial n
-  unfolding factorial
-  factorial-above zero = lit< tt
-  factorial-above (suc n) = mul-pos {m = suc n} (omega arith) (factorial-above n)
-
   term-most : (n : ℕ) → term s x n .num ≤ 64 ^ n * term s x n .den
   term-most n = omega (arith, term-small n, mul-le-mul-right {m = 1} {n = factorial n} (term s x n .num) (factorial-above n))
 
@@ -196,6 +196,11 @@ module _ (s : Series) {x : Fraction} (p : Proper x) (h : x .num ≤ 64 * x .den)
     where
       half : (a b a' b' m : ℕ) → 128 ≤ m → m * a' * b ≤ 64 * a * b' → 2 * a' * b ≤ a * b'
       half a b a' b' m l i = omega (arith, i, mul-le-mul-right (a' * b) l)
+
+-- φ begins with 1.
+pub total-first : (x : Fraction) → 1 * total phi x 0 .den ≤ total phi x 0 .num
+unfolding terms first fractions scaled
+total-first x = rw place-zero (omega arith)
 
 -- The sums rise.
 pub total-rises : (s : Series) (x : Fraction) (n : ℕ) → total s x n ≤ᶠ total s x (suc n)

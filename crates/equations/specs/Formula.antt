@@ -12,13 +12,12 @@ use Rattle.slots.specs.Slots.{Slot}
 pub data Series : Type 0 where
   phi psi : Series
 
--- A letter stands for the value of a slot, for 1 less that value, for T2 − tD, for a series at x, or for φ at k × (T2 − tD).
+-- A letter stands for the value of a slot, for 1 less that value, for T2 − tD, for g and h at x, or for g at k × (T2 − tD).
 pub data Letter : Type 0 where
   slot : Slot → Letter
   rest : Slot → Letter
   later : Letter
-  series : Series → Letter
-  phi′ : Letter
+  g-at-x h-at-x g-at-x′ : Letter
 
 -- The written operations: ⊕, ⊗ and ⊘ are document 01's +, × and /.
 infixl 65 _⊕_
@@ -29,7 +28,7 @@ pub data Formula : Type 0 where
   constant : ℕ → ℤ → Formula
   _⊕_ _⊗_ _⊘_ : Formula → Formula → Formula
 
--- 1 less a slot's value, and T2 − tD: the only subtractions. Each is taken from what is printed, so it is a letter and no operation.
+-- 1 less a slot's value, and T2 − tD: the only subtractions in a formula. Each is taken from what is printed, so it is a letter and no operation.
 abbrev pub 1− : Slot → Formula
 1− s = letter (rest s)
 

@@ -1,5 +1,5 @@
 -- Document 01's letters, for the page of formulas: each stands for the slot of its own name in the table of slots.
-use Rattle.equations.specs.Formula.{Formula, letter, slot, series, phi, psi, phi′}
+use Rattle.equations.specs.Formula.{Formula, letter, slot, g-at-x, h-at-x, g-at-x′}
 
 -- Site
 abbrev pub Zs : Formula
@@ -157,13 +157,13 @@ EFp = letter (slot "EFp")
 abbrev pub T2 : Formula
 T2 = letter (slot "T2")
 
--- the series at x
-abbrev pub φ : Formula
-φ = letter (series phi)
+-- at x
+abbrev pub g : Formula
+g = letter g-at-x
 
-abbrev pub ψ : Formula
-ψ = letter (series psi)
+abbrev pub h : Formula
+h = letter h-at-x
 
--- φ at k × (T2 − tD)
-abbrev pub φ′ : Formula
-φ′ = letter phi′
+-- at k × (T2 − tD)
+abbrev pub g′ : Formula
+g′ = letter g-at-x′

@@ -1,4 +1,4 @@
--- Document 01, "Loss and series", "Media" and "Six pathways", with document 02's P4: every formula, once, in its order and with its letters.
+-- Document 01, "Loss and series", "Media" and "Six pathways", with document 02's P4 and P5: every formula, once, in its order and with its letters.
 -- ⊗ and ⊘ bind alike and from the left, then ⊕ from the left.
 use lib.IntN.{pos, negsuc}
 use Rattle.equations.specs.declared.Pathway.{Pathway}
@@ -8,8 +8,8 @@ use Rattle.equations.specs.declared.Effect.the-variants.{Hazard, Cancer}
 use Rattle.equations.specs.declared.Stay.{Stay}
 use Rattle.equations.specs.declared.Stay.the-variants.{Within, Beyond}
 use Rattle.slots.specs.Slots.{Slot}
-use Rattle.equations.specs.Formula.{Formula, letter, slot, constant, 1−, T2−tD, _⊕_, _⊗_, _⊘_}
-use Rattle.equations.specs.Letters.{Zs, BD, tD, θ, Xe, SD, ER, RO, R, VG, FRsnow, Q, HgA, HgD, Fv, Cyv, Cyp, Dydv, Dywv, Dydp, Dywp, Kds, ksg, ksv, Br, RCF, AFinh, AForal, AFderm, BW, ED, ATc, IRinh, ETinh, EFinh, IRsoil, ETsoil, EFs, EFw, SAb, SAFb, SAh, SAFh, ETderm, IRag, Fag, IRbg, Fbg, WP, EFp, T2, φ, ψ, φ′}
+use Rattle.equations.specs.Formula.{Series, phi, psi, Formula, Algebra, letter, slot, constant, 1−, T2−tD, _⊕_, _⊗_, _⊘_}
+use Rattle.equations.specs.Letters.{Zs, BD, tD, θ, Xe, SD, ER, RO, R, VG, FRsnow, Q, HgA, HgD, Fv, Cyv, Cyp, Dydv, Dywv, Dydp, Dywp, Kds, ksg, ksv, Br, RCF, AFinh, AForal, AFderm, BW, ED, ATc, IRinh, ETinh, EFinh, IRsoil, ETsoil, EFs, EFw, SAb, SAFb, SAh, SAFh, ETderm, IRag, Fag, IRbg, Fbg, WP, EFp, T2, g, h, g′}
 
 -- Constants: 1, 0.1, 100, 1000, 365 and 0.000001
 abbrev pub unity : Formula
@@ -53,22 +53,40 @@ k = ksg ⊕ kse ⊕ ksr ⊕ ksl ⊕ ksv
 unfoldable pub x : Formula
 x = k ⊗ tD
 
--- φ and ψ are the series at x (Series.antt)
-unfoldable pub gAt : Formula → Formula → Formula
-gAt series exponent = unity ⊘ (unity ⊘ series ⊕ exponent)
-
-unfoldable pub g : Formula
-g = gAt φ x
-
-unfoldable pub h : Formula
-h = ψ ⊘ (unity ⊕ x ⊗ φ)
-
--- k × (T2 − tD), and g at it; φ′ is the series φ there
+-- k × (T2 − tD)
 unfoldable pub x′ : Formula
 x′ = k ⊗ T2−tD
 
-unfoldable pub g′ : Formula
-g′ = gAt φ′ x′
+-- g and h at an exponent x, which is k × tD or k × (T2 − tD), in any reading. φ and ψ are the series there (Series.antt). Where the high end of x
+-- is above 64 (P5) the chemical is lost fast: then 1 / φ is next to nothing and h is (1 − g) / x.
+pub data Pace : Type 0 where
+  Slow Fast : Pace
+
+pub record Growth (A : Type 0) : Type 0 where
+  pub g : A
+  pub h : A
+
+-- what a reading makes of the operations, of the series at x, of 1 / φ where the loss is fast, and of 1 − f
+pub record Growing (A : Type 0) : Type 1 where
+  pub operations : Algebra A
+  pub series : Series → A → A
+  pub fast : A → A
+  pub rest : A → A
+
+unfoldable pub gWith : {A : Type 0} → Algebra A → A → A → A
+gWith alg 1/φ x = alg .over (alg .number 1 (pos 0)) (alg .plus 1/φ x)
+
+unfoldable pub growth : {A : Type 0} → Growing A → Pace → A → Growth A
+growth {A} r Slow x =
+    let alg : Algebra A = r .operations in
+    let one : A = alg .number 1 (pos 0) in
+    let φ : A = r .series phi x in
+    let ψ : A = r .series psi x in
+    record { g = gWith alg (alg .over one φ) x; h = alg .over ψ (alg .plus one (alg .times x φ)) }
+growth {A} r Fast x =
+    let alg : Algebra A = r .operations in
+    let g : A = gWith alg (r .fast x) x in
+    record { g = g; h = alg .over (r .rest g) x }
 
 -- Media: air in mg/m³, yearly deposition, soil and produce in mg/kg
 unfoldable pub A : Formula

@@ -1,5 +1,7 @@
--- The two readings of the page: on pairs by the working rule, and on exact fractions with N terms of each series. In each, φ and ψ are the
--- series at x, which is read from the slots alone, and φ′ is φ at x′, which is read from the slots and T2 − tD.
+-- The two readings of the page: on pairs by the working rule, and on exact fractions with N terms of each series. In each, g and h are those at x,
+-- which is read from the slots alone, and g′ is g at x′, which is read from the slots and T2 − tD. Whether the loss is fast at x or x′ is the
+-- pairs' choice, in both readings.
+use mathlib.Core.Bool.{Bool, true, false}
 use Prim.Native.Nat.{ℕ}
 use lib.IntN.{pos}
 use lib.ListN.{getD}
@@ -7,14 +9,15 @@ use mathlib.Core.List.{[]}
 use Rattle.pair.specs.declared.Pair.{Pair}
 use Rattle.pair.specs.Fraction as exact
 use Rattle.pair.specs.Fraction.{Fraction}
-use Rattle.pair.specs.Calls.{Outcome, is, onePair}
+use Rattle.pair.specs.Calls.{Outcome, is, refused, afterOne, oneMinus, compared, onePair}
 use Rattle.slots.specs.Slots.{Slot, ownerOf, placeOf}
 use Rattle.slots.specs.declared.Owner.{Owner}
 use Rattle.slots.specs.declared.Owner.the-variants.{Site, Chemical, Receptor}
 use Rattle.equations.specs.declared.Values.{Values}
-use Rattle.equations.specs.Formula.{Series, phi, Letter, slot, rest, later, series, phi′, Formula, Algebra, read, pairs, fractions}
+use Rattle.equations.specs.Formula.{phi, Letter, slot, rest, later, g-at-x, h-at-x, g-at-x′, Formula, Algebra, read, pairs, fractions}
 use Rattle.equations.specs.Series.{pairSeries, exactSeries}
-use Rattle.equations.specs.Page.{x, x′}
+use Rattle.equations.specs.Page.{x, x′, Pace, Slow, Fast, Growth, Growing, growth}
+use Rattle.equations.specs.Ranges.{sixtyFour, nextToNothing}
 
 -- What a formula is read from: each slot's value, 1 less it, and T2 − tD.
 pub record Inputs (A : Type 0) : Type 0 where
@@ -22,50 +25,79 @@ pub record Inputs (A : Type 0) : Type 0 where
   pub rest : Slot → A
   pub later : A
 
--- The series' values: φ and ψ at x, and φ at x′.
-pub record Summed (A : Type 0) : Type 0 where
-  pub at-x : Series → A
+-- what there is at x and at x′
+pub record AtBoth (A : Type 0) : Type 0 where
+  pub at-x : A
   pub at-x′ : A
 
--- the letters, from the slots and the series
-unfoldable pub letters : {A : Type 0} → Inputs A → Summed A → Letter → A
-letters env sums (slot s) = env .value s
-letters env sums (rest s) = env .rest s
-letters env sums later = env .later
-letters env sums (series s) = sums .at-x s
-letters env sums phi′ = sums .at-x′
+-- the letters, from the slots and from g and h
+unfoldable pub letters : {A : Type 0} → Inputs A → AtBoth (Growth A) → Letter → A
+letters env grown (slot s) = env .value s
+letters env grown (rest s) = env .rest s
+letters env grown later = env .later
+letters env grown g-at-x = grown .at-x .g
+letters env grown h-at-x = grown .at-x .h
+letters env grown g-at-x′ = grown .at-x′ .g
 
--- a formula with neither a series nor 1 −: from the slots and T2 − tD, and from the slots alone
-unfoldable pub noSeries : {A : Type 0} → Algebra A → Summed A
-noSeries alg = record { at-x = λ s. alg .number 1 (pos 0); at-x′ = alg .number 1 (pos 0) }
+-- a formula with neither g, h nor 1 −: from the slots and T2 − tD, and from the slots alone
+unfoldable pub noGrowth : {A : Type 0} → Algebra A → AtBoth (Growth A)
+noGrowth {A} alg =
+    let one : A = alg .number 1 (pos 0) in
+    record { at-x = record { g = one; h = one }; at-x′ = record { g = one; h = one } }
 
 unfoldable pub plainWith : {A : Type 0} → Algebra A → (Slot → A) → A → Formula → A
-plainWith alg env beyond f = read alg (letters (record { value = env; rest = λ s. alg .number 1 (pos 0); later = beyond }) (noSeries alg)) f
+plainWith alg env beyond f = read alg (letters (record { value = env; rest = λ s. alg .number 1 (pos 0); later = beyond }) (noGrowth alg)) f
 
 unfoldable pub plain : {A : Type 0} → Algebra A → (Slot → A) → Formula → A
 plain alg env f = plainWith alg env (alg .number 1 (pos 0)) f
 
--- the series at what a reading has for x and x′
-unfoldable pub summedAt : {A : Type 0} → (Series → A → A) → A → A → Summed A
-summedAt series′ at at′ = record { at-x = λ s. series′ s at; at-x′ = series′ phi at′ }
+-- x and x′, and g and h at each
+unfoldable pub exponents : {A : Type 0} → Algebra A → Inputs A → AtBoth A
+exponents alg env = record { at-x = plain alg (env .value) x; at-x′ = plainWith alg (env .value) (env .later) x′ }
+
+unfoldable pub grownAt : {A : Type 0} → Growing A → AtBoth Pace → AtBoth A → AtBoth (Growth A)
+grownAt r paces e = record { at-x = growth r (paces .at-x) (e .at-x); at-x′ = growth r (paces .at-x′) (e .at-x′) }
 
 -- on pairs
 unfoldable pub asAnswers : Inputs Pair → Inputs (Outcome Pair)
 asAnswers env = record { value = λ s. is (env .value s); rest = λ s. is (env .rest s); later = is (env .later) }
 
-unfoldable pub worked : Inputs Pair → Formula → Outcome Pair
-worked env f =
-    let answers : Inputs (Outcome Pair) = asAnswers env in
-    read pairs (letters answers (summedAt pairSeries (plain pairs (answers .value) x) (plainWith pairs (answers .value) (answers .later) x′))) f
+-- fast: the exponent's high end is above 64
+unfoldable pub paceIf : Outcome Bool → Pace
+paceIf (is true) = Slow
+paceIf (is false) = Fast
+paceIf (refused n) = Slow
 
--- on exact fractions, where the two differences are worked from the values
+unfoldable pub paceOf : Outcome Pair → Pace
+paceOf (is p) = paceIf (compared (p .high) sixtyFour)
+paceOf (refused n) = Slow
+
+unfoldable pub pacesOf : Inputs Pair → AtBoth Pace
+pacesOf env =
+    let e : AtBoth (Outcome Pair) = exponents pairs (asAnswers env) in
+    record { at-x = paceOf (e .at-x); at-x′ = paceOf (e .at-x′) }
+
+unfoldable pub pairGrowing : Growing (Outcome Pair)
+pairGrowing = record { operations = pairs; series = pairSeries; fast = λ x. is nextToNothing; rest = afterOne oneMinus }
+
+unfoldable pub worked : Inputs Pair → Formula → Outcome Pair
+worked env f = read pairs (letters (asAnswers env) (grownAt pairGrowing (pacesOf env) (exponents pairs (asAnswers env)))) f
+
+-- on exact fractions, where the two differences are worked from the values, and 1 / φ is what it is
 unfoldable pub exactInputs : (Slot → Fraction) → Inputs Fraction
 exactInputs env = record { value = env; rest = λ s. exact.rest (env s); later = exact.minus (env "T2") (env "tD") }
 
-unfoldable pub exactly : ℕ → (Slot → Fraction) → Formula → Fraction
-exactly N env f =
-    let values : Inputs Fraction = exactInputs env in
-    read fractions (letters values (summedAt (λ s. exactSeries s N) (plain fractions env x) (plainWith fractions env (values .later) x′))) f
+unfoldable pub exactGrowing : ℕ → Growing Fraction
+exactGrowing N =
+    record {
+      operations = fractions;
+      series = λ s. exactSeries s N;
+      fast = λ x. fractions .over (fractions .number 1 (pos 0)) (exactSeries phi N x);
+      rest = exact.rest;
+    }
+
+unfoldable pub exactly : ℕ → AtBoth Pace → (Slot → Fraction) → Formula → Fraction
+exactly N paces env f = read fractions (letters (exactInputs env) (grownAt (exactGrowing N) paces (exponents fractions (exactInputs env)))) f
 
 -- the value at a place of a record; a place that no slot has reads as 1, as a missing reference value does
 unfoldable pub valueIn : Values → ℕ → Pair
