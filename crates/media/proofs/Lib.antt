@@ -2,6 +2,7 @@
 mod Passing
 mod Moderate
 mod Sofar
+mod Growing
 mod Soils
 pub mod Means
 pub mod Figures

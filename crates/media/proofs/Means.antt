@@ -8,11 +8,11 @@ use Rattle.equations.specs.declared.Values.{Values}
 use Rattle.equations.specs.declared.Stay.{Stay}
 use Rattle.equations.specs.declared.Stay.the-variants.{Within, Beyond}
 use Rattle.equations.specs.Formula.{Formula, read, pairs}
-use Rattle.equations.specs.Page.{u, kse, ksr, ksl, k, x, x′, g, gAt, h, A, D, C, mean, gathered, aboveGround, belowGround}
-use Rattle.equations.specs.Readings.{Inputs, letters, plain, plainWith, summedAt, asAnswers, worked, inputs, byOwner, noValues}
+use Rattle.equations.specs.Page.{u, kse, ksr, ksl, k, x, x′, A, D, C, mean, gathered, aboveGround, belowGround}
+use Rattle.equations.specs.Readings.{Inputs, letters, plain, plainWith, exponents, grownAt, asAnswers, pacesOf, worked, inputs, byOwner, noValues}
 use Rattle.media.specs.declared.Media.{Media}
 use Rattle.media.specs.declared.Ground.{Ground}
-use Rattle.media.specs.Media.{mediaInputs, slow, exponentOf, four, mediaIn, given, mediaOf, groundFrom, groundOf, grownIn, soilBeyond, meanMedia}
+use Rattle.media.specs.Media.{mediaInputs, four, mediaIn, mediaOf, groundFrom, groundOf, grownIn, soilBeyond, meanMedia}
 use Rattle.media.proofs.Passing.{is-not-refused}
 use Rattle.media.proofs.Soils.{beyond-is, later-is, produce-is}
 
@@ -40,11 +40,6 @@ four-told (is a) (is c) (refused n) r m e = is-not-refused m n e
 four-told (is a) (refused n) f r m e = is-not-refused m n e
 four-told (refused n) c f r m e = is-not-refused m n e
 
-pub given-told : {A : Type 0} (o : Outcome Pair) (m : Outcome A) (y : A) → given o m ≡ is y → (p : Pair) × (o ≡ is p) × (m ≡ is y)
-unfolding given
-given-told (is p) m y e = (p, refl, e)
-given-told (refused n) m y e = is-not-refused y n e
-
 record Parts (l b : Outcome Pair) (m n : Outcome Media) (ground : Ground) : Type 0 where
   loss : l ≡ is (ground .loss)
   gathered : b ≡ is (ground .gathered)
@@ -59,11 +54,6 @@ parts-of (is l) (is b) (refused n) y ground e = is-not-refused ground n e
 parts-of (is l) (refused n) y z ground e = is-not-refused ground n e
 parts-of (refused n) w y z ground e = is-not-refused ground n e
 
--- the exponent on which condition 41 looks: x, and beyond the deposition x′
-unfoldable pub exponentFor : Stay → Formula
-exponentFor Within = x
-exponentFor Beyond = x′
-
 -- the values of a site, a chemical and a receptor, 1 less each, and T2 − tD
 module _ (s c r : Values) (rests : Slot → Pair) (later : Pair) where
   abbrev env : Inputs Pair
@@ -72,11 +62,7 @@ module _ (s c r : Values) (rests : Slot → Pair) (later : Pair) where
   abbrev full : Inputs Pair
   full = record { value = inputs s c r; rest = rests; later = later }
 
-  -- no slot of a receptor stands in x, air, the highest year's soil and the mean within the deposition
-  pub x-alike : exponentOf (env .value) ≡ slow (worked full x)
-  unfolding exponentOf mediaInputs worked plain plainWith asAnswers read letters inputs byOwner ownerOf placeOf table same isIn placeIn x k u kse ksr ksl
-  x-alike = refl
-
+  -- no slot of a receptor stands in k, air, the highest year's soil and the mean within the deposition
   k-alike : worked env k ≡ worked full k
   unfolding mediaInputs worked asAnswers read letters inputs byOwner ownerOf placeOf table same isIn placeIn k u kse ksr ksl
   k-alike = refl
@@ -86,15 +72,15 @@ module _ (s c r : Values) (rests : Slot → Pair) (later : Pair) where
   air-alike = refl
 
   highest-alike : worked env C ≡ worked full C
-  unfolding mediaInputs worked summedAt plain plainWith asAnswers read letters inputs byOwner ownerOf placeOf table same isIn placeIn C D g gAt x k u kse ksr ksl
+  unfolding mediaInputs worked grownAt exponents pacesOf plain plainWith asAnswers read letters inputs byOwner ownerOf placeOf table same isIn placeIn C D x k u kse ksr ksl
   highest-alike = refl
 
   within-alike : worked env (mean Within) ≡ worked full (mean Within)
-  unfolding mediaInputs worked summedAt plain plainWith asAnswers read letters inputs byOwner ownerOf placeOf table same isIn placeIn mean D h x k u kse ksr ksl
+  unfolding mediaInputs worked grownAt exponents pacesOf plain plainWith asAnswers read letters inputs byOwner ownerOf placeOf table same isIn placeIn mean D x k u kse ksr ksl
   within-alike = refl
 
   gathered-alike : worked env gathered ≡ worked full gathered
-  unfolding mediaInputs worked summedAt plain plainWith asAnswers read letters inputs byOwner ownerOf placeOf table same isIn placeIn gathered D h x k u kse ksr ksl
+  unfolding mediaInputs worked grownAt exponents pacesOf plain plainWith asAnswers read letters inputs byOwner ownerOf placeOf table same isIn placeIn gathered D x k u kse ksr ksl
   gathered-alike = refl
 
   media-alike : (soil : Formula) → worked env soil ≡ worked full soil → mediaIn env soil ≡ mediaIn full soil
@@ -102,23 +88,17 @@ module _ (s c r : Values) (rests : Slot → Pair) (later : Pair) where
   media-alike soil e = produce-is s c noValues (λ i. rests "Fv") _ soil ∙ ap₂ (grownIn s c) air-alike e ∙ sym (produce-is s c r rests later soil)
 
   -- the media call is the page's highest year
-  pub media-highest : mediaOf env ≡ given (slow (worked full x)) (mediaIn full C)
+  pub media-highest : mediaOf env ≡ mediaIn full C
   unfolding mediaOf
-  media-highest = ap₂ given x-alike (media-alike C highest-alike)
+  media-highest = media-alike C highest-alike
 
-  pub ground-page : groundOf env ≡ given (slow (worked full x)) (groundFrom (worked full k) (worked full gathered) (mediaIn full C) (mediaIn full (mean Within)))
+  pub ground-page : groundOf env ≡ groundFrom (worked full k) (worked full gathered) (mediaIn full C) (mediaIn full (mean Within))
   unfolding groundOf
-  ground-page = rw (x-alike, k-alike, gathered-alike, media-alike C highest-alike, media-alike (mean Within) within-alike) refl
+  ground-page = rw (k-alike, gathered-alike, media-alike C highest-alike, media-alike (mean Within) within-alike) refl
 
   module _ (ground : Ground) (laid : groundOf env ≡ is ground) where
-    passed : (p : Pair) × (slow (worked full x) ≡ is p) × (groundFrom (worked full k) (worked full gathered) (mediaIn full C) (mediaIn full (mean Within)) ≡ is ground)
-    passed = given-told (slow (worked full x)) (groundFrom (worked full k) (worked full gathered) (mediaIn full C) (mediaIn full (mean Within))) ground (sym ground-page ∙ laid)
-
     parts : Parts (worked full k) (worked full gathered) (mediaIn full C) (mediaIn full (mean Within)) ground
-    parts = parts-of (worked full k) (worked full gathered) (mediaIn full C) (mediaIn full (mean Within)) ground (passed .2)
-
-    pub slow-enough : (p : Pair) × (slow (worked full x) ≡ is p)
-    slow-enough = (passed .0, passed .1)
+    parts = parts-of (worked full k) (worked full gathered) (mediaIn full C) (mediaIn full (mean Within)) ground (sym ground-page ∙ laid)
 
     pub ground-highest : mediaIn full C ≡ is (ground .highest)
     ground-highest = parts .highest
@@ -141,7 +121,7 @@ module _ (s c r : Values) (rests : Slot → Pair) (later : Pair) where
     grown-told : grownIn s c (is (ground .highest .air .0)) (soilBeyond ground (product (ground .loss) later) (full .value "T2") later) ≡ mediaIn full (mean Beyond)
     grown-told = ap₂ (grownIn s c) (sym (highest-told .air)) soil-told ∙ sym (produce-is s c r rests later (mean Beyond))
 
-    pub mean-media : (stay : Stay) → meanMedia ground s c stay (full .value "T2") later ≡ given (slow (worked full (exponentFor stay))) (mediaIn full (mean stay))
-    unfolding meanMedia exponentFor given
-    mean-media Within = rw (passed .1) (sym (parts .within))
-    mean-media Beyond = rw (x′-told) (ap (given (slow (product (ground .loss) later))) grown-told)
+    pub mean-media : (stay : Stay) → meanMedia ground s c stay (full .value "T2") later ≡ mediaIn full (mean stay)
+    unfolding meanMedia
+    mean-media Within = sym (parts .within)
+    mean-media Beyond = grown-told

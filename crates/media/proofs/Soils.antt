@@ -1,20 +1,14 @@
 -- The soils of the page and the media in them, one operation at a time. Assumes nothing.
 use mathlib.Core.Path.{_≡_, refl}
-use lib.IntN.{pos}
 use Rattle.pair.specs.declared.Pair.{Pair}
 use Rattle.pair.specs.Calls.{Outcome, is}
 use Rattle.slots.specs.Slots.{Slot, table, same, isIn, placeIn, ownerOf, placeOf}
 use Rattle.equations.specs.declared.Values.{Values}
 use Rattle.equations.specs.declared.Stay.the-variants.{Within, Beyond}
-use Rattle.equations.specs.Formula.{Formula, phi, psi, read, pairs}
-use Rattle.equations.specs.Series.{pairSeries}
-use Rattle.equations.specs.Page.{u, kse, ksr, ksl, k, x, x′, g, h, gAt, g′, A, D, C, mean, gathered, aboveGround, belowGround}
-use Rattle.equations.specs.Readings.{Inputs, letters, plain, plainWith, summedAt, asAnswers, worked, inputs, byOwner}
-use Rattle.media.specs.Media.{ofSlots, mediaIn, grownIn, gFor}
-
--- h at an exponent
-unfoldable pub hFor : Outcome Pair → Outcome Pair
-hFor e = pairs .over (pairSeries psi e) (pairs .plus (pairs .number 1 (pos 0)) (pairs .times e (pairSeries phi e)))
+use Rattle.equations.specs.Formula.{Formula, read, pairs}
+use Rattle.equations.specs.Page.{u, kse, ksr, ksl, k, x, x′, A, D, C, mean, gathered, aboveGround, belowGround}
+use Rattle.equations.specs.Readings.{Inputs, letters, plain, plainWith, exponents, grownAt, asAnswers, pacesOf, worked, inputs, byOwner}
+use Rattle.media.specs.Media.{ofSlots, growthAt, mediaIn, grownIn}
 
 module _ (env : Inputs Pair) where
   abbrev at-x : Outcome Pair
@@ -24,20 +18,20 @@ module _ (env : Inputs Pair) where
   abbrev laid : Outcome Pair
   laid = pairs .times (worked env D) (is (env .value "tD"))
 
-  pub highest-is : worked env C ≡ pairs .times laid (gFor at-x)
-  unfolding worked asAnswers read letters summedAt plain plainWith C g gAt gFor x k u kse ksr ksl
+  pub highest-is : worked env C ≡ pairs .times laid (growthAt at-x .g)
+  unfolding worked asAnswers read letters grownAt exponents pacesOf growthAt C
   highest-is = refl
 
-  pub within-is : worked env (mean Within) ≡ pairs .times laid (hFor at-x)
-  unfolding worked asAnswers read letters summedAt plain plainWith mean h hFor x k u kse ksr ksl
+  pub within-is : worked env (mean Within) ≡ pairs .times laid (growthAt at-x .h)
+  unfolding worked asAnswers read letters grownAt exponents pacesOf growthAt mean
   within-is = refl
 
-  pub gathered-is : worked env gathered ≡ pairs .times (pairs .times laid (is (env .value "tD"))) (hFor at-x)
-  unfolding worked asAnswers read letters summedAt plain plainWith gathered h hFor x k u kse ksr ksl
+  pub gathered-is : worked env gathered ≡ pairs .times (pairs .times laid (is (env .value "tD"))) (growthAt at-x .h)
+  unfolding worked asAnswers read letters grownAt exponents pacesOf growthAt gathered
   gathered-is = refl
 
-  pub beyond-is : worked env (mean Beyond) ≡ pairs .over (pairs .plus (worked env gathered) (pairs .times (pairs .times (worked env C) (is (env .later))) (gFor (worked env x′)))) (is (env .value "T2"))
-  unfolding worked asAnswers read letters summedAt plainWith mean g′ gAt gFor x′ k u kse ksr ksl
+  pub beyond-is : worked env (mean Beyond) ≡ pairs .over (pairs .plus (worked env gathered) (pairs .times (pairs .times (worked env C) (is (env .later))) (growthAt (worked env x′) .g))) (is (env .value "T2"))
+  unfolding worked asAnswers read letters grownAt exponents pacesOf growthAt plainWith mean x′ k u kse ksr ksl
   beyond-is = refl
 
   pub loss-is : worked env k ≡ plain pairs (λ i. is (env .value i)) k

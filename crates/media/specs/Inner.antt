@@ -1,12 +1,18 @@
 -- Definitions for inner functions alone.
 use mathlib.Core.Path.{_≡_}
-use mathlib.Core.Bool.{true}
+use mathlib.Core.Bool.{Bool, true, false}
 use mathlib.Core.Logic.{_⊎_}
 use lib.IntN.{negsuc}
 use Rattle.pair.specs.declared.Number.{Number}
 use Rattle.pair.specs.declared.Pair.{Pair}
 use Rattle.pair.specs.Number.{isPair}
 use Rattle.pair.specs.Calls.{is, compared}
+use Rattle.equations.specs.Page.{Pace, Slow, Fast}
+
+-- what a test for a fast loss tells
+unfoldable pub paced : Bool → Pace
+paced true = Fast
+paced false = Slow
 
 unfoldable pub least : Number
 least = record { significand = 100000000; exponent = negsuc 299 }

@@ -1,22 +1,16 @@
--- The media of document 01 by the working rule: x, refused by 41 where its high end is above 64, and the four concentrations; and those
--- that cancer takes (document 02, P4), whose soil is the mean over the exposure.
-use mathlib.Core.Bool.{Bool, true, false}
-use lib.IntN.{pos}
+-- The media of document 01 by the working rule: x, g and h there (document 02, P5), and the four concentrations; and those that cancer takes
+-- (P4), whose soil is the mean over the exposure. All that is refused is refused with 53.
 use Rattle.pair.specs.declared.Pair.{Pair}
-use Rattle.pair.specs.Calls.{Outcome, is, refused, compared, zeroPair, onePair, product}
+use Rattle.pair.specs.Calls.{Outcome, is, refused, zeroPair, onePair, product}
 use Rattle.slots.specs.Slots.{Slot}
 use Rattle.equations.specs.declared.Values.{Values}
 use Rattle.equations.specs.declared.Stay.{Stay}
 use Rattle.equations.specs.declared.Stay.the-variants.{Within, Beyond}
-use Rattle.equations.specs.Formula.{Formula, phi, pairs}
-use Rattle.equations.specs.Series.{pairSeries}
+use Rattle.equations.specs.Formula.{Formula, pairs}
 use Rattle.equations.specs.Letters.{Br, RCF, VG, Kds}
-use Rattle.equations.specs.Page.{k, x, A, C, mean, gathered, aboveGround, belowGround}
-use Rattle.equations.specs.Ranges.{sixtyFour}
-use Rattle.equations.specs.Readings.{Inputs, plain, worked, inputs, noValues}
+use Rattle.equations.specs.Page.{k, x, Growth, growth, A, C, mean, gathered, aboveGround, belowGround}
+use Rattle.equations.specs.Readings.{Inputs, plain, paceOf, pairGrowing, worked, inputs, noValues}
 use Rattle.media.specs.declared.Media.{Media}
-use Rattle.media.specs.declared.Bounded.{Bounded}
-use Rattle.media.specs.declared.Bounded.the-variants as Bounds
 use Rattle.media.specs.declared.Found.{Found}
 use Rattle.media.specs.declared.Found.the-variants as Founds
 use Rattle.media.specs.declared.Ground.{Ground}
@@ -28,7 +22,7 @@ use Rattle.media.specs.declared.Grounded.the-variants as Grounds
 unfoldable pub mediaInputs : Values → Values → Pair → Inputs Pair
 mediaInputs s c particles = record { value = inputs s c noValues; rest = λ i. particles; later = onePair }
 
--- a formula with neither a series nor 1 −, and any formula
+-- a formula with neither g, h nor 1 −, and any formula
 unfoldable pub ofSlots : Values → Values → Formula → Outcome Pair
 ofSlots s c f = plain pairs (λ i. is (inputs s c noValues i)) f
 
@@ -36,33 +30,21 @@ unfoldable pub ofMedia : Values → Values → Pair → Formula → Outcome Pair
 ofMedia s c particles f = worked (mediaInputs s c particles) f
 
 -- each case of an answer in document 01's numbers
-unfoldable pub exponent : Bounded → Outcome Pair
-exponent (Bounds.Is p) = is p
-exponent Bounds.TooFast = refused 41
-exponent Bounds.Refused = refused 53
-
 unfoldable pub found : Found → Outcome Media
 found (Founds.Is m) = is m
-found Founds.TooFast = refused 41
 found Founds.Refused = refused 53
 
 unfoldable pub grounded : Grounded → Outcome Ground
 grounded (Grounds.Is g) = is g
-grounded Grounds.TooFast = refused 41
 grounded Grounds.Refused = refused 53
 
--- x, where its high end is at most 64
-unfoldable pub bounded : Outcome Bool → Pair → Outcome Pair
-bounded (is true) p = is p
-bounded (is false) p = refused 41
-bounded (refused n) p = refused n
-
-unfoldable pub slow : Outcome Pair → Outcome Pair
-slow (is p) = bounded (compared (p .high) sixtyFour) p
-slow (refused n) = refused n
-
+-- x
 unfoldable pub exponentOf : (Slot → Pair) → Outcome Pair
-exponentOf env = slow (plain pairs (λ s. is (env s)) x)
+exponentOf env = plain pairs (λ s. is (env s)) x
+
+-- g and h at an exponent, on pairs
+unfoldable pub growthAt : Outcome Pair → Growth (Outcome Pair)
+growthAt x = growth pairGrowing (paceOf x) x
 
 -- the four concentrations, or the first refusal among them
 unfoldable pub four : Outcome Pair → Outcome Pair → Outcome Pair → Outcome Pair → Outcome Media
@@ -76,13 +58,9 @@ four (refused n) x y z = refused n
 unfoldable pub mediaIn : Inputs Pair → Formula → Outcome Media
 mediaIn env soil = four (worked env A) (worked env soil) (worked env (aboveGround soil)) (worked env (belowGround soil))
 
--- what a chemical leaves in the media, given x
-unfoldable pub given : {A : Type 0} → Outcome Pair → Outcome A → Outcome A
-given (is p) m = m
-given (refused n) m = refused n
-
+-- what a chemical leaves in the media, in the highest year
 unfoldable pub mediaOf : Inputs Pair → Outcome Media
-mediaOf env = given (exponentOf (env .value)) (mediaIn env C)
+mediaOf env = mediaIn env C
 
 -- ---- the ground: what a chemical's soil is worked from, whatever the receptor. Its loss is k, its media are those of the highest year and
 -- those of an exposure within the deposition; what was gathered is what the mean beyond the deposition begins with.
@@ -94,26 +72,21 @@ groundFrom (is l) (refused n) y z = refused n
 groundFrom (refused n) x y z = refused n
 
 unfoldable pub groundOf : Inputs Pair → Outcome Ground
-groundOf env = given (exponentOf (env .value)) (groundFrom (worked env k) (worked env gathered) (mediaIn env C) (mediaIn env (mean Within)))
+groundOf env = groundFrom (worked env k) (worked env gathered) (mediaIn env C) (mediaIn env (mean Within))
 
--- ---- the media of a receptor's cancer, from the ground: T2 within the deposition, or beyond it, where k × (T2 − tD) is refused as x is.
--- `mean-media` (proofs/Means.antt) holds it to the page.
+-- ---- the media of a receptor's cancer, from the ground: T2 within the deposition, or beyond it. `mean-media` (proofs/Means.antt) holds it to
+-- the page.
 unfoldable pub grownIn : Values → Values → Outcome Pair → Outcome Pair → Outcome Media
 grownIn s c air soil =
     four air soil (pairs .times soil (ofSlots s c Br)) (pairs .over (pairs .times (pairs .times soil (ofSlots s c RCF)) (ofSlots s c VG)) (ofSlots s c Kds))
 
-unfoldable pub gFor : Outcome Pair → Outcome Pair
-gFor x′ = pairs .over (pairs .number 1 (pos 0)) (pairs .plus (pairs .over (pairs .number 1 (pos 0)) (pairSeries phi x′)) x′)
-
 unfoldable pub soilBeyond : Ground → Outcome Pair → Pair → Pair → Outcome Pair
 soilBeyond ground x′ T2 later =
-    pairs .over (pairs .plus (is (ground .gathered)) (pairs .times (pairs .times (is (ground .highest .soil .0)) (is later)) (gFor x′))) (is T2)
+    pairs .over (pairs .plus (is (ground .gathered)) (pairs .times (pairs .times (is (ground .highest .soil .0)) (is later)) (growthAt x′ .g))) (is T2)
 
 unfoldable pub meanMedia : Ground → Values → Values → Stay → Pair → Pair → Outcome Media
 meanMedia ground s c Within T2 later = is (ground .within)
-meanMedia ground s c Beyond T2 later =
-    let x′ : Outcome Pair = product (ground .loss) later in
-    given (slow x′) (grownIn s c (is (ground .highest .air .0)) (soilBeyond ground x′ T2 later))
+meanMedia ground s c Beyond T2 later = grownIn s c (is (ground .highest .air .0)) (soilBeyond ground (product (ground .loss) later) T2 later)
 
 -- no chemical: 0 in each
 unfoldable pub noMedia : Media

@@ -1,13 +1,13 @@
 //! Air, deposition, soil and produce (document 01, "Media").
-use crate::Bounded;
 use crate::Conc;
 use crate::Found;
 use crate::Ground;
 use crate::Grounded;
 use crate::Media;
-use crate::slow;
-use crate::terms::mean_of_terms;
-use crate::terms::sum_of_terms;
+use crate::growth::g_at;
+use crate::growth::growth_at;
+use crate::loss::exponent_of;
+use crate::loss::loss_rate;
 use equations::Values;
 use pair::Answer;
 use pair::Pair;
@@ -29,13 +29,11 @@ use slots::TD;
 use slots::VG;
 use slots::ZS;
 ghost use mathlib.Core.Path.{_≡_};
-ghost use Rattle.pair.specs.Calls.{answer, is};
-ghost use lib.IntN.{pos};
-ghost use Rattle.equations.specs.declared.Stay.the-variants.{Within, Beyond};
-ghost use Rattle.equations.specs.Formula.{pairs};
+ghost use Rattle.pair.specs.Calls.{answer, product};
+ghost use Rattle.equations.specs.declared.Stay.the-variants.{Beyond};
 ghost use Rattle.equations.specs.Page as page;
-ghost use Rattle.equations.specs.Page.{k, x, D, C, mean, gathered};
-ghost use Rattle.media.specs.Media.{mediaInputs, ofSlots, ofMedia, found, grounded, four, mediaIn, groundFrom, grownIn, soilBeyond, meanMedia};
+ghost use Rattle.equations.specs.Page.{D};
+ghost use Rattle.media.specs.Media.{mediaInputs, ofMedia, found, grounded, four, mediaOf, groundFrom, groundOf, grownIn, soilBeyond, meanMedia};
 
 // A. particles is 1 − Fv.
 fn air(s: Values, c: Values, particles: Pair) -> Answer
@@ -62,22 +60,6 @@ fn deposition(s: Values, c: Values, particles: Pair) -> Answer
         .times(c.at(Q))
         .over(layer)
         .times(both)
-}
-
-// g, from the series and x.
-fn build_up(phi: Answer, e: Pair) -> Answer
-    ensures { λ r. ⌜ answer r ≡ pairs .over (pairs .number 1 (pos 0)) (pairs .plus (pairs .over (pairs .number 1 (pos 0)) (answer phi)) (is e)) ⌝ }
-{
-    let one = Pair::entry(1, 0);
-    one.over(one.over(phi).plus(e.answer()))
-}
-
-// h, from the two series and x.
-fn mean_build_up(phi: Answer, psi: Answer, e: Pair) -> Answer
-    ensures { λ r. ⌜ answer r ≡ pairs .over (answer psi) (pairs .plus (pairs .number 1 (pos 0)) (pairs .times (is e) (answer phi))) ⌝ }
-{
-    let one = Pair::entry(1, 0);
-    psi.over(one.plus(e.answer().times(phi)))
 }
 
 // The four concentrations, or the refusal among them.
@@ -113,12 +95,11 @@ fn grown(s: Values, c: Values, air: Answer, soil: Answer) -> Found
     all(air, soil, leaves, roots)
 }
 
-// particles is 1 − Fv, and e is x.
-pub(crate) fn leave(s: Values, c: Values, particles: Pair, e: Pair) -> Found
-    requires { ⌜ is e ≡ ofSlots s c x ⌝ }
-    ensures { λ r. ⌜ found r ≡ mediaIn (mediaInputs s c particles) C ⌝ }
+// The highest year's media. particles is 1 − Fv.
+pub(crate) fn leave(s: Values, c: Values, particles: Pair) -> Found
+    ensures { λ r. ⌜ found r ≡ mediaOf (mediaInputs s c particles) ⌝ }
 {
-    let g = build_up(sum_of_terms(e), e);
+    let g = g_at(exponent_of(s, c));
     let soil = deposition(s, c, particles).times(s.at(TD)).times(g);
     grown(s, c, air(s, c, particles), soil)
 }
@@ -133,37 +114,28 @@ fn ground_from(loss: Answer, gathered: Answer, highest: Found, within: Found) ->
     let Answer::Is(g) = gathered else {
         return Grounded::Refused;
     };
-    match highest {
-        Found::Is(m) => ground_with(l, g, m, within),
-        Found::TooFast => Grounded::TooFast,
-        Found::Refused => Grounded::Refused,
-    }
+    let Found::Is(m) = highest else {
+        return Grounded::Refused;
+    };
+    let Found::Is(n) = within else {
+        return Grounded::Refused;
+    };
+    Grounded::Is(Ground {
+        loss: l,
+        gathered: g,
+        highest: m,
+        within: n,
+    })
 }
 
-fn ground_with(loss: Pair, gathered: Pair, highest: Media, within: Found) -> Grounded
-    ensures { λ r. ⌜ grounded r ≡ groundFrom (is loss) (is gathered) (is highest) (found within) ⌝ }
+// particles is 1 − Fv. k is worked once, for x and for every receptor.
+pub(crate) fn lay(s: Values, c: Values, particles: Pair) -> Grounded
+    ensures { λ r. ⌜ grounded r ≡ groundOf (mediaInputs s c particles) ⌝ }
 {
-    match within {
-        Found::Is(m) => Grounded::Is(Ground {
-            loss,
-            gathered,
-            highest,
-            within: m,
-        }),
-        Found::TooFast => Grounded::TooFast,
-        Found::Refused => Grounded::Refused,
-    }
-}
-
-// particles is 1 − Fv, loss is k and e is x.
-pub(crate) fn lay(s: Values, c: Values, particles: Pair, loss: Answer, e: Pair) -> Grounded
-    requires { ⌜ is e ≡ ofSlots s c x ⌝ }
-    requires { ⌜ answer loss ≡ ofSlots s c k ⌝ }
-    ensures { λ r. ⌜ grounded r ≡ groundFrom (ofMedia s c particles k) (ofMedia s c particles gathered) (mediaIn (mediaInputs s c particles) C) (mediaIn (mediaInputs s c particles) (mean Within)) ⌝ }
-{
-    let phi = sum_of_terms(e);
-    let g = build_up(phi, e);
-    let h = mean_build_up(phi, mean_of_terms(e), e);
+    let loss = loss_rate(s, c);
+    let growth = growth_at(loss.times(s.at(TD)));
+    let g = growth.g;
+    let h = growth.h;
     let laid = deposition(s, c, particles).times(s.at(TD));
     let breathed = air(s, c, particles);
     let highest = grown(s, c, breathed, laid.times(g));
@@ -171,11 +143,11 @@ pub(crate) fn lay(s: Values, c: Values, particles: Pair, loss: Answer, e: Pair) 
     ground_from(loss, laid.times(s.at(TD)).times(h), highest, within)
 }
 
-// The mean over an exposure that goes beyond the deposition. e is k × (T2 − tD).
-fn soil_beyond(ground: Ground, e: Pair, exposure: Pair, later: Pair) -> Answer
-    ensures { λ r. ⌜ answer r ≡ soilBeyond ground (is e) exposure later ⌝ }
+// The mean over an exposure that goes beyond the deposition.
+fn soil_beyond(ground: Ground, exposure: Pair, later: Pair) -> Answer
+    ensures { λ r. ⌜ answer r ≡ soilBeyond ground (product (ground .loss) later) exposure later ⌝ }
 {
-    let g = build_up(sum_of_terms(e), e);
+    let g = g_at(ground.loss.product(later));
     let highest = ground.highest.soil.pair();
     let left = highest.product(later).times(g);
     let gathered = ground.gathered.answer();
@@ -186,14 +158,6 @@ pub(crate) fn beyond(ground: Ground, s: Values, c: Values, exposure: Pair, later
     ensures { λ r. ⌜ found r ≡ meanMedia ground s c Beyond exposure later ⌝ }
 {
     let breathed = ground.highest.air.pair();
-    match slow(ground.loss.product(later)) {
-        Bounded::Is(e) => grown(
-            s,
-            c,
-            breathed.answer(),
-            soil_beyond(ground, e, exposure, later),
-        ),
-        Bounded::TooFast => Found::TooFast,
-        Bounded::Refused => Found::Refused,
-    }
+    let soil = soil_beyond(ground, exposure, later);
+    grown(s, c, breathed.answer(), soil)
 }

@@ -1,5 +1,6 @@
 //! Loss, series and media (document 01): from a site and a chemical to the concentrations in air, soil and produce.
 mod compartments;
+mod growth;
 mod loss;
 mod terms;
 
@@ -7,16 +8,12 @@ use crate::compartments::beyond;
 use crate::compartments::lay;
 use crate::compartments::leave;
 use crate::loss::exponent_of;
-use crate::loss::loss_rate;
 use crate::terms::mean_of_terms;
 use crate::terms::sum_of_terms;
 use equations::Stay;
 use equations::Values;
 use pair::Answer;
-use pair::Number;
-use pair::Order;
 use pair::Pair;
-use slots::TD;
 ghost use mathlib.Core.Path.{_≡_};
 ghost use Rattle.pair.specs.Calls as calls;
 ghost use Rattle.equations.specs.Formula.{phi, psi};
@@ -57,17 +54,9 @@ impl Media {
     }
 }
 
-// x, or why there is none: its high end is above 64 (document 01's 41), or a pair or an exponent was out of reach (53).
-pub enum Bounded {
-    Is(Pair),
-    TooFast,
-    Refused,
-}
-
-// The media, or why there are none, as for x.
+// The media, or that a pair or an exponent was out of reach (document 01's 53).
 pub enum Found {
     Is(Media),
-    TooFast,
     Refused,
 }
 
@@ -80,37 +69,17 @@ pub struct Ground {
     pub within: Media,
 }
 
-// The ground, or why there is none, as for x.
+// The ground, or that there is none, as for the media.
 pub enum Grounded {
     Is(Ground),
-    TooFast,
     Refused,
 }
 
-const SIXTY_FOUR: Number = Number {
-    significand: 640_000_000,
-    exponent: -7,
-};
-
-// x, unless its high end is above 64.
-pub(crate) fn slow(x: Answer) -> Bounded
-    ensures { λ r. ⌜ specs.exponent r ≡ specs.slow (calls.answer x) ⌝ }
-{
-    let Answer::Is(p) = x else {
-        return Bounded::Refused;
-    };
-    match p.high.compare(SIXTY_FOUR) {
-        Order::AtMost => Bounded::Is(p),
-        Order::Above => Bounded::TooFast,
-        Order::Refused => Bounded::Refused,
-    }
-}
-
 // x = k × tD.
-pub fn exponent(site: Values, chemical: Values) -> Bounded
-    ensures { λ r. ⌜ specs.exponent r ≡ specs.exponentOf (inputs site chemical noValues) ⌝ }
+pub fn exponent(site: Values, chemical: Values) -> Answer
+    ensures { λ r. ⌜ calls.answer r ≡ specs.exponentOf (inputs site chemical noValues) ⌝ }
 {
-    slow(exponent_of(site, chemical))
+    exponent_of(site, chemical)
 }
 
 // φ at x.
@@ -131,23 +100,14 @@ pub fn mean_series(x: Pair) -> Answer
 pub fn concentrations(site: Values, chemical: Values, particles: Pair) -> Found
     ensures { λ r. ⌜ specs.found r ≡ specs.mediaOf (specs.mediaInputs site chemical particles) ⌝ }
 {
-    match slow(exponent_of(site, chemical)) {
-        Bounded::Is(x) => leave(site, chemical, particles, x),
-        Bounded::TooFast => Found::TooFast,
-        Bounded::Refused => Found::Refused,
-    }
+    leave(site, chemical, particles)
 }
 
 // The ground that a chemical leaves, for every receptor. particles is 1 − Fv, from the printed digits.
 pub fn ground_of(site: Values, chemical: Values, particles: Pair) -> Grounded
     ensures { λ r. ⌜ specs.grounded r ≡ specs.groundOf (specs.mediaInputs site chemical particles) ⌝ }
 {
-    let loss = loss_rate(site, chemical);
-    match slow(loss.times(site.at(TD))) {
-        Bounded::Is(x) => lay(site, chemical, particles, loss, x),
-        Bounded::TooFast => Grounded::TooFast,
-        Bounded::Refused => Grounded::Refused,
-    }
+    lay(site, chemical, particles)
 }
 
 // The media of a receptor's cancer: its soil is the mean over the exposure, T2. later is T2 − tD where T2 is above tD.

@@ -29,26 +29,26 @@ returns-2 c = rw (c .before .before .before .loss .given .1, c .enum-told2 .give
 enum-known-highest : tie.Need-enum-known-highest
 enum-known-highest c = search needs
 
-ground-with-requires : tie.Need-ground-with-requires
-ground-with-requires c κs = search needs
-
 enum-told-3 : tie.Need-enum-told-3
 enum-told-3 c = search needs
+
+returns-3 : tie.Need-returns-3
+unfolding answer found grounded groundFrom
+returns-3 c = rw (c .before .before .before .before .before .before .loss .given .1, c .before .before .before .gathered .given .1, c .enum-told3 .given .1) refl
+
+enum-known-within : tie.Need-enum-known-within
+enum-known-within c = search needs
 
 enum-told-4 : tie.Need-enum-told-4
 enum-told-4 c = search needs
 
-returns-3 : tie.Need-returns-3
-unfolding answer found
-returns-3 c = rw (c .ground-with .ensures, c .before .before .before .before .before .before .before .before .loss .given .1, c .before .before .before .before .before .gathered .given .1, c .before .before .highest .given .1) refl
-
 returns-4 : tie.Need-returns-4
 unfolding answer found grounded groundFrom
-returns-4 c = rw (c .before .before .before .before .before .before .loss .given .1, c .before .before .before .gathered .given .1, c .enum-told3 .given .1) refl
+returns-4 c = rw (c .before .before .before .before .before .before .before .before .before .loss .given .1, c .before .before .before .before .before .before .gathered .given .1, c .before .before .before .highest .given .1, c .enum-told4 .given .1) refl
 
 returns-5 : tie.Need-returns-5
 unfolding answer found grounded groundFrom
-returns-5 c = rw (c .before .before .before .before .before .before .loss .given .1, c .before .before .before .gathered .given .1, c .enum-told4 .given .1) refl
+returns-5 c = rw (c .before .before .before .before .before .before .before .before .before .before .loss .given .1, c .before .before .before .before .before .before .before .gathered .given .1, c .before .before .before .before .highest .given .1, c .before .within .given .1) refl
 
 pub ground-from-spec : {M : Type 1} → statement M
 ground-from-spec =
@@ -61,9 +61,9 @@ ground-from-spec =
     enum-told-2
     returns-2
     enum-known-highest
-    ground-with-requires
     enum-told-3
-    enum-told-4
     returns-3
+    enum-known-within
+    enum-told-4
     returns-4
     returns-5)

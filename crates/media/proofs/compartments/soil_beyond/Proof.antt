@@ -2,22 +2,22 @@
 use mathlib.Core.Path.{refl}
 use Rattle.pair.specs.Calls.{after}
 use Rattle.equations.specs.Formula.{pairs}
-use Rattle.media.specs.Media.{gFor, soilBeyond}
+use Rattle.media.specs.Media.{soilBeyond}
 use borrow.Author.Needs.{needs}
 use Rattle.media.proofs.compartments.soil_beyond.Statement.{statement}
 use Rattle.media.proofs.compartments.soil_beyond.Tie as tie
 
-sum-of-terms-requires : tie.Need-sum-of-terms-requires
-sum-of-terms-requires c κs = search needs
+product-requires : tie.Need-product-requires
+product-requires c κs = search needs
 
-build-up-requires : tie.Need-build-up-requires
-build-up-requires c κs = search needs
+g-at-requires : tie.Need-g-at-requires
+g-at-requires c κs = search needs
 
 pair-requires : tie.Need-pair-requires
 pair-requires c κs = search needs
 
-product-requires : tie.Need-product-requires
-product-requires c κs = search needs
+product-requires-2 : tie.Need-product-requires-2
+product-requires-2 c κs = search needs
 
 times-requires : tie.Need-times-requires
 times-requires c κs = search needs
@@ -35,18 +35,17 @@ over-requires : tie.Need-over-requires
 over-requires c κs = search needs
 
 returns : tie.Need-returns
-unfolding soilBeyond gFor pairs after
-returns c = rw (c .over .ensures, c .before .answer2 .ensures, c .before .before .plus .ensures, c .before .before .before .answer .ensures, c .before .before .before .before .times .ensures, c .before .before .before .before .before .product .ensures, c .before .before .before .before .before .before .pair .ensures, c .before .before .before .before .before .before .before .build-up .ensures, c .before .before .before .before .before .before .before .before .sum-of-terms .ensures)
-    refl
+unfolding soilBeyond pairs after
+returns c = rw (c .over .ensures, c .before .answer2 .ensures, c .before .before .plus .ensures, c .before .before .before .answer .ensures, c .before .before .before .before .times .ensures, c .before .before .before .before .before .product2 .ensures, c .before .before .before .before .before .before .pair .ensures, c .before .before .before .before .before .before .before .g-at .ensures, c .before .before .before .before .before .before .before .before .product .ensures) refl
 
 pub soil-beyond-spec : {M : Type 1} → statement M
 soil-beyond-spec =
     tie.close
     (tie.spec
-    sum-of-terms-requires
-    build-up-requires
-    pair-requires
     product-requires
+    g-at-requires
+    pair-requires
+    product-requires-2
     times-requires
     answer-requires
     plus-requires

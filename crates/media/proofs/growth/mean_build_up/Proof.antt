@@ -2,8 +2,8 @@
 use mathlib.Core.Path.{refl}
 use Rattle.equations.specs.Formula.{pairs}
 use borrow.Author.Needs.{needs}
-use Rattle.media.proofs.compartments.mean_build_up.Statement.{statement}
-use Rattle.media.proofs.compartments.mean_build_up.Tie as tie
+use Rattle.media.proofs.growth.mean_build_up.Statement.{statement}
+use Rattle.media.proofs.growth.mean_build_up.Tie as tie
 
 entry-requires : tie.Need-entry-requires
 entry-requires c κs = search needs
@@ -22,8 +22,7 @@ over-requires c κs = search needs
 
 returns : tie.Need-returns
 unfolding pairs
-returns c = rw (c .over .ensures, c .before .plus .ensures, c .before .before .times .ensures, c .before .before .before .answer .ensures, c .before .before .before .before .entry .ensures)
-    refl
+returns c = rw (c .over .ensures, c .before .plus .ensures, c .before .before .times .ensures, c .before .before .before .answer .ensures, c .before .before .before .before .entry .ensures) refl
 
 pub mean-build-up-spec : {M : Type 1} → statement M
 mean-build-up-spec =
