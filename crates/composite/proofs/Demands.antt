@@ -21,8 +21,8 @@ use Rattle.slots.specs.Slots.{Slot, positive, table, same, isIn, placeIn, entry
 use Rattle.slots.proofs.Laws.{places, inside}
 use Rattle.equations.specs.Formula.{pairs, fractions}
 use Rattle.equations.specs.Readings.{valueIn, byOwner, inputs}
-use Rattle.equations.proofs.Profile.{Profile, Good}
-use Rattle.equations.proofs.LineLaws.{ofPrinted, ofSlot, ofLater, answeredAs}
+use Rattle.equations.proofs.Profile.{Profile, Good, answeredAs}
+use Rattle.equations.proofs.LineLaws.{ofPrinted, ofSlot, ofLater}
 use Rattle.deck.specs.declared.Case.{Case}
 use Rattle.deck.specs.declared.Value.{Value}
 use Rattle.deck.specs.declared.Value.the-variants as Values

@@ -22,8 +22,7 @@ use Rattle.slots.specs.declared.Sort.{Sort}
 use Rattle.slots.specs.declared.Rule.{Rule}
 use Rattle.slots.specs.Slots.{Slot, positive, ruleFor}
 use Rattle.equations.specs.Formula.{fractions}
-use Rattle.equations.proofs.Profile.{Good, good-around, good-equal}
-use Rattle.equations.proofs.LineLaws.{answeredAs}
+use Rattle.equations.proofs.Profile.{Good, answeredAs, good-around, good-equal}
 use Rattle.deck.specs.declared.Value.{Value}
 use Rattle.deck.specs.declared.Value.the-variants.{Printed}
 use Rattle.deck.specs.Ranges.{above, below}

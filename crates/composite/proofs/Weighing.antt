@@ -18,8 +18,8 @@ use Rattle.slots.specs.Slots.{Slot, ownerOf, placeOf, neverZero}
 use Rattle.equations.specs.Formula.{pairs, fractions}
 use Rattle.equations.specs.Readings.{byOwner}
 use Rattle.equations.proofs.Nearness.{spread}
-use Rattle.equations.proofs.Profile.{Profile, profiles, ofNumber, positives, usable, joined, Good, both, parts, good-op, good-more, good-number}
-use Rattle.equations.proofs.LineLaws.{ofSlot, answeredAs}
+use Rattle.equations.proofs.Profile.{Profile, profiles, ofNumber, positives, usable, joined, Good, answeredAs, both, parts, good-op, good-more, good-number}
+use Rattle.equations.proofs.LineLaws.{ofSlot}
 use Rattle.composite.specs.Composite.{summed, sumOfYears, mean, composed}
 
 -- a sum of answered terms

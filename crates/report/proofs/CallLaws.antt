@@ -16,12 +16,11 @@ use Rattle.deck.specs.Conditions.{Condition, at, first, conditions}
 use Rattle.deck.specs.Cases.{caseOf, caseFor, readOf, toldOf}
 use Rattle.deck.proofs.First.{orElse, first-append}
 use Rattle.deck.proofs.Scan.{first-read}
-use Rattle.deck.proofs.Places.{append-read}
 use Rattle.text.specs.declared.Row.{Row}
 use Rattle.text.specs.Text.{linesText}
 use Rattle.sheet.specs.Values.{Scenario, scenarioWith}
 use Rattle.sheet.specs.declared.Receptors.{Receptors}
-use Rattle.sheet.specs.Sheet.{fastChemicals, largeLines}
+use Rattle.sheet.specs.Sheet.{largeLines}
 use Rattle.sheet.specs.DemandThree.{Exact}
 use Rattle.sheet.specs.Counts.{tooMany, cellsOf, cellsFor, sheetStatus, sheetCells}
 use Rattle.report.specs.Report.{rowsOf, lengthOf, reportConditions, Call, scenarioOf, exactOf, allConditions, statusOf, outcomeFor, outcomeOf, bufferWith, bufferFor, bufferOf}
@@ -119,8 +118,7 @@ module _ (scenario : Scenario) {exact : Exact} (sound : Sound scenario exact) (b
   rows-agree : first (reportConditions scenario (length buffer)) ≡ Read → writtenRows scenario ≡ rowsOf scenario
   unfolding writtenRows reportConditions
   rows-agree e =
-      let t = append-read (fastChemicals scenario) (largeLines scenario) (first-read (at 51 0 0 (ltb (length buffer) (lengthOf scenario))) (fastChemicals scenario ++ largeLines scenario) e .1) in
-      rows-held scenario sound (t .0) (t .1)
+      rows-held scenario sound (first-read (at 51 0 0 (ltb (length buffer) (lengthOf scenario))) (largeLines scenario) e .1)
 
   buffer-if : (s : Status) → first (reportConditions scenario (length buffer)) ≡ s → bufferWith s (writtenRows scenario) (lengthOf scenario) buffer ≡ bufferFor s scenario buffer
   unfolding bufferWith bufferFor

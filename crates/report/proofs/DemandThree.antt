@@ -10,7 +10,7 @@ pub demand-3-of : (call : Call) (Made : Case → Type 0) → Sounds call Made �
 unfolding Demand3
 demand-3-of call Made sounds deck a =
     let none = clear call deck (a .room) (a .none) in
-    scenario-demand-3 (scenarioOf call deck) (sounds .sound deck (none .0)) (none .1 .0) (none .1 .1)
+    scenario-demand-3 (scenarioOf call deck) (sounds .sound deck (none .0)) (none .1)
 
 pub demand-3 : Demand3 ordinary
 demand-3 = demand-3-of ordinary Entered ordinary-sounds

@@ -32,7 +32,7 @@ use Rattle.sheet.specs.declared.Receptor as receptors
 use Rattle.sheet.specs.declared.Receptors.{Receptors}
 use Rattle.sheet.specs.Values.{Scenario, chemicalIn, receptorIn, stayIn, printedIn, pairsAt, printedYears, depositionOf, receptorWith, scenarioWith, entered, enteredFrom, ordinaryOf, exactAt}
 use Rattle.sheet.specs.DemandThree.{Exact}
-use Rattle.sheet.specs.Sheet.{pathwayAt, hasReference, chained, linesPerReceptor, fastChemicals, largeLines}
+use Rattle.sheet.specs.Sheet.{pathwayAt, hasReference, chained, linesPerReceptor, largeLines}
 use Rattle.report.specs.Report.{rowAt, totalRow, rowsAt, rowsOf, linesOfReport, lengthOf, reportConditions, Call, ordinary, scenarioOf, exactOf, allConditions, statusOf, outcomeFor, outcomeOf, bufferWith, bufferFor, bufferOf}
 use Rattle.report.specs.DemandTwo.{lineIn, ByRule, Printed, Reported, Refused, Demand2, Exposed, Entered}
 use Rattle.sheet.proofs.CaseLaws.{line-by-rule}
@@ -179,11 +179,11 @@ module _ (scenario : Scenario) where
       (at-after (chained (lines j) (scenario .chemicals .count)) (totalRow scenario j ∷ []) (scenario .chemicals .count * 6) 0 (totalRow scenario j) (lines-all j) (alone (totalRow scenario j)))
 
   -- the whole of it
-  module _ (ids : SmallIds scenario) {exact : Exact} (sound : Sound scenario exact) (slow : first (fastChemicals scenario) ≡ Read) (small : first (largeLines scenario) ≡ Read) where
+  module _ (ids : SmallIds scenario) {exact : Exact} (sound : Sound scenario exact) (small : first (largeLines scenario) ≡ Read) where
     by-rule : (e : Effect) (j i p : ℕ) → j < scenario .receptors .count → i < scenario .chemicals .count → p < 6 → hasReference e scenario i (pathwayAt p) ≡ true
         → ByRule e scenario j i (pathwayAt p)
     by-rule e j i p a b h t =
-        let l = line-by-rule scenario sound slow small e j i p a b h t in
+        let l = line-by-rule scenario sound small e j i p a b h t in
         record { pair = l .pair; rule = l .rule; proper = l .proper; units = l .units; counted = l .counted; columns = l .columns }
 
     printed : Sources scenario → (rest : List ℕ) → Printed scenario (linesText (rowsOf scenario) ++ rest)
@@ -198,8 +198,8 @@ module _ (scenario : Scenario) where
               subst (λ (l : ℕ). lineIn (linesText (rowsOf scenario) ++ rest) l ≡ rowText (totalRow scenario j)) e
               (at-line (rowsOf scenario) (j * linesPerReceptor scenario + (scenario .chemicals .count * 6 + 0)) (totalRow scenario j) rest (total-at j a));
           rule = by-rule;
-          line-fits = row-fits scenario ids sound slow small;
-          total-fits = total-row-fits scenario ids sound slow small;
+          line-fits = row-fits scenario ids sound small;
+          total-fits = total-row-fits scenario ids sound small;
           entered = λ j i h. sources .entered j i;
           rested = λ j i h. sources .rested j i;
         }
@@ -212,13 +212,13 @@ pub record Sounds (call : Call) (Made : Case → Type 0) : Type 0 where
 
 -- none of the conditions after the deck's own holds
 pub clear : (call : Call) (deck : List ℕ) (room : ℕ) → first (allConditions call deck room) ≡ Read
-    → (first (conditions (call .sort) deck) ≡ Read) × ((first (fastChemicals (scenarioOf call deck)) ≡ Read) × (first (largeLines (scenarioOf call deck)) ≡ Read))
+    → (first (conditions (call .sort) deck) ≡ Read) × (first (largeLines (scenarioOf call deck)) ≡ Read)
 unfolding allConditions reportConditions
 clear call deck room e =
     let scenario = scenarioOf call deck in
     let t = append-read (conditions (call .sort) deck) (reportConditions scenario room) e in
-    let u = first-read (at 51 0 0 (ltb room (lengthOf scenario))) (fastChemicals scenario ++ largeLines scenario) (t .1) in
-    (t .0, append-read (fastChemicals scenario) (largeLines scenario) (u .1))
+    let u = first-read (at 51 0 0 (ltb room (lengthOf scenario))) (largeLines scenario) (t .1) in
+    (t .0, u .1)
 
 module _ (call : Call) (Made : Case → Type 0) (sounds : Sounds call Made) where
   deck-sources : (deck : List ℕ) → first (conditions (call .sort) deck) ≡ Read → Sources (scenarioOf call deck)
@@ -237,7 +237,7 @@ module _ (call : Call) (Made : Case → Type 0) (sounds : Sounds call Made) wher
         told = ap (λ (s : Status). outcomeFor s scenario) e;
         printed =
             subst (Printed scenario) (sym text)
-            (printed scenario (sounds .ids deck (none .0)) (sounds .sound deck (none .0)) (none .1 .0) (none .1 .1) (deck-sources deck (none .0)) (drop (lengthOf scenario) buffer));
+            (printed scenario (sounds .ids deck (none .0)) (sounds .sound deck (none .0)) (none .1) (deck-sources deck (none .0)) (drop (lengthOf scenario) buffer));
         made = sounds .made deck (none .0);
         past = ap (drop (lengthOf scenario)) text ∙ drop-at (linesText (rowsOf scenario)) (drop (lengthOf scenario) buffer) (lengthOf scenario) long;
       }

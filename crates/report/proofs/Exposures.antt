@@ -14,8 +14,7 @@ use Rattle.years.proofs.Promises.{at-most-told, beyond-answered}
 use Rattle.equations.specs.declared.Stay.{Stay}
 use Rattle.equations.specs.declared.Stay.the-variants.{Within, Beyond}
 use Rattle.sheet.specs.Values.{orOne, stayIf, laterIf}
-use Rattle.sheet.specs.Sheet.{isBeyond}
-use Rattle.report.specs.DemandTwo.{Exposed}
+use Rattle.report.specs.DemandTwo.{isBeyond, Exposed}
 
 taken : (o : Outcome Pair) (p : Pair) → o ≡ is p → o ≡ is (orOne o)
 unfolding orOne

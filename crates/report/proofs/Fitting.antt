@@ -23,7 +23,7 @@ use Rattle.totals.specs.declared.Columns.the-variants.{Absent, Counted}
 use Rattle.text.specs.Text.{countWidth, CountsFit, FitsColumns}
 use Rattle.sheet.specs.Values.{Scenario, chemicalIn, receptorIn}
 use Rattle.sheet.specs.DemandThree.{Exact}
-use Rattle.sheet.specs.Sheet.{pathwayAt, columnsAt, totalAt, fastChemicals, largeLines}
+use Rattle.sheet.specs.Sheet.{pathwayAt, columnsAt, totalAt, largeLines}
 use Rattle.sheet.specs.Counts.{CountsMost}
 use Rattle.report.specs.Report.{rowAt, totalRow}
 use Rattle.sheet.proofs.Sound.{Sound}
@@ -70,15 +70,15 @@ counts-fit m Absent h most = tt
 counts-fit m (Counted low high) h most = (omega (arith, most .0), omega (arith, most .1))
 
 -- ---- lines
-module _ (scenario : Scenario) (ids : SmallIds scenario) {exact : Exact} (sound : Sound scenario exact) (slow : first (fastChemicals scenario) ≡ Read) (small : first (largeLines scenario) ≡ Read) where
+module _ (scenario : Scenario) (ids : SmallIds scenario) {exact : Exact} (sound : Sound scenario exact) (small : first (largeLines scenario) ≡ Read) where
   pub row-fits : (j i p : ℕ) → j < scenario .receptors .count → i < scenario .chemicals .count → p < 6 → FitsColumns (rowAt scenario j i p)
   unfolding rowAt
   row-fits j i p a b h =
-      let counts : (e : Effect) → CountsFit (columnsAt e scenario j i (pathwayAt p)) = λ e. counts-fit (10 ^ 16) _ (lit< tt) (columns-small scenario sound slow small e j i p a b h) in
+      let counts : (e : Effect) → CountsFit (columnsAt e scenario j i (pathwayAt p)) = λ e. counts-fit (10 ^ 16) _ (lit< tt) (columns-small scenario sound small e j i p a b h) in
       record { receptor = ids .receptor j a; chemical = ids .chemical i b; pathway = omega arith; hazard = counts Hazard; cancer = counts Cancer }
 
   pub total-row-fits : (j : ℕ) → j < scenario .receptors .count → FitsColumns (totalRow scenario j)
   unfolding totalRow
   total-row-fits j a =
-      let counts : (e : Effect) → CountsFit (totalAt e scenario j) = λ e. counts-fit (96 * 10 ^ 16) _ (lit< tt) (total-small scenario sound slow small e j a) in
+      let counts : (e : Effect) → CountsFit (totalAt e scenario j) = λ e. counts-fit (96 * 10 ^ 16) _ (lit< tt) (total-small scenario sound small e j a) in
       record { receptor = ids .receptor j a; chemical = lit< tt; pathway = lit< tt; hazard = counts Hazard; cancer = counts Cancer }

@@ -1,4 +1,5 @@
--- The crate's laws: the report as it is written, and demands 1 to 3 of document 01 (`DemandTwo`, `DemandThree`). Assumes nothing.
+-- The crate's laws: the report as it is written, demands 1 to 3 of document 01 (`DemandTwo`, `DemandThree`), and that no call
+-- tells 41 (`Never`). Assumes nothing.
 mod Written
 mod ReportLaws
 pub mod CallLaws
@@ -6,3 +7,4 @@ pub mod Fitting
 pub mod Exposures
 pub mod DemandTwo
 pub mod DemandThree
+pub mod Never

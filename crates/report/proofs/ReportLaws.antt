@@ -9,7 +9,7 @@ use Rattle.deck.specs.Conditions.{first}
 use Rattle.text.specs.declared.Row.{Row}
 use Rattle.sheet.specs.Values.{Scenario, chemicalIn, receptorIn}
 use Rattle.sheet.specs.DemandThree.{Exact}
-use Rattle.sheet.specs.Sheet.{chained, fastChemicals, largeLines}
+use Rattle.sheet.specs.Sheet.{chained, largeLines}
 use Rattle.sheet.specs.Counts.{cellsOf}
 use Rattle.report.specs.Report.{rowAt, totalRow, rowsAt, rowsOf}
 use Rattle.report.specs.Scenario.{rowIn, totalRowIn, linesIn, rowsIn, reportIn}
@@ -18,7 +18,7 @@ use Rattle.sheet.proofs.Held.{columns-held}
 use Rattle.sheet.proofs.CaseLaws.{total-held}
 use Rattle.sheet.proofs.Chains.{chained-same, flat}
 
-module _ (scenario : Scenario) {exact : Exact} (sound : Sound scenario exact) (slow : first (fastChemicals scenario) ≡ Read) (small : first (largeLines scenario) ≡ Read) where
+module _ (scenario : Scenario) {exact : Exact} (sound : Sound scenario exact) (small : first (largeLines scenario) ≡ Read) where
   module _ (j : ℕ) (here : j < scenario .receptors .count) where
     line-held : (q : ℕ) → q < scenario .chemicals .count * 6
         → rowIn (cellsOf scenario) j (receptorIn scenario j .id) (chemicalIn scenario (q / 6) .id) q ≡ rowAt scenario j (q / 6) (q % 6)
@@ -30,7 +30,7 @@ module _ (scenario : Scenario) {exact : Exact} (sound : Sound scenario exact) (s
     total-row-held : totalRowIn (cellsOf scenario) j (receptorIn scenario j .id) (scenario .chemicals .count * 6) ≡ totalRow scenario j
     unfolding totalRowIn totalRow
     total-row-held =
-        let held = total-held scenario sound slow small j here in
+        let held = total-held scenario sound small j here in
         rw (held Hazard, held Cancer) refl
 
     receptor-held : rowsIn (cellsOf scenario) j (receptorIn scenario j .id) (scenario .chemicals) ≡ rowsAt scenario j

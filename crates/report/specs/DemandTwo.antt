@@ -2,7 +2,7 @@
 -- holds, and the whole report stands in the buffer, each line the working rule's, to be read back; or one holds, the first of them is told,
 -- and no byte changed.
 use mathlib.Core.Path.{_≡_}
-use mathlib.Core.Bool.{true, not}
+use mathlib.Core.Bool.{Bool, true, false, not}
 use mathlib.Core.List.{List, _∷_, _++_}
 use mathlib.Core.Logic.{_⊎_}
 use Prim.Native.Nat.{ℕ, _+_, _*_, _<_}
@@ -17,7 +17,7 @@ use Rattle.slots.specs.declared.Owner.the-variants.{Receptor}
 use Rattle.years.specs.declared.Years.{Years}
 use Rattle.years.specs.Years as years
 use Rattle.equations.specs.declared.Stay.{Stay}
-use Rattle.equations.specs.declared.Stay.the-variants.{Beyond}
+use Rattle.equations.specs.declared.Stay.the-variants.{Within, Beyond}
 use Rattle.equations.specs.declared.Effect.{Effect}
 use Rattle.equations.specs.declared.Pathway.{Pathway}
 use Rattle.deck.specs.declared.Case.{Case}
@@ -28,7 +28,7 @@ use Rattle.deck.specs.Cases.{caseOf, valueAt, receptorAt}
 use Rattle.totals.specs.declared.Columns.the-variants as Cols
 use Rattle.text.specs.Text.{reportLineWidth, rowText, FitsColumns}
 use Rattle.sheet.specs.Values.{Scenario, stayIn, printedIn, pairsAt, printedYears, depositionOf, ordinaryOf}
-use Rattle.sheet.specs.Sheet.{isBeyond, pathwaysPerChemical, pathwayAt, hasReference, figureAt, unitOf, columnsAt, linesPerReceptor}
+use Rattle.sheet.specs.Sheet.{pathwaysPerChemical, pathwayAt, hasReference, figureAt, unitOf, columnsAt, linesPerReceptor}
 use Rattle.report.specs.Report.{rowAt, totalRow, Call, scenarioOf, allConditions, lengthOf, outcomeOf, bufferOf}
 
 -- line l of a report, counted from 0
@@ -84,6 +84,10 @@ pub record Refused (call : Call) (deck buffer : List ℕ) : Type 0 where
 -- for every deck and buffer, of any bytes and lengths
 unfoldable pub Demand2 : Call → (Case → Type 0) → Type 0
 Demand2 call Made = (deck buffer : List ℕ) → Reported call Made deck buffer ⊎ Refused call deck buffer
+
+unfoldable pub isBeyond : Stay → Bool
+isBeyond Within = false
+isBeyond Beyond = true
 
 -- An exposure T2 is set against the deposition tD on the printed digits (document 02, P4): T2 ≤ tD is decided by the exact times, and beyond it
 -- T2 − tD is their exact difference, rounded once.

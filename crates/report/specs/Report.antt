@@ -19,7 +19,7 @@ use Rattle.text.specs.declared.Row.{Row}
 use Rattle.text.specs.Text.{reportLineWidth, linesText}
 use Rattle.sheet.specs.declared.Receptors.{Receptors}
 use Rattle.sheet.specs.Values.{Scenario, chemicalIn, receptorIn, scenarioWith, enteredFrom, exactFrom, exactWith}
-use Rattle.sheet.specs.Sheet.{pathwaysPerChemical, pathwayAt, columnsAt, totalAt, chained, linesPerReceptor, fastChemicals, largeLines}
+use Rattle.sheet.specs.Sheet.{pathwaysPerChemical, pathwayAt, columnsAt, totalAt, chained, linesPerReceptor, largeLines}
 
 -- ---- the lines: of receptor j, chemical i and pathway p, all counted from 0; pathways are printed from 1
 unfoldable pub rowAt : Scenario → ℕ → ℕ → ℕ → Row
@@ -50,9 +50,9 @@ unfoldable pub lengthOf : Scenario → ℕ
 lengthOf scenario = reportLineWidth * linesOfReport scenario
 
 -- ---- the conditions of document 01's table, for a deck and a report buffer of so many bytes
--- after the deck's own: 51, 41 by chemical, 42 by line
+-- after the deck's own: 51, 42 by line
 unfoldable pub reportConditions : Scenario → ℕ → List Condition
-reportConditions scenario room = at 51 0 0 (ltb room (lengthOf scenario)) ∷ fastChemicals scenario ++ largeLines scenario
+reportConditions scenario room = at 51 0 0 (ltb room (lengthOf scenario)) ∷ largeLines scenario
 
 -- A call on a deck: the sort of deck that it reads, and the receptors that it makes of the case, as pairs and exactly.
 pub record Call : Type 0 where

@@ -1,10 +1,8 @@
--- A scenario in range: its media are refused exactly where the high end of x, or of x′ for a receptor, is above 64, so that the sheet's call stops where
--- documents 01 and 02 say; and
--- where neither 41 nor 42 holds, every line with a reference value has its pair and its counts, and all counts and totals are small.
--- Assumes nothing.
-use mathlib.Core.Path.{_≡_, refl, sym, _∙_, ap, ap₂, subst}
-use mathlib.Core.Bool.{Bool, true, false, cond, not, _&&_, _||_, false≢true}
-use mathlib.Core.List.{List, [], _∷_, _++_}
+-- A scenario in range: no chemical's media are refused, however fast it is lost, so that the sheet's call stops where documents 01 and 02 say; and
+-- where 42 does not hold, every line with a reference value has its pair and its counts, and all counts and totals are small. Assumes nothing.
+use mathlib.Core.Path.{_≡_, refl, _∙_, ap, subst}
+use mathlib.Core.Bool.{Bool, true, false, cond, _&&_, false≢true}
+use mathlib.Core.List.{List, [], _∷_, _++_, append-assoc}
 use Prim.Native.Nat.{ℕ, zero, suc, _+_, _*_, _/_, _%_, _^_, _≤_, _<_}
 use native.Mathlib.Nat.{mul-le-mul-right}
 use native.Mathlib.Omega.{arith}
@@ -12,66 +10,40 @@ use lib.Dec.{lit≤}
 use borrow.Author.Tests.{le-ltb}
 use Rattle.pair.specs.declared.Pair.{Pair}
 use Rattle.pair.specs.declared.Units.{Units}
-use Rattle.pair.specs.Number.{isPair, atMost}
+use Rattle.pair.specs.Number.{isPair}
 use Rattle.pair.specs.Fraction.{minus}
-use Rattle.pair.specs.Calls.{Outcome, is, refused, compared, inUnits}
-use Rattle.pair.proofs.Promises.{compared-answered}
+use Rattle.pair.specs.Calls.{Outcome, is, refused, inUnits}
 use Rattle.equations.specs.declared.Pathway.{Pathway}
 use Rattle.equations.specs.declared.Pathway.the-variants.{Air, SoilSummer, AboveGround, BelowGround}
 use Rattle.equations.specs.declared.Effect.{Effect}
 use Rattle.equations.specs.declared.Effect.the-variants.{Hazard, Cancer}
 use Rattle.equations.specs.declared.Stay.{Stay}
 use Rattle.equations.specs.declared.Stay.the-variants.{Within, Beyond}
-use Rattle.equations.specs.Formula.{pairs}
 use Rattle.equations.specs.Page as page
 use Rattle.equations.specs.Page.{byMedium}
-use Rattle.equations.specs.Ranges.{sixtyFour}
-use Rattle.equations.specs.Readings.{Inputs, plainWith, summedAt, asAnswers, worked, exactly, inputs, byOwner}
-use Rattle.equations.proofs.Plain.{x-plain, x′-plain}
+use Rattle.equations.specs.Readings.{Inputs, pacesOf, exactly, inputs, byOwner}
 use Rattle.equations.proofs.Profile.{Good}
-use Rattle.equations.proofs.LineLaws.{ofLater, Works, Slow, medium-works, ground-works}
+use Rattle.equations.proofs.LineLaws.{ofLater, Works, medium-works, ground-works}
 use Rattle.slots.specs.Slots.{table, same, isIn, placeIn, ownerOf, placeOf}
 use Rattle.media.specs.declared.Media.{Media}
 use Rattle.media.specs.declared.Ground.{Ground}
-use Rattle.media.specs.Media.{bounded, slow, four, mediaIn, given, groundFrom}
-use Rattle.media.proofs.Means.{exponentFor, ground-page, mean-media}
+use Rattle.media.specs.Media.{four, mediaIn, groundFrom}
+use Rattle.media.proofs.Means.{ground-page, mean-media}
 use Rattle.deck.specs.declared.Status.the-variants.{Read}
 use Rattle.deck.specs.Conditions.{Condition, at, first}
 use Rattle.totals.specs.declared.Columns.{Columns}
 use Rattle.totals.specs.declared.Columns.the-variants as Cols
 use Rattle.totals.specs.Totals.{_added_}
 use Rattle.sheet.specs.Values.{Scenario, restOf, valuesOf, particlesOf, chemicalIn, receptorIn, stayIn, printedIn, pairsAt}
-use Rattle.sheet.specs.Sheet.{pathwaysPerChemical, pathwayAt, hasReference, figureAt, unitOf, counted, countedIn, columnsAt, addedOver, totalAt, isAbove, highAbove, exponentAt, laterExponentAt, isBeyond, fastLater, anyOf, tooFast, overCap, capOf, fastChemicals, largeLines}
-use Rattle.sheet.specs.Counts.{tooMany, isRefused, groundFor, meanWith, meanFor, stopsAt, noMediaAt, sheetConditions, Part, Mark, Low, High, cellOf, cellsOf, totalIn, CountsMost}
+use Rattle.sheet.specs.Sheet.{pathwaysPerChemical, pathwayAt, hasReference, figureAt, unitOf, counted, countedIn, columnsAt, addedOver, totalAt, chained, highAbove, overCap, capOf, largeLines}
+use Rattle.sheet.specs.Counts.{tooMany, isRefused, groundFor, meanWith, meanFor, anyOf, stopsAt, noMediaAt, sheetConditions, Part, Mark, Low, High, cellOf, cellsOf, totalIn, CountsMost}
 use Rattle.sheet.specs.DemandThree.{Exact}
 use Rattle.sheet.proofs.Sound.{Sound}
-use Rattle.sheet.proofs.Chains.{chained-same}
 use Rattle.sheet.proofs.Held.{columns-total}
-use Rattle.sheet.proofs.Clear.{not-fast, not-fast-later, not-large}
-use Rattle.sheet.proofs.LineTotals.{high-number, sixty-four-number, x-same, x-told, x′-told, x-slow, x′-slow, Figure, figure-counted, count-small}
+use Rattle.sheet.proofs.Clear.{not-large}
+use Rattle.sheet.proofs.LineTotals.{Figure, figure-counted, count-small}
 
--- ---- 41
--- an exponent's comparison with 64 decides whether what needs it is refused
-given-bounded : {A : Type 0} (b : Bool) (p : Pair) (m : Outcome A) → (not b ≡ false → isRefused m ≡ false) → isRefused (given (bounded (is b) p) m) ≡ not b
-unfolding given bounded isRefused
-given-bounded true p m h = h refl
-given-bounded false p m h = refl
-
-refused-given : {A : Type 0} (o : Outcome Pair) (p : Pair) → o ≡ is p → isPair p ≡ true → (m : Outcome A) → (highAbove sixtyFour o ≡ false → isRefused m ≡ false)
-    → isRefused (given (slow o) m) ≡ highAbove sixtyFour o
-unfolding slow highAbove isAbove
-refused-given o p e h m told =
-    let c : compared (p .high) sixtyFour ≡ is (atMost (p .high) sixtyFour) = compared-answered (p .high) sixtyFour (high-number p h) sixty-four-number in
-    let above : highAbove sixtyFour o ≡ not (atMost (p .high) sixtyFour) = ap (highAbove sixtyFour) e ∙ ap isAbove c in
-    ap (λ (a : Outcome Pair). isRefused (given (slow a) m)) e
-    ∙ ap (λ (a : Outcome Bool). isRefused (given (bounded a p) m)) c
-    ∙ given-bounded (atMost (p .high) sixtyFour) p m (λ f. told (above ∙ f))
-    ∙ sym above
-
-told-not : {A : Type 0} (o : Outcome A) (y : A) → o ≡ is y → isRefused o ≡ false
-unfolding isRefused
-told-not o y e = rw e refl
-
+-- ---- the media are told
 four-all : (a c f r : Outcome Pair) (p q s t : Pair) → a ≡ is p → c ≡ is q → f ≡ is s → r ≡ is t → (m : Media) × (four a c f r ≡ is m)
 unfolding four
 four-all a c f r p q s t e₁ e₂ e₃ e₄ =
@@ -81,105 +53,72 @@ ground-all : (l b : Outcome Pair) (m n : Outcome Media) (p q : Pair) (s t : Medi
 unfolding groundFrom isRefused
 ground-all l b m n p q s t e₁ e₂ e₃ e₄ = rw (e₁, e₂, e₃, e₄) refl
 
+told-not : {A : Type 0} (o : Outcome A) (y : A) → o ≡ is y → isRefused o ≡ false
+unfolding isRefused
+told-not o y e = rw e refl
+
 module _ (scenario : Scenario) {exact : Exact} (sound : Sound scenario exact) (j i : ℕ) (j-small : j < scenario .receptors .count) (i-small : i < scenario .chemicals .count) where
   env : Inputs Pair
   env = pairsAt scenario j i
 
   -- the page's media are told, whatever the exposure is against the deposition
-  media-told : (stay : Stay) → (ofLater stay .answered ≡ true → Good (ofLater stay) (is (env .later)) (minus (exact j i "T2") (exact j i "tD"))) → highAbove sixtyFour (exponentAt scenario i) ≡ false
-      → (stay ≡ Beyond → Slow (plainWith pairs (asAnswers env .value) (asAnswers env .later) page.x′)) → (e : Effect) → (m : Media) × (mediaIn env (page.soil e stay) ≡ is m)
+  media-told : (stay : Stay) → (ofLater stay .answered ≡ true → Good (ofLater stay) (is (env .later)) (minus (exact j i "T2") (exact j i "tD"))) → (e : Effect) → (m : Media) × (mediaIn env (page.soil e stay) ≡ is m)
   unfolding env mediaIn page.medium byMedium
-  media-told stay later h slow′ e =
-      let w : (p : Pathway) → (r : Pair) × Works stay env (exact j i) (page.medium e stay p) r = medium-works stay env (exact j i) (sound .inputs j i j-small i-small) later (x-slow scenario sound j i j-small i-small h) slow′ e in
+  media-told stay later e =
+      let w : (p : Pathway) → (r : Pair) × Works stay env (exact j i) (page.medium e stay p) r = medium-works stay env (exact j i) (sound .inputs j i j-small i-small) later e in
       four-all _ _ _ _ (w Air .0) (w SoilSummer .0) (w AboveGround .0) (w BelowGround .0) (w Air .1 .told) (w SoilSummer .1 .told) (w AboveGround .1 .told) (w BelowGround .1 .told)
 
   never-later : ofLater Within .answered ≡ true → Good (ofLater Within) (is (env .later)) (minus (exact j i "T2") (exact j i "tD"))
   unfolding ofLater
   never-later h = absurd (false≢true h)
 
-  never-beyond : Within ≡ Beyond → Slow (plainWith pairs (asAnswers env .value) (asAnswers env .later) page.x′)
-  never-beyond h = absurd (let z : _≡_ {A = ℕ} 0 1 = cc in omega arith)
-
-  within-told : highAbove sixtyFour (exponentAt scenario i) ≡ false → (e : Effect) → (m : Media) × (mediaIn env (page.soil e Within) ≡ is m)
-  within-told h = media-told Within never-later h never-beyond
-
-  -- the ground is refused exactly where x's high end is above 64
-  x-worked : worked env page.x ≡ exponentAt scenario i
-  unfolding env worked summedAt asAnswers
-  x-worked = x-plain pairs (asAnswers env) _ ∙ x-same scenario sound j i j-small i-small
-
-  ground-refused : isRefused (groundFor scenario i) ≡ highAbove sixtyFour (exponentAt scenario i)
-  unfolding env pairsAt groundFor particlesOf printedIn byOwner ownerOf placeOf table same isIn placeIn worked page.C page.soil page.mean highAbove
-  ground-refused =
-      let x = x-told scenario sound j i j-small i-small in
+  ground-told : isRefused (groundFor scenario i) ≡ false
+  unfolding env pairsAt groundFor particlesOf printedIn byOwner ownerOf placeOf table same isIn placeIn page.C page.soil page.mean
+  ground-told =
+      let g = ground-works Within env (exact j i) (sound .inputs j i j-small i-small) never-later in
+      let m : (e : Effect) → (m : Media) × (mediaIn env (page.soil e Within) ≡ is m) = media-told Within never-later in
       ap isRefused (ground-page (valuesOf (scenario .site)) (valuesOf (chemicalIn scenario i)) (receptorIn scenario j .values) (λ s. restOf (printedIn scenario i s)) (receptorIn scenario j .later))
-      ∙ refused-given (worked env page.x) (x .0) (x-worked ∙ x .1) (x .2) _
-      (λ h.
-      let slow : highAbove sixtyFour (exponentAt scenario i) ≡ false = sym (ap (highAbove sixtyFour) x-worked) ∙ h in
-      let g = ground-works Within env (exact j i) (sound .inputs j i j-small i-small) never-later (x-slow scenario sound j i j-small i-small slow) never-beyond in
-      ground-all _ _ _ _ (g .0 .0) (g .1 .0) (within-told slow Hazard .0) (within-told slow Cancer .0) (g .0 .1 .told) (g .1 .1 .told) (within-told slow Hazard .1) (within-told slow Cancer .1))
-      ∙ ap (highAbove sixtyFour) x-worked
+      ∙ ground-all _ _ _ _ (g .0 .0) (g .1 .0) (m Hazard .0) (m Cancer .0) (g .0 .1 .told) (g .1 .1 .told) (m Hazard .1) (m Cancer .1)
 
-  -- a receptor's mean is refused exactly where its x′ is above 64
-  x′-worked : worked env page.x′ ≡ laterExponentAt scenario i j
-  unfolding env worked summedAt asAnswers laterExponentAt
-  x′-worked = x′-plain pairs (asAnswers env) _
-
-  mean-by : (stay : Stay) → stayIn scenario j ≡ stay → highAbove sixtyFour (exponentAt scenario i) ≡ false
-      → isRefused (given (slow (worked env (exponentFor stay))) (mediaIn env (page.mean stay))) ≡ (isBeyond stay && highAbove sixtyFour (laterExponentAt scenario i j))
-  unfolding exponentFor isBeyond page.soil env pairsAt
-  mean-by Within e h =
-      let x = x-told scenario sound j i j-small i-small in
-      refused-given (worked env page.x) (x .0) (x-worked ∙ x .1) (x .2) (mediaIn env (page.mean Within)) (λ k. told-not _ _ (within-told h Cancer .1))
-      ∙ ap (highAbove sixtyFour) x-worked ∙ h
-  mean-by Beyond e h =
-      let x = x′-told scenario sound j i j-small i-small e in
-      refused-given (worked env page.x′) (x .0) (x′-worked ∙ x .1) (x .2) (mediaIn env (page.mean Beyond))
-      (λ k.
-      let later = subst (λ (t : Stay). ofLater t .answered ≡ true → Good (ofLater t) (is (env .later)) (minus (exact j i "T2") (exact j i "tD"))) e (sound .later j i j-small i-small) in
-      told-not _ _ (media-told Beyond later h (λ b. x′-slow scenario sound j i j-small i-small e (sym (ap (highAbove sixtyFour) x′-worked) ∙ k)) Cancer .1))
-      ∙ ap (highAbove sixtyFour) x′-worked
-
-  mean-refused : (ground : Ground) → groundFor scenario i ≡ is ground → highAbove sixtyFour (exponentAt scenario i) ≡ false → isRefused (meanFor scenario i j ground) ≡ fastLater scenario i j
-  unfolding env pairsAt fastLater meanFor meanWith stayIn groundFor particlesOf printedIn inputs byOwner ownerOf placeOf table same isIn placeIn
-  mean-refused ground laid h =
+  mean-told : (ground : Ground) → groundFor scenario i ≡ is ground → isRefused (meanFor scenario i j ground) ≡ false
+  unfolding env pairsAt meanFor meanWith stayIn groundFor particlesOf printedIn inputs byOwner ownerOf placeOf table same isIn placeIn page.soil
+  mean-told ground laid =
       ap isRefused (mean-media (valuesOf (scenario .site)) (valuesOf (chemicalIn scenario i)) (receptorIn scenario j .values) (λ s. restOf (printedIn scenario i s)) (receptorIn scenario j .later) ground laid (receptorIn scenario j .stay))
-      ∙ mean-by (receptorIn scenario j .stay) refl h
+      ∙ told-not _ _ (media-told (receptorIn scenario j .stay) (sound .later j i j-small i-small) Cancer .1)
 
-any-same : (f g : ℕ → Bool) (n : ℕ) → ((j : ℕ) → j < n → f j ≡ g j) → anyOf f n ≡ anyOf g n
+none-any : (f : ℕ → Bool) (n : ℕ) → ((j : ℕ) → j < n → f j ≡ false) → anyOf f n ≡ false
 unfolding anyOf
-any-same f g zero h = refl
-any-same f g (suc n) h = ap₂ _||_ (any-same f g n (λ j l. h j (omega arith))) (h n (omega arith))
+none-any f zero h = refl
+none-any f (suc n) h = rw (none-any f n (λ j l. h j (omega arith)), h n (omega arith)) refl
 
-stops-if : (o : Outcome Ground) (means : ℕ → Ground → Outcome Media) (n : ℕ) (b : Bool) (f : ℕ → Bool) → isRefused o ≡ b → ((ground : Ground) → o ≡ is ground → (j : ℕ) → j < n → isRefused (means j ground) ≡ f j)
-    → stopsAt o means n ≡ (b || anyOf f n)
+never-stops : (o : Outcome Ground) (means : ℕ → Ground → Outcome Media) (n : ℕ) → isRefused o ≡ false → ((ground : Ground) → o ≡ is ground → (j : ℕ) → j < n → isRefused (means j ground) ≡ false)
+    → stopsAt o means n ≡ false
 unfolding stopsAt isRefused
-stops-if (is ground) means n b f h g = rw (← h) (any-same (λ j. isRefused (means j ground)) f n (g ground refl))
-stops-if (refused k) means n b f h g = rw (← h) refl
+never-stops (is ground) means n h g = none-any (λ j. isRefused (means j ground)) n (g ground refl)
+never-stops (refused k) means n h g = h
 
-told-slow : (o : Outcome Ground) (ground : Ground) (b : Bool) → isRefused o ≡ b → o ≡ is ground → b ≡ false
-unfolding isRefused
-told-slow o ground b h e = sym h ∙ ap isRefused e
-
--- a chemical's media are refused exactly where the high end of x is above 64, or that of x′ for a receptor
-pub fast-exactly : (scenario : Scenario) {exact : Exact} → Sound scenario exact → (i : ℕ) → i < scenario .chemicals .count
-    → stopsAt (groundFor scenario i) (meanFor scenario i) (scenario .receptors .count) ≡ (highAbove sixtyFour (exponentAt scenario i) || anyOf (fastLater scenario i) (scenario .receptors .count))
-fast-exactly scenario sound i h =
-    let g = ground-refused scenario sound 0 i (sound .some-receptors) h in
-    stops-if (groundFor scenario i) (meanFor scenario i) (scenario .receptors .count) (highAbove sixtyFour (exponentAt scenario i)) (fastLater scenario i) g
-    (λ ground laid j l. mean-refused scenario sound j i l h ground laid (told-slow (groundFor scenario i) ground (highAbove sixtyFour (exponentAt scenario i)) g laid))
+-- no chemical's media are refused, those of a receptor's cancer among them
+pub none-refused : (scenario : Scenario) {exact : Exact} → Sound scenario exact → (i : ℕ) → i < scenario .chemicals .count
+    → stopsAt (groundFor scenario i) (meanFor scenario i) (scenario .receptors .count) ≡ false
+none-refused scenario sound i h =
+    never-stops (groundFor scenario i) (meanFor scenario i) (scenario .receptors .count) (ground-told scenario sound 0 i (sound .some-receptors) h)
+    (λ ground laid j l. mean-told scenario sound j i l h ground laid)
 
 pub few-records : (scenario : Scenario) {exact : Exact} → Sound scenario exact → tooMany scenario ≡ false
 unfolding tooMany
 few-records scenario sound = rw (le-ltb _ _ (sound .few-chemicals), le-ltb _ _ (sound .few-receptors)) refl
 
 -- the sheet's call stops where document 01 says
-pub conditions-agree : (scenario : Scenario) {exact : Exact} → Sound scenario exact → first (sheetConditions scenario) ≡ first (fastChemicals scenario ++ largeLines scenario)
-unfolding sheetConditions fastChemicals noMediaAt tooFast first
+none-first : (f : ℕ → List Condition) (n : ℕ) (rest : List Condition) → ((i : ℕ) → i < n → (r : List Condition) → first (f i ++ r) ≡ first r) → first (chained f n ++ rest) ≡ first rest
+unfolding chained
+none-first f zero rest h = refl
+none-first f (suc n) rest h = ap first (append-assoc (chained f n) (f n) rest) ∙ none-first f n (f n ++ rest) (λ i l. h i (omega arith)) ∙ h n (omega arith) rest
+
+pub conditions-agree : (scenario : Scenario) {exact : Exact} → Sound scenario exact → first (sheetConditions scenario) ≡ first (largeLines scenario)
+unfolding sheetConditions noMediaAt first
 conditions-agree scenario sound =
     rw (few-records scenario sound)
-    (ap (λ (l : List Condition). first (l ++ largeLines scenario))
-    (chained-same (noMediaAt scenario) (tooFast scenario) (scenario .chemicals .count) (λ i h. ap (λ (b : Bool). at 41 (suc i) 0 b ∷ []) (fast-exactly scenario sound i h))))
+    (none-first (noMediaAt scenario) (scenario .chemicals .count) (largeLines scenario) (λ i h r. rw (none-refused scenario sound i h) refl))
 
 -- ---- a line with its reference value: the pair that the working rule gives, and its counts
 pub record Line (scenario : Scenario) (e : Effect) (j i : ℕ) (w : Pathway) : Type 0 where
@@ -230,12 +169,12 @@ unfolding CountsMost
 most-more m n Cols.Absent l h = tt
 most-more m n (Cols.Counted a b) l h = (omega arith, omega arith)
 
-module _ (scenario : Scenario) {exact : Exact} (sound : Sound scenario exact) (slow : first (fastChemicals scenario) ≡ Read) (small : first (largeLines scenario) ≡ Read) where
+module _ (scenario : Scenario) {exact : Exact} (sound : Sound scenario exact) (small : first (largeLines scenario) ≡ Read) where
   module _ (e : Effect) (j i p : ℕ) (j-small : j < scenario .receptors .count) (i-small : i < scenario .chemicals .count) (p-small : p < pathwaysPerChemical) where
     figure : hasReference e scenario i (pathwayAt p) ≡ true → Figure scenario exact j i e (pathwayAt p)
     unfolding overCap
     figure h =
-        figure-counted scenario sound j i j-small i-small (not-fast scenario slow i i-small) (not-fast-later scenario slow i i-small j j-small) e (pathwayAt p)
+        figure-counted scenario sound j i j-small i-small e (pathwayAt p)
         (capped (hasReference e scenario i (pathwayAt p)) (highAbove (capOf e) (figureAt e scenario j i (pathwayAt p))) h (not-large scenario small e j i p j-small i-small p-small))
 
     pub line-by-rule : hasReference e scenario i (pathwayAt p) ≡ true → Line scenario e j i (pathwayAt p)
@@ -255,7 +194,7 @@ module _ (scenario : Scenario) {exact : Exact} (sound : Sound scenario exact) (s
     unfolding columnsAt figureAt countedIn counted CountsMost
     columns-small =
         most-if (hasReference e scenario i (pathwayAt p)) e (figureAt e scenario j i (pathwayAt p))
-        (λ h. let f = figure h in rw (f .works .told, f .told) (count-small e (f .pair) (f .units) (exactly 256 (exact j i) (page.line e (stayIn scenario j) (pathwayAt p))) (f .told) (f .works .held 256 (lit≤ tt)) (f .capped)))
+        (λ h. let f = figure h in rw (f .works .told, f .told) (count-small e (f .pair) (f .units) (exactly 256 (pacesOf (pairsAt scenario j i)) (exact j i) (page.line e (stayIn scenario j) (pathwayAt p))) (f .told) (f .works .held 256 (lit≤ tt)) (f .capped)))
 
   pub total-small : (e : Effect) (j : ℕ) → j < scenario .receptors .count → CountsMost (96 * 10 ^ 16) (totalAt e scenario j)
   unfolding totalAt

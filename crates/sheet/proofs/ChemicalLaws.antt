@@ -1,4 +1,4 @@
--- A chemical's source: its receptors' means one after another, and 41 where its media are refused. Assumes nothing.
+-- A chemical's source: its receptors' means one after another, and 53 where its media are refused. Assumes nothing.
 use mathlib.Core.Path.{_≡_, refl, sym, ap, ap₂, subst, _∙_}
 use mathlib.Core.Logic.{_⊎_, ⊎-elim}
 use mathlib.Core.Bool.{Bool, true, false, not, Bool·not-not, or-true, false≢true}
@@ -34,8 +34,8 @@ use Rattle.sheet.specs.declared.Receptor.{Receptor}
 use Rattle.sheet.specs.declared.Receptors.{Receptors}
 use Rattle.sheet.specs.declared.Source.{Source}
 use Rattle.sheet.specs.Values.{valuesOf, particlesOf, noReceptor}
-use Rattle.sheet.specs.Sheet.{chained, anyOf}
-use Rattle.sheet.specs.Counts.{isRefused, meanWith, stopsAt}
+use Rattle.sheet.specs.Sheet.{chained}
+use Rattle.sheet.specs.Counts.{isRefused, meanWith, anyOf, stopsAt}
 use Rattle.sheet.specs.Inner.{mediaFrom, groundWith, meansOf, referencesOf, sourceWith, sourceFrom, sourceOf, noSource, sourcesOf, sourceAt, stopsWith, refusedSource}
 use Rattle.sheet.proofs.Chains as chains
 
@@ -131,11 +131,11 @@ module _ (site′ : Values) (receptors′ : Receptors) (records : List Record) (
         let c = stops-is true w in
         chains.goes-on (refusedSource site′ receptors′ records) i none Read (rw c refl) refl
 
-    pub stops : worked ≡ false → (count : ℕ) → i < count → (t : Status) → t ≡ Stopped 41 (i + 1) 0 → t ≡ first (chained (refusedSource site′ receptors′ records) count)
+    pub stops : worked ≡ false → (count : ℕ) → i < count → (t : Status) → t ≡ Stopped 53 (i + 1) 0 → t ≡ first (chained (refusedSource site′ receptors′ records) count)
     unfolding refusedSource first
     stops w count l t e =
         let c = stops-is false w in
-        chains.stops (refusedSource site′ receptors′ records) i none t (e ∙ rw (c, add-one) refl) count l 41 (i + 1) 0 e
+        chains.stops (refusedSource site′ receptors′ records) i none t (e ∙ rw (c, add-one) refl) count l 53 (i + 1) 0 e
 
 pub source-at : (site′ : Values) (receptors′ : Receptors) (chemicals′ : Chemicals) (i : ℕ) → i < chemicals′ .count
     → sourceAt (sourcesOf site′ receptors′ chemicals′) i ≡ sourceOf site′ receptors′ (getD (chemicals′ .records) i noRecord)

@@ -1,5 +1,4 @@
--- Where neither 41 nor 42 holds: no chemical's x is above 64, nor its x′ for a receptor exposed beyond the deposition, and no line with a
--- reference value is above its cap. Assumes nothing.
+-- Where 42 does not hold no line with a reference value is above its cap. Assumes nothing.
 use mathlib.Core.Path.{_≡_, sym, subst}
 use mathlib.Core.Bool.{Bool, false, _&&_, _||_}
 use mathlib.Core.List.{[]}
@@ -7,15 +6,14 @@ use mathlib.Core.Logic.{_⊎_, inl, inr, ⊎-elim}
 use Prim.Native.Nat.{ℕ, zero, suc, _+_, _*_, _≤_, _<_}
 use native.Mathlib.Nat.{eq-or-lt-of-le}
 use native.Mathlib.Omega.{arith}
-use Rattle.equations.specs.declared.Stay.the-variants.{Beyond}
 use Rattle.equations.specs.declared.Effect.{Effect}
 use Rattle.equations.specs.declared.Effect.the-variants.{Hazard, Cancer}
 use Rattle.deck.specs.declared.Status.the-variants.{Read}
 use Rattle.deck.specs.Conditions.{at, first}
 use Rattle.deck.proofs.Scan.{first-read, neither}
-use Rattle.equations.specs.Ranges.{sixtyFour}
-use Rattle.sheet.specs.Values.{Scenario, stayIn}
-use Rattle.sheet.specs.Sheet.{pathwayAt, pathwaysPerChemical, chained, linesPerReceptor, highAbove, exponentAt, laterExponentAt, isBeyond, fastLater, anyOf, tooFast, overCap, lineTooLarge, fastChemicals, largeLines}
+use Rattle.sheet.specs.Values.{Scenario}
+use Rattle.sheet.specs.Sheet.{pathwayAt, pathwaysPerChemical, chained, linesPerReceptor, overCap, lineTooLarge, largeLines}
+use Rattle.sheet.specs.Counts.{anyOf}
 use Rattle.sheet.proofs.Chains.{chained-each}
 
 either : (e : Effect) (f : Effect → Bool) → (f Hazard || f Cancer) ≡ false → f e ≡ false
@@ -35,23 +33,6 @@ none-of f (suc n) h j l =
 
     last-or : j < suc n → (n ≡ j) ⊎ (j < n)
     last-or k = ⊎-elim (λ e. inl (sym e)) (λ m. inr m) (order (omega arith))
-
--- 41 does not hold
-module _ (scenario : Scenario) (none : first (fastChemicals scenario) ≡ Read) (i : ℕ) (here : i < scenario .chemicals .count) where
-  not-told : (highAbove sixtyFour (exponentAt scenario i) || anyOf (fastLater scenario i) (scenario .receptors .count)) ≡ false
-  unfolding fastChemicals tooFast
-  not-told =
-      first-read (at 41 (suc i) 0 (highAbove sixtyFour (exponentAt scenario i) || anyOf (fastLater scenario i) (scenario .receptors .count))) []
-      (chained-each (tooFast scenario) (scenario .chemicals .count) none i here) .0
-
-  pub not-fast : highAbove sixtyFour (exponentAt scenario i) ≡ false
-  not-fast = neither (highAbove sixtyFour (exponentAt scenario i)) (anyOf (fastLater scenario i) (scenario .receptors .count)) not-told .0
-
-  pub not-fast-later : (j : ℕ) → j < scenario .receptors .count → stayIn scenario j ≡ Beyond → highAbove sixtyFour (laterExponentAt scenario i j) ≡ false
-  unfolding fastLater isBeyond
-  not-fast-later j h e =
-      let a = neither (highAbove sixtyFour (exponentAt scenario i)) (anyOf (fastLater scenario i) (scenario .receptors .count)) not-told .1 in
-      rw e at (none-of (fastLater scenario i) (scenario .receptors .count) a j h)
 
 -- 42 does not hold
 pub not-large : (scenario : Scenario) → first (largeLines scenario) ≡ Read → (e : Effect) (j i p : ℕ) → j < scenario .receptors .count → i < scenario .chemicals .count → p < pathwaysPerChemical → overCap e scenario j i (pathwayAt p) ≡ false

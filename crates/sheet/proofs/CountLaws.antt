@@ -80,7 +80,7 @@ module _ (scenario : Scenario) (site′ : Values) (sources : Sources) (at-site :
 
   media-found : (i : ℕ) → i < scenario .chemicals .count → stopsAt (groundFor scenario i) (meanFor scenario i) (scenario .receptors .count) ≡ false
   unfolding noMediaAt
-  media-found i h = first-read (at 41 (suc i) 0 (stopsAt (groundFor scenario i) (meanFor scenario i) (scenario .receptors .count))) [] (chained-each (noMediaAt scenario) (scenario .chemicals .count) none i h) .0
+  media-found i h = first-read (at 53 (suc i) 0 (stopsAt (groundFor scenario i) (meanFor scenario i) (scenario .receptors .count))) [] (chained-each (noMediaAt scenario) (scenario .chemicals .count) none i h) .0
 
   -- the line of chemical i by pathway p
   module _ (j i p : ℕ) (l : j < scenario .receptors .count) (h : i < scenario .chemicals .count) where
@@ -162,7 +162,7 @@ module _ (scenario : Scenario) where
           chained-same (refusedSource site′ (scenario .receptors) (scenario .chemicals .records)) (noMediaAt scenario) (scenario .chemicals .count)
           (λ i h. ap (λ (v : Values). refusedSource v (scenario .receptors) (scenario .chemicals .records) i) at-site)
 
-      -- 41
+      -- 53
       pub chemical-stops : (s : Status) → s ≡ first (chained (refusedSource site′ (scenario .receptors) (scenario .chemicals .records)) (scenario .chemicals .count)) → (number line field : ℕ)
           → s ≡ Stopped number line field → (cells : List ℕ) → cells ≡ noCells → Told s cells
       unfolding orElse

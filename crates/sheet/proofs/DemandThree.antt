@@ -1,4 +1,4 @@
--- Demand 3 of a sound scenario: where neither 41 nor 42 holds, for every receptor and effect and every number of series terms from 256 up, a
+-- Demand 3 of a sound scenario: where 42 does not hold, for every receptor and effect and every number of series terms from 256 up, a
 -- receptor's total encloses the exact sum of its lines that have the reference value, and its ends are close; it is - exactly where there is
 -- no such line. An ordinary case in range is one; so is whatever else gives receptors in range. Assumes nothing.
 use mathlib.Core.Path.{_≡_}
@@ -7,25 +7,25 @@ use Rattle.equations.specs.declared.Effect.{Effect}
 use Rattle.deck.specs.declared.Status.the-variants.{Read}
 use Rattle.deck.specs.Conditions.{first}
 use Rattle.sheet.specs.Values.{Scenario, scenarioWith, enteredFrom, ordinaryOf}
-use Rattle.sheet.specs.Sheet.{pathwaysPerChemical, pathwayAt, columnsAt, addedOver, totalAt, fastChemicals, largeLines}
+use Rattle.sheet.specs.Sheet.{pathwaysPerChemical, pathwayAt, columnsAt, addedOver, totalAt, largeLines}
 use Rattle.sheet.specs.DemandThree.{Exact, exactLine, lineCounts, sumOver, countOver, exactTotal, linesAdded, TotalHolds, CaseDemand3}
 use Rattle.sheet.proofs.Sound.{Sound}
 use Rattle.sheet.proofs.Entered.{ordinary-sound}
-use Rattle.sheet.proofs.Clear.{not-fast, not-fast-later, not-large}
+use Rattle.sheet.proofs.Clear.{not-large}
 use Rattle.sheet.proofs.LineTotals.{line-totals}
 use Rattle.sheet.proofs.TotalLaws.{totals-over, totals-hold}
 
-pub scenario-demand-3 : (scenario : Scenario) {exact : Exact} → Sound scenario exact → first (fastChemicals scenario) ≡ Read → first (largeLines scenario) ≡ Read
+pub scenario-demand-3 : (scenario : Scenario) {exact : Exact} → Sound scenario exact → first (largeLines scenario) ≡ Read
     → (j : ℕ) → j < scenario .receptors .count → (N : ℕ) → 256 ≤ N → (e : Effect) → TotalHolds (totalAt e scenario j) (linesAdded e scenario) (exactTotal e scenario exact N j)
 unfolding totalAt linesAdded exactTotal
-scenario-demand-3 scenario {exact} sound slow small j l N n e =
+scenario-demand-3 scenario {exact} sound small j l N n e =
     totals-hold (totalAt e scenario j) (linesAdded e scenario) (exactTotal e scenario exact N j)
     (totals-over (λ i. addedOver (λ p. columnsAt e scenario j i (pathwayAt p)) pathwaysPerChemical) (λ i. countOver (λ p. lineCounts e scenario i (pathwayAt p)) pathwaysPerChemical)
     (λ i. sumOver (λ p. exactLine e scenario exact N j i (pathwayAt p)) pathwaysPerChemical) (scenario .chemicals .count)
     (λ i h.
     totals-over (λ p. columnsAt e scenario j i (pathwayAt p)) (λ p. lineCounts e scenario i (pathwayAt p)) (λ p. exactLine e scenario exact N j i (pathwayAt p)) pathwaysPerChemical
-    (λ p k. line-totals scenario sound j i l h (not-fast scenario slow i h) (not-fast-later scenario slow i h j l) e (pathwayAt p) (not-large scenario small e j i p l h k) N n)))
+    (λ p k. line-totals scenario sound j i l h e (pathwayAt p) (not-large scenario small e j i p l h k) N n)))
 
 pub case-demand-3 : CaseDemand3
 unfolding CaseDemand3 ordinaryOf scenarioWith enteredFrom
-case-demand-3 case ranged slow small = scenario-demand-3 (ordinaryOf case) (ordinary-sound case ranged) slow small
+case-demand-3 case ranged small = scenario-demand-3 (ordinaryOf case) (ordinary-sound case ranged) small

@@ -1,6 +1,8 @@
--- The crate's laws: what is worked against what is defined, what cells hold, and demand 3 of a case (`DemandThree`). Assumes nothing.
+-- The crate's laws: what is worked against what is defined, what cells hold, that 41 is not told (`WithoutLaws`), and demand 3 of a case
+-- (`DemandThree`). Assumes nothing.
 mod ValueLaws
 pub mod Chains
+pub mod WithoutLaws
 pub mod Sound
 pub mod Inputs
 pub mod ExposureLaws

@@ -1,6 +1,5 @@
--- A line with a reference value: where x and x′ are at most 64 and the line at most its cap, its counts enclose its exact fraction and are close.
--- Assumes nothing.
-use mathlib.Core.Path.{_≡_, refl, sym, _∙_, ap, subst}
+-- A line with a reference value: where it is at most its cap, its counts enclose its exact fraction and are close. Assumes nothing.
+use mathlib.Core.Path.{_≡_, _∙_, ap, subst}
 use mathlib.Core.Bool.{Bool, true, false, cond, _&&_}
 use Prim.Native.Nat.{ℕ, suc, _+_, _*_, _^_, _≤_, _<_}
 use native.Mathlib.Nat.{le-trans, mul-le-mul-right, le-of-mul-le-mul-right, lt-of-mul-lt-mul-right}
@@ -20,25 +19,20 @@ use Rattle.pair.proofs.Promises.{through, ordered, number-written, size-reach, 
 use Rattle.equations.specs.declared.Pathway.{Pathway}
 use Rattle.equations.specs.declared.Effect.{Effect}
 use Rattle.equations.specs.declared.Effect.the-variants.{Hazard, Cancer}
-use Rattle.equations.specs.Formula.{read, pairs}
-use Rattle.equations.specs.Page as page
-use Rattle.equations.specs.Page.{x, x′, line}
-use Rattle.equations.specs.declared.Stay.the-variants.{Beyond}
-use Rattle.equations.specs.Readings.{letters, noSeries, plainWith, plain, asAnswers, exactInputs, exactly, inputs, byOwner}
-use Rattle.equations.specs.Ranges.{sixtyFour}
-use Rattle.equations.proofs.LineLaws.{ofX′, Works, Slow, x-answered, x′-answered, line-works, line-narrow}
+use Rattle.equations.specs.Page.{line}
+use Rattle.equations.specs.Readings.{pacesOf, exactly}
+use Rattle.equations.proofs.LineLaws.{Works, line-works, line-narrow}
 use Rattle.deck.specs.Ranges.{above, below}
-use Rattle.slots.specs.Slots.{table, same, isIn, placeIn, ownerOf, placeOf}
 use Rattle.totals.specs.declared.Columns.the-variants as Cols
 use Rattle.sheet.specs.Values.{Scenario, stayIn, pairsAt}
-use Rattle.sheet.specs.Sheet.{hasReference, figureAt, unitOf, capOf, counted, countedIn, columnsAt, isAbove, highAbove, exponentAt, laterExponentAt, overCap}
+use Rattle.sheet.specs.Sheet.{hasReference, figureAt, unitOf, capOf, counted, countedIn, columnsAt, isAbove, highAbove, overCap}
 use Rattle.sheet.specs.DemandThree.{Exact, Enclosed, unitsPerOne, inUnitsOf, nothing, exactLine, lineCounts}
 use Rattle.sheet.proofs.Sound.{Sound}
 use Rattle.sheet.proofs.Inputs.{ten-above, place-power}
 use Rattle.sheet.proofs.TotalLaws.{Totals, totals-none}
 
 -- ---- bounds
-pub high-number : (p : Pair) → isPair p ≡ true → isNumber (p .high) ≡ true
+high-number : (p : Pair) → isPair p ≡ true → isNumber (p .high) ≡ true
 high-number p h = ordered p h .high
 
 not-above : (b : Number) (p : Pair) → isNumber b ≡ true → isPair p ≡ true → highAbove b (is p) ≡ false → value (p .high) ≤ᶠ value b
@@ -56,10 +50,6 @@ unit-power : (e : Effect) → 10 ^ place (unitOf e) * unitsPerOne e ≡ 10 ^ dep
 unfolding unitOf unitsPerOne
 unit-power Hazard = power 11 (lit≤ tt)
 unit-power Cancer = power 14 (lit≤ tt)
-
-pub sixty-four-number : isNumber sixtyFour ≡ true
-unfolding sixtyFour
-sixty-four-number = number-written 640000000 (negsuc 6) (lit≤ tt) (lit≤ tt) (lit< tt)
 
 cap-number : (e : Effect) → isNumber (capOf e) ≡ true
 unfolding capOf
@@ -155,37 +145,8 @@ pub record Figure (scenario : Scenario) (exact : Exact) (j i : ℕ) (e : Effect)
   pub told : inUnits pair (unitOf e) ≡ is units
 
 module _ (scenario : Scenario) {exact : Exact} (sound : Sound scenario exact) (j i : ℕ) (j-small : j < scenario .receptors .count) (i-small : i < scenario .chemicals .count) where
-  -- x names no receptor's slot
-  pub x-same : plain pairs (asAnswers (pairsAt scenario j i) .value) x ≡ exponentAt scenario i
-  unfolding exponentAt plain plainWith noSeries asAnswers read letters x page.k page.u page.kse page.ksr page.ksl pairs pairsAt inputs byOwner ownerOf placeOf table same isIn placeIn
-  x-same = refl
-
-  -- x and x′ are pairs
-  pub x-told : (p : Pair) × (exponentAt scenario i ≡ is p) × (isPair p ≡ true)
-  x-told =
-      let a = x-answered (stayIn scenario j) (pairsAt scenario j i) (exact j i) (sound .inputs j i j-small i-small) (sound .later j i j-small i-small) in
-      (a .0, sym x-same ∙ a .1, a .2)
-
-  pub x′-told : stayIn scenario j ≡ Beyond → (p : Pair) × (laterExponentAt scenario i j ≡ is p) × (isPair p ≡ true)
-  unfolding laterExponentAt
-  x′-told e =
-      let a = x′-answered (stayIn scenario j) (pairsAt scenario j i) (exact j i) (sound .inputs j i j-small i-small) (sound .later j i j-small i-small) e in
-      (a .0, a .1, a .2)
-
-  slow-from : (o : Outcome Pair) (p : Pair) → o ≡ is p → isPair p ≡ true → highAbove sixtyFour o ≡ false → Slow o
-  slow-from o p e h t = record { pair = p; told = e; most = not-above sixtyFour p sixty-four-number h (subst (λ (a : Outcome Pair). highAbove sixtyFour a ≡ false) e t) }
-
-  pub x-slow : highAbove sixtyFour (exponentAt scenario i) ≡ false → Slow (plain pairs (asAnswers (pairsAt scenario j i) .value) x)
-  x-slow h = subst Slow (sym x-same) (slow-from (exponentAt scenario i) (x-told .0) (x-told .1) (x-told .2) h)
-
-  pub x′-slow : stayIn scenario j ≡ Beyond → highAbove sixtyFour (laterExponentAt scenario i j) ≡ false → Slow (plainWith pairs (asAnswers (pairsAt scenario j i) .value) (asAnswers (pairsAt scenario j i) .later) x′)
-  unfolding laterExponentAt
-  x′-slow e h = slow-from (laterExponentAt scenario i j) (x′-told e .0) (x′-told e .1) (x′-told e .2) h
-
-module _ (scenario : Scenario) {exact : Exact} (sound : Sound scenario exact) (j i : ℕ) (j-small : j < scenario .receptors .count) (i-small : i < scenario .chemicals .count) (slow : highAbove sixtyFour (exponentAt scenario i) ≡ false) (slow′ : stayIn scenario j ≡ Beyond → highAbove sixtyFour (laterExponentAt scenario i j) ≡ false) where
   figure-works : (e : Effect) (w : Pathway) → (r : Pair) × Works (stayIn scenario j) (pairsAt scenario j i) (exact j i) (line e (stayIn scenario j) w) r
-  figure-works e w = line-works (stayIn scenario j) (pairsAt scenario j i) (exact j i) (sound .inputs j i j-small i-small) (sound .later j i j-small i-small)
-      (x-slow scenario sound j i j-small i-small slow) (λ b. x′-slow scenario sound j i j-small i-small b (slow′ b)) e w
+  figure-works e w = line-works (stayIn scenario j) (pairsAt scenario j i) (exact j i) (sound .inputs j i j-small i-small) (sound .later j i j-small i-small) e w
 
   pub figure-counted : (e : Effect) (w : Pathway) → highAbove (capOf e) (figureAt e scenario j i w) ≡ false → Figure scenario exact j i e w
   unfolding figureAt
@@ -197,11 +158,11 @@ module _ (scenario : Scenario) {exact : Exact} (sound : Sound scenario exact) (j
       record { pair = r; works = k; capped = b; units = a .0; told = a .1 }
 
   figure-totals : (e : Effect) (w : Pathway) → highAbove (capOf e) (figureAt e scenario j i w) ≡ false → (N : ℕ) → 256 ≤ N →
-      Totals (countedIn (unitOf e) (figureAt e scenario j i w)) 1 (inUnitsOf e (exactly N (exact j i) (line e (stayIn scenario j) w)))
+      Totals (countedIn (unitOf e) (figureAt e scenario j i w)) 1 (inUnitsOf e (exactly N (pacesOf (pairsAt scenario j i)) (exact j i) (line e (stayIn scenario j) w)))
   unfolding figureAt countedIn counted Totals
   figure-totals e w c N n =
       let f : Figure scenario exact j i e w = figure-counted e w c in
-      let x : Fraction = exactly N (exact j i) (line e (stayIn scenario j) w) in
+      let x : Fraction = exactly N (pacesOf (pairsAt scenario j i)) (exact j i) (line e (stayIn scenario j) w) in
       let q : Enclosed (f .units .low) (f .units .high) 1 (inUnitsOf e x) =
       line-enclosed e (f .pair) (f .units) x (f .told) (f .works .held N n) (line-narrow (stayIn scenario j) (pairsAt scenario j i) (exact j i) e w (f .pair) (f .works))
       in
@@ -209,7 +170,7 @@ module _ (scenario : Scenario) {exact : Exact} (sound : Sound scenario exact) (j
       rw (f .works .told, f .told) (enclosed-from _ _ (f .units) (inUnitsOf e x) q (omega arith) (omega (arith, s)) (omega (arith, q .close)))
 
   by-reference : (t : Bool) (e : Effect) (w : Pathway) → (t && highAbove (capOf e) (figureAt e scenario j i w)) ≡ false → (N : ℕ) → 256 ≤ N →
-      Totals (cond t (countedIn (unitOf e) (figureAt e scenario j i w)) Cols.Absent) (cond t 1 0) (cond t (inUnitsOf e (exactly N (exact j i) (line e (stayIn scenario j) w))) nothing)
+      Totals (cond t (countedIn (unitOf e) (figureAt e scenario j i w)) Cols.Absent) (cond t 1 0) (cond t (inUnitsOf e (exactly N (pacesOf (pairsAt scenario j i)) (exact j i) (line e (stayIn scenario j) w))) nothing)
   by-reference true e w c N n = figure-totals e w c N n
   by-reference false e w c N n = totals-none
 

@@ -17,12 +17,12 @@ use Rattle.equations.specs.declared.Stay.the-variants.{Within, Beyond}
 use Rattle.equations.specs.Formula.{read, pairs}
 use Rattle.equations.specs.Page as page
 use Rattle.equations.specs.Page.{byRoute, byMedium, figureBy, intakeBy, referenceSlot}
-use Rattle.equations.specs.Readings.{Inputs, letters, noSeries, plainWith, plain, asAnswers, worked, byOwner, inputs}
+use Rattle.equations.specs.Readings.{Inputs, letters, noGrowth, plainWith, plain, asAnswers, worked, byOwner, inputs}
 use Rattle.media.specs.declared.Conc.{Conc}
 use Rattle.media.specs.declared.Media.{Media}
 use Rattle.media.specs.declared.Ground.{Ground}
 use Rattle.media.specs.Media.{mediaInputs, mediaIn, groundOf, meanMedia, noMedia}
-use Rattle.media.proofs.Means.{Told, four-told, given-told, ground-highest, mean-media}
+use Rattle.media.proofs.Means.{Told, four-told, ground-highest, mean-media}
 use Rattle.pathway.specs.declared.Factor.{Factor}
 use Rattle.pathway.specs.declared.Dose.{Dose}
 use Rattle.pathway.specs.Lines.{Optional, some, none, workedFor, factorOf, concentrationFor, doseOf, figureOf, rfdGiven, csfGiven, rfdValue, csfValue, absorbedOf, habitsOf, figureIfGiven, figuresWith}
@@ -94,8 +94,7 @@ module _ (scenario : Scenario) (j i : ℕ) (ground : Ground) (laid : groundFor s
   unfolding pairsAt page.soil mediaBy S C R rests
   media-page Hazard = ground-highest S C R rests (receptorIn scenario j .later) ground ground-is
   media-page Cancer =
-      let m = mean-media S C R rests (receptorIn scenario j .later) ground ground-is (stayIn scenario j) in
-      given-told _ (mediaIn (pairsAt scenario j i) (page.mean (stayIn scenario j))) mean (sym m ∙ mean-page) .2
+      sym (mean-media S C R rests (receptorIn scenario j .later) ground ground-is (stayIn scenario j)) ∙ mean-page
 
   media-told : (e : Effect) → Told (worked (pairsAt scenario j i) page.A) (worked (pairsAt scenario j i) (page.soil e (stayIn scenario j)))
       (worked (pairsAt scenario j i) (page.aboveGround (page.soil e (stayIn scenario j)))) (worked (pairsAt scenario j i) (page.belowGround (page.soil e (stayIn scenario j)))) (mediaBy e (ground .highest) mean)
@@ -114,7 +113,7 @@ module _ (scenario : Scenario) (j i : ℕ) (ground : Ground) (laid : groundFor s
 -- ---- the factors, in which neither a series nor a difference stands
 exposure-read : (p : Pathway) (scenario : Scenario) (j i : ℕ) →
     workedFor (valuesOf (scenario .site)) (valuesOf (chemicalIn scenario i)) (receptorIn scenario j .values) (page.exposure p) ≡ worked (pairsAt scenario j i) (page.exposure p)
-unfolding workedFor worked plain plainWith noSeries read letters pairs asAnswers pairsAt page.exposure
+unfolding workedFor worked plain plainWith noGrowth read letters pairs asAnswers pairsAt page.exposure
 exposure-read Air scenario j i = refl
 exposure-read SoilSummer scenario j i = refl
 exposure-read SoilWinter scenario j i = refl
@@ -124,13 +123,13 @@ exposure-read BelowGround scenario j i = refl
 
 base-read : (e : Effect) (scenario : Scenario) (j i : ℕ) →
     workedFor (valuesOf (scenario .site)) (valuesOf (chemicalIn scenario i)) (receptorIn scenario j .values) (page.B e) ≡ worked (pairsAt scenario j i) (page.B e)
-unfolding workedFor worked plain plainWith noSeries read letters pairs asAnswers pairsAt page.B page.AT
+unfolding workedFor worked plain plainWith noGrowth read letters pairs asAnswers pairsAt page.B page.AT
 base-read Hazard scenario j i = refl
 base-read Cancer scenario j i = refl
 
 factor-read : (e : Effect) (p : Pathway) (scenario : Scenario) (j i : ℕ) →
     workedFor (valuesOf (scenario .site)) (valuesOf (chemicalIn scenario i)) (receptorIn scenario j .values) (page.factor e p) ≡ worked (pairsAt scenario j i) (page.factor e p)
-unfolding workedFor worked plain plainWith noSeries read pairs page.factor
+unfolding workedFor worked plain plainWith noGrowth read pairs page.factor
 factor-read e p scenario j i = ap₂ (after quotient) (exposure-read p scenario j i) (base-read e scenario j i)
 
 -- ---- a dose

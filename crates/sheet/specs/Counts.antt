@@ -2,7 +2,7 @@
 -- and every list of cells has its answer.
 use mathlib.Core.Bool.{Bool, true, false, cond, _&&_, _||_}
 use mathlib.Core.List.{List, [], _∷_, _++_}
-use Prim.Native.Nat.{ℕ, suc, _+_, _*_, _/_, _%_, _≤_}
+use Prim.Native.Nat.{ℕ, zero, suc, _+_, _*_, _/_, _%_, _≤_}
 use lib.Dec.{eqb, ltb}
 use lib.ListN.{length, getD, take, drop}
 use Rattle.pair.specs.Calls.{Outcome, is, refused}
@@ -24,11 +24,10 @@ use Rattle.totals.specs.declared.Columns.{Columns}
 use Rattle.totals.specs.declared.Columns.the-variants as Cols
 use Rattle.totals.specs.Totals.{totalOf}
 use Rattle.sheet.specs.Values.{Scenario, mostWorked, valuesOf, particlesOf, chemicalIn, receptorIn}
-use Rattle.sheet.specs.Sheet.{pathwaysPerChemical, pathwayAt, columnsAt, chained, anyOf, largeLines}
+use Rattle.sheet.specs.Sheet.{pathwaysPerChemical, pathwayAt, columnsAt, chained, largeLines}
 
--- ---- what stops a scenario: more records than a deck holds (21), a chemical whose media are refused (41), those of one receptor's cancer among
--- them, a line above its cap (42). In a scenario whose values lie in their ranges the media are refused exactly where the high end of x, or of
--- x′ for a receptor, is above 64 (`fast-exactly`).
+-- ---- what stops a scenario: more records than a deck holds (21), a chemical whose media are refused (53), those of one receptor's cancer among
+-- them, a line above its cap (42). In a scenario whose values lie in their ranges no media are refused (`none-refused`).
 unfoldable pub tooMany : Scenario → Bool
 tooMany scenario = ltb maxChemicals (scenario .chemicals .count) || ltb mostWorked (scenario .receptors .count)
 
@@ -46,13 +45,18 @@ meanWith site′ chemical′ r ground = meanMedia ground site′ chemical′ (r 
 unfoldable pub meanFor : Scenario → ℕ → ℕ → Ground → Outcome Media
 meanFor scenario i j ground = meanWith (valuesOf (scenario .site)) (valuesOf (chemicalIn scenario i)) (receptorIn scenario j) ground
 
+-- f 0 or f 1 .. or f (n − 1)
+unfoldable pub anyOf : (ℕ → Bool) → ℕ → Bool
+anyOf f zero = false
+anyOf f (suc n) = anyOf f n || f n
+
 -- a ground is refused, or a receptor's media from it
 unfoldable pub stopsAt : Outcome Ground → (ℕ → Ground → Outcome Media) → ℕ → Bool
 stopsAt (is ground) means n = anyOf (λ j. isRefused (means j ground)) n
 stopsAt (refused k) means n = true
 
 unfoldable pub noMediaAt : Scenario → ℕ → List Condition
-noMediaAt scenario i = at 41 (suc i) 0 (stopsAt (groundFor scenario i) (meanFor scenario i) (scenario .receptors .count)) ∷ []
+noMediaAt scenario i = at 53 (suc i) 0 (stopsAt (groundFor scenario i) (meanFor scenario i) (scenario .receptors .count)) ∷ []
 
 unfoldable pub sheetConditions : Scenario → List Condition
 sheetConditions scenario = at 21 0 0 (tooMany scenario) ∷ chained (noMediaAt scenario) (scenario .chemicals .count) ++ largeLines scenario

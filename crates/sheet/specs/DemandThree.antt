@@ -1,5 +1,6 @@
 -- Demand 3 of a scenario: what a receptor's total is set against. The exact sum is that of its lines that have the reference value, each worked
--- exactly from the printed values with N terms of each series, counted in units and not rounded.
+-- exactly from the printed values with N terms of each series, counted in units and not rounded. Whether a chemical is lost fast is the pairs'
+-- choice (document 02, P5).
 use mathlib.Core.Path.{_≡_}
 use mathlib.Core.Bool.{cond}
 use Prim.Native.Nat.{ℕ, zero, suc, _+_, _*_, _^_, _≤_, _<_}
@@ -8,7 +9,7 @@ use Rattle.equations.specs.declared.Pathway.{Pathway}
 use Rattle.equations.specs.declared.Effect.{Effect}
 use Rattle.equations.specs.declared.Effect.the-variants.{Hazard, Cancer}
 use Rattle.equations.specs.Page.{line}
-use Rattle.equations.specs.Readings.{exactly}
+use Rattle.equations.specs.Readings.{pacesOf, exactly}
 use Rattle.deck.specs.declared.Case.{Case}
 use Rattle.deck.specs.declared.Status.the-variants.{Read}
 use Rattle.deck.specs.Conditions.{first}
@@ -17,8 +18,8 @@ use Rattle.slots.specs.declared.Sort.the-variants.{Ordinary}
 use Rattle.slots.specs.Slots.{Slot}
 use Rattle.totals.specs.declared.Columns.{Columns}
 use Rattle.totals.specs.declared.Columns.the-variants as Cols
-use Rattle.sheet.specs.Values.{Scenario, stayIn, ordinaryOf, exactAt}
-use Rattle.sheet.specs.Sheet.{pathwayAt, pathwaysPerChemical, hasReference, totalAt, fastChemicals, largeLines}
+use Rattle.sheet.specs.Values.{Scenario, stayIn, pairsAt, ordinaryOf, exactAt}
+use Rattle.sheet.specs.Sheet.{pathwayAt, pathwaysPerChemical, hasReference, totalAt, largeLines}
 
 -- a fraction in units of 1E-12, or of 1E-15
 unfoldable pub unitsPerOne : Effect → ℕ
@@ -37,7 +38,7 @@ Exact = ℕ → ℕ → Slot → Fraction
 
 -- a line's exact fraction, where it counts
 unfoldable pub exactLine : Effect → Scenario → Exact → ℕ → ℕ → ℕ → Pathway → Fraction
-exactLine e scenario exact N j i p = cond (hasReference e scenario i p) (inUnitsOf e (exactly N (exact j i) (line e (stayIn scenario j) p))) nothing
+exactLine e scenario exact N j i p = cond (hasReference e scenario i p) (inUnitsOf e (exactly N (pacesOf (pairsAt scenario j i)) (exact j i) (line e (stayIn scenario j) p))) nothing
 
 unfoldable pub lineCounts : Effect → Scenario → ℕ → Pathway → ℕ
 lineCounts e scenario i p = cond (hasReference e scenario i p) 1 0
@@ -70,9 +71,9 @@ unfoldable pub TotalHolds : Columns → ℕ → Fraction → Type 0
 TotalHolds Cols.Absent n exact = n ≡ 0
 TotalHolds (Cols.Counted low high) n exact = Enclosed low high n exact
 
--- for every ordinary case in range of which neither 41 nor 42 holds, every receptor, effect and number N of series terms from 256 up
+-- for every ordinary case in range of which 42 does not hold, every receptor, effect and number N of series terms from 256 up
 unfoldable pub CaseDemand3 : Type 0
 CaseDemand3 =
-    (case : Case) → Ranged Ordinary case → first (fastChemicals (ordinaryOf case)) ≡ Read → first (largeLines (ordinaryOf case)) ≡ Read →
+    (case : Case) → Ranged Ordinary case → first (largeLines (ordinaryOf case)) ≡ Read →
     (j : ℕ) → j < case .receptors .count → (N : ℕ) → 256 ≤ N → (e : Effect) →
     TotalHolds (totalAt e (ordinaryOf case) j) (linesAdded e (ordinaryOf case)) (exactTotal e (ordinaryOf case) (exactAt case) N j)

@@ -111,13 +111,13 @@ sourcesOf site′ receptors′ chemicals′ =
 unfoldable pub sourceAt : Sources → ℕ → Source
 sourceAt sources i = getD (sources .list) i noSource
 
--- 41, by chemical
+-- 53, by chemical
 unfoldable pub stopsWith : Values → Receptors → Record → Bool
 stopsWith site′ receptors′ chemical′ =
     stopsAt (groundWith site′ chemical′) (λ j ground. meanWith site′ (valuesOf chemical′) (getD (receptors′ .list) j noReceptor) ground) (receptors′ .count)
 
 unfoldable pub refusedSource : Values → Receptors → List Record → ℕ → List Condition
-refusedSource site′ receptors′ records i = at 41 (suc i) 0 (stopsWith site′ receptors′ (getD records i noRecord)) ∷ []
+refusedSource site′ receptors′ records i = at 53 (suc i) 0 (stopsWith site′ receptors′ (getD records i noRecord)) ∷ []
 
 -- ---- a line's figures, of the receptor at place j with these values
 unfoldable pub meanAt : Source → ℕ → Media

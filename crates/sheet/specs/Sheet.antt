@@ -1,4 +1,4 @@
--- The lines of a scenario, their counts and totals (document 01, "Units and totals"), and 41 and 42 of "Where a deck stops". Receptor j,
+-- The lines of a scenario, their counts and totals (document 01, "Units and totals"), and 42 of "Where a deck stops". Receptor j,
 -- chemical i and pathway p come in this order and are counted from 0.
 use mathlib.Core.Bool.{Bool, true, false, cond, not, _&&_, _||_}
 use mathlib.Core.List.{List, [], _∷_, _++_}
@@ -12,12 +12,8 @@ use Rattle.equations.specs.declared.Pathway.{Pathway}
 use Rattle.equations.specs.declared.Pathway.the-variants.{Air, SoilSummer, SoilWinter, Skin, AboveGround, BelowGround}
 use Rattle.equations.specs.declared.Effect.{Effect}
 use Rattle.equations.specs.declared.Effect.the-variants.{Hazard, Cancer}
-use Rattle.equations.specs.declared.Stay.{Stay}
-use Rattle.equations.specs.declared.Stay.the-variants.{Within, Beyond}
-use Rattle.equations.specs.Formula.{pairs}
-use Rattle.equations.specs.Page.{x, x′, line, referenceSlot}
-use Rattle.equations.specs.Ranges.{sixtyFour}
-use Rattle.equations.specs.Readings.{Inputs, plain, plainWith, asAnswers, worked}
+use Rattle.equations.specs.Page.{line, referenceSlot}
+use Rattle.equations.specs.Readings.{worked}
 use Rattle.deck.specs.declared.Value.{Value}
 use Rattle.deck.specs.declared.Value.the-variants.{Absent, Printed}
 use Rattle.deck.specs.Conditions.{Condition, at}
@@ -75,7 +71,7 @@ addedOver f (suc n) = addedOver f n added f n
 unfoldable pub totalAt : Effect → Scenario → ℕ → Columns
 totalAt e scenario j = addedOver (λ i. addedOver (λ p. columnsAt e scenario j i (pathwayAt p)) pathwaysPerChemical) (scenario .chemicals .count)
 
--- ---- 41 and 42
+-- ---- 42
 -- f 0 ++ f 1 ++ .. ++ f (n − 1)
 unfoldable pub chained : {A : Type 0} → (ℕ → List A) → ℕ → List A
 chained f zero = []
@@ -94,31 +90,6 @@ unfoldable pub highAbove : Number → Outcome Pair → Bool
 highAbove bound (is p) = isAbove (compared (p .high) bound)
 highAbove bound (refused n) = false
 
--- x, in which no slot of a receptor stands
-unfoldable pub exponentAt : Scenario → ℕ → Outcome Pair
-exponentAt scenario i = plain pairs (λ s. is (pairsAt scenario 0 i .value s)) x
-
--- x′ of receptor j, which is k × (T2 − tD), where T2 is above tD
-unfoldable pub laterExponentAt : Scenario → ℕ → ℕ → Outcome Pair
-laterExponentAt scenario i j =
-    let answers : Inputs (Outcome Pair) = asAnswers (pairsAt scenario j i) in
-    plainWith pairs (answers .value) (answers .later) x′
-
-unfoldable pub isBeyond : Stay → Bool
-isBeyond Within = false
-isBeyond Beyond = true
-
-unfoldable pub fastLater : Scenario → ℕ → ℕ → Bool
-fastLater scenario i j = isBeyond (stayIn scenario j) && highAbove sixtyFour (laterExponentAt scenario i j)
-
--- f 0 or f 1 .. or f (n − 1)
-unfoldable pub anyOf : (ℕ → Bool) → ℕ → Bool
-anyOf f zero = false
-anyOf f (suc n) = anyOf f n || f n
-
-unfoldable pub tooFast : Scenario → ℕ → List Condition
-tooFast scenario i = at 41 (suc i) 0 (highAbove sixtyFour (exponentAt scenario i) || anyOf (fastLater scenario i) (scenario .receptors .count)) ∷ []
-
 -- a quotient's high end is at most 10,000, a risk's at most 1
 unfoldable pub capOf : Effect → Number
 capOf Hazard = record { significand = 100000000; exponent = negsuc 3 }
@@ -133,9 +104,6 @@ lineTooLarge scenario j i p =
     at 42 (j * linesPerReceptor scenario + i * pathwaysPerChemical + suc p) 0
     (overCap Hazard scenario j i (pathwayAt p) || overCap Cancer scenario j i (pathwayAt p))
     ∷ []
-
-unfoldable pub fastChemicals : Scenario → List Condition
-fastChemicals scenario = chained (tooFast scenario) (scenario .chemicals .count)
 
 unfoldable pub largeLines : Scenario → List Condition
 largeLines scenario = chained (λ j. chained (λ i. chained (lineTooLarge scenario j i) pathwaysPerChemical) (scenario .chemicals .count)) (scenario .receptors .count)

@@ -27,8 +27,8 @@ ghost use Rattle.deck.specs.Conditions.{first};
 ghost use Rattle.media.specs.Media as media;
 ghost use Rattle.pair.specs.Calls.{is};
 ghost use Rattle.sheet.specs.Values.{valuesOf, noReceptor};
-ghost use Rattle.sheet.specs.Sheet.{chained, anyOf};
-ghost use Rattle.sheet.specs.Counts.{isRefused, meanWith};
+ghost use Rattle.sheet.specs.Sheet.{chained};
+ghost use Rattle.sheet.specs.Counts.{isRefused, meanWith, anyOf};
 ghost use Rattle.sheet.specs.Inner.{meansOf, noSource, sourceFrom, sourceOf, sourcesOf, stopsWith, refusedSource};
 use crate::Prepared;
 use crate::Receptor;
@@ -39,7 +39,8 @@ use crate::values::particles_of;
 use crate::values::references_of;
 use crate::values::values_of;
 
-const TOO_FAST: u32 = 41;
+// A pair that is none, or an exponent out of reach.
+const REFUSED: u32 = 53;
 
 // The media of each receptor's cancer, or that those of one are refused.
 struct Means {
@@ -112,11 +113,10 @@ fn means_of(site: Values, chemical: Values, receptors: Receptors, ground: Ground
     let mut j: usize = 0;
     while j < count {
         let receptor = receptors.list[j];
-        match mean_with(site, chemical, receptor, ground) {
-            Found::Is(m) => list[j] = m,
-            Found::TooFast => return no_means(),
-            Found::Refused => return no_means(),
-        }
+        let Found::Is(m) = mean_with(site, chemical, receptor, ground) else {
+            return no_means();
+        };
+        list[j] = m;
         j += 1;
     }
     Means { worked: true, list }
@@ -155,25 +155,24 @@ fn source_of(site: Values, chemical: Record, receptors: Receptors) -> Sourced
     ensures { λ r. ⌜ (r .worked ≡ true → r .source ≡ sourceOf site receptors chemical) ⌝ }
 {
     let values = values_of(chemical);
-    match ground_of(site, values, particles_of(chemical)) {
-        Grounded::Is(ground) => source_from(site, chemical, values, receptors, ground),
-        Grounded::TooFast => not_sourced(),
-        Grounded::Refused => not_sourced(),
-    }
+    let Grounded::Is(ground) = ground_of(site, values, particles_of(chemical)) else {
+        return not_sourced();
+    };
+    source_from(site, chemical, values, receptors, ground)
 }
 
 // Chemical i, counted from 1, stops the report.
 fn stopped_at(i: usize) -> Prepared
-    ensures { λ r. ⌜ r .status ≡ Statuses.Stopped 41 i 0 ⌝ }
+    ensures { λ r. ⌜ r .status ≡ Statuses.Stopped 53 i 0 ⌝ }
 {
     let list = [no_source(); MAX_CHEMICALS];
     Prepared {
-        status: Status::Stopped(TOO_FAST, i, 0),
+        status: Status::Stopped(REFUSED, i, 0),
         sources: Sources { count: 0, list },
     }
 }
 
-// The source of each chemical, or the first whose media are refused: its x is above 64, or its k × (T2 − tD) for a receptor.
+// The source of each chemical, or the first whose media are refused. No chemical of a deck is.
 pub(crate) fn sources_of(site: Values, chemicals: Chemicals, receptors: Receptors) -> Prepared
     requires { ⌜ (chemicals .count ≤ 16) × (receptors .count ≤ 4) ⌝ }
     ensures { λ r. ⌜ r .status ≡ first (chained (refusedSource site receptors (chemicals .records)) (chemicals .count)) ⌝ }

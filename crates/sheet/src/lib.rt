@@ -1,4 +1,4 @@
-//! The sheet of a scenario (document 01, "Units and totals"): each line's quotient and risk counted in units, 41 and 42, and a receptor's totals.
+//! The sheet of a scenario (document 01, "Units and totals"): each line's quotient and risk counted in units, 42, and a receptor's totals.
 mod chemicals;
 mod counting;
 mod exposure;
@@ -89,7 +89,7 @@ pub struct Prepared {
 const TOO_MANY: u32 = 21;
 
 // The counts of a scenario's lines into the cells, or where it stops, and 0 in every cell: more records than a sheet has room for, a chemical
-// whose x is above 64, or its k × (T2 − tD) for a receptor, a line above its cap.
+// whose media are refused, a line above its cap.
 pub fn counts_of(
     site: Record,
     chemicals: Chemicals,

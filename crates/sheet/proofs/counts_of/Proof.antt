@@ -1,4 +1,4 @@
--- `sheet::counts_of` meets its contract: 21, then 41 by chemical, then 42 by line, or every line's counts. Assumes nothing.
+-- `sheet::counts_of` meets its contract: 21, then 53 by chemical, then 42 by line, or every line's counts. Assumes nothing.
 use mathlib.Core.Path.{sym, subst, _∙_}
 use borrow.Author.Needs.{needs}
 use Rattle.sheet.specs.Values.{scenarioFrom}

@@ -10,7 +10,7 @@ use Rattle.deck.specs.Cases.{tabulate}
 use Rattle.deck.proofs.CaseLaws.{filled-start, filled-more}
 use Rattle.media.specs.Media.{found, noMedia}
 use Rattle.sheet.specs.Values.{noReceptor}
-use Rattle.sheet.specs.Sheet.{anyOf}
+use Rattle.sheet.specs.Counts.{anyOf}
 use Rattle.sheet.specs.Counts.{isRefused, meanWith}
 use Rattle.sheet.specs.Inner.{mediaFrom, meansOf}
 use Rattle.sheet.proofs.ChemicalLaws.{mean-at, mean-on, mean-stops}
@@ -47,12 +47,6 @@ mean-with-requires c κs = search needs
 enum-known-m : tie.Need-enum-known-m Inv-loop μ-loop
 enum-known-m c = search needs
 
-mul-list : tie.Need-mul-list Inv-loop μ-loop
-mul-list c = record { fits = omega (arith, c .before .before .before .before .before .loop-test .taken, c .before .before .before .before .before .before .before .before .pre) }
-
-array-set-from-list : tie.Need-array-set-from-list Inv-loop μ-loop
-array-set-from-list c = omega (arith, c .before .before .before .before .before .loop-test .taken, c .before .before .before .before .before .before .before .before .pre)
-
 enum-told : tie.Need-enum-told Inv-loop μ-loop
 enum-told c = search needs
 
@@ -74,26 +68,11 @@ returns c =
       λ e. absurd (false≢true (sym stop ∙ e)),
     )
 
-enum-told-2 : tie.Need-enum-told-2 Inv-loop μ-loop
-enum-told-2 c = search needs
+mul-list : tie.Need-mul-list Inv-loop μ-loop
+mul-list c = record { fits = omega (arith, c .before .before .before .before .before .loop-test .taken, c .before .before .before .before .before .before .before .before .pre) }
 
-no-means-requires-2 : tie.Need-no-means-requires-2 Inv-loop μ-loop
-no-means-requires-2 c κs = search needs
-
-returns-2 : tie.Need-returns-2 Inv-loop μ-loop
-unfolding found isRefused
-returns-2 c =
-    let s = c .before .before .before .before .before .before .before .before in
-    let l = c .before .before .before .before .before .before .loop in
-    let test = c .before .before .before .before .before .loop-test .taken in
-    let long : length (s .args .t3 .list) ≡ 4 = sym (length-map (s .args .t3 .list) _) ∙ s .good .1 .1 .0 .1 .1 .1 .0 .1 .0 .1 in
-    let here : l .j < length (s .args .t3 .list) = omega (arith, test, s .pre) in
-    let mean = c .before .before .before .mean-with in
-    let none : isRefused (found (mean .result)) ≡ true = rw (c .before .enum-told2 .given .1) refl in
-    let stop = c .no-means2 .ensures in (
-      stop ∙ sym (ap not (mean-stops (s .args .site) (s .args .chemical) (s .args .t3 .list) (s .args .ground) _ (l .j) here (mean .result) (mean .ensures) none (s .args .t3 .count) test)),
-      λ e. absurd (false≢true (sym stop ∙ e)),
-    )
+array-set-from-list : tie.Need-array-set-from-list Inv-loop μ-loop
+array-set-from-list c = omega (arith, c .before .before .before .before .before .loop-test .taken, c .before .before .before .before .before .before .before .before .pre)
 
 add-j : tie.Need-add-j Inv-loop μ-loop
 add-j c = search needs
@@ -116,9 +95,9 @@ loop-again c =
       mean-on (s .args .site) (s .args .chemical) (s .args .t3 .list) (s .args .ground) _ (l .j) here (mean .result) (mean .ensures) _ is (l .inv .2),
     )
 
-returns-3 : tie.Need-returns-3 Inv-loop μ-loop
+returns-2 : tie.Need-returns-2 Inv-loop μ-loop
 unfolding meansOf
-returns-3 c =
+returns-2 c =
     let s = c .before .before .before in
     let l = c .before .loop in
     let all : l .j ≡ s .args .t3 .count = omega (arith, c .loop-test .left) in
@@ -136,15 +115,12 @@ means-of-spec =
     element-copy-out-receptor
     mean-with-requires
     enum-known-m
-    mul-list
-    array-set-from-list
     enum-told
     no-means-requires
     returns
-    enum-told-2
-    no-means-requires-2
-    returns-2
+    mul-list
+    array-set-from-list
     add-j
     loop-less
     loop-again
-    returns-3)
+    returns-2)

@@ -20,34 +20,15 @@ ground-of-requires c κs = search needs
 enum-known-ground : tie.Need-enum-known-ground
 enum-known-ground c = search needs
 
-source-from-requires : tie.Need-source-from-requires
-source-from-requires c κs = (c .before .before .before .before .before .before .pre, c .before .before .before .before .before .values-of .ensures)
-
 enum-told : tie.Need-enum-told
 enum-told c = search needs
 
 not-sourced-requires : tie.Need-not-sourced-requires
 not-sourced-requires c κs = search needs
 
-enum-told-2 : tie.Need-enum-told-2
-enum-told-2 c = search needs
-
-not-sourced-requires-2 : tie.Need-not-sourced-requires-2
-not-sourced-requires-2 c κs = search needs
-
 returns : tie.Need-returns
-returns c =
-    let s = c .before .before .before .before .before .before .before in
-    let a = s .args in
-    let told = c .before .before .before .before .ground-of in
-    let is = c .before .before .ground .given .1 in (
-      told-worked (a .site) (a .receptors) (a .chemical) _ (c .before .before .before .before .before .before .values-of .ensures) _ (c .before .before .before .before .before .particles-of .ensures) (told .result) (told .ensures) _ is _ (c .source-from .ensures .0),
-      λ w. told-made (a .site) (a .receptors) (a .chemical) _ (c .before .before .before .before .before .before .values-of .ensures) _ (c .before .before .before .before .before .particles-of .ensures) (told .result) (told .ensures) _ is _ (c .source-from .ensures .1 w),
-    )
-
-returns-2 : tie.Need-returns-2
 unfolding grounded isRefused
-returns-2 c =
+returns c =
     let s = c .before .before .before .before .before .before in
     let a = s .args in
     let told = c .before .before .before .ground-of in
@@ -57,16 +38,17 @@ returns-2 c =
       λ e. absurd (false≢true (sym stop ∙ e)),
     )
 
-returns-3 : tie.Need-returns-3
-unfolding grounded isRefused
-returns-3 c =
-    let s = c .before .before .before .before .before .before in
+source-from-requires : tie.Need-source-from-requires
+source-from-requires c κs = (c .before .before .before .before .before .before .pre, c .before .before .before .before .before .values-of .ensures)
+
+returns-2 : tie.Need-returns-2
+returns-2 c =
+    let s = c .before .before .before .before .before .before .before in
     let a = s .args in
-    let told = c .before .before .before .ground-of in
-    let none : isRefused (grounded (told .result)) ≡ true = rw (c .before .enum-told2 .given .1) refl in
-    let stop = c .not-sourced2 .ensures in (
-      none-worked (a .site) (a .receptors) (a .chemical) _ (c .before .before .before .before .before .values-of .ensures) _ (c .before .before .before .before .particles-of .ensures) (told .result) (told .ensures) none _ stop,
-      λ e. absurd (false≢true (sym stop ∙ e)),
+    let told = c .before .before .before .before .ground-of in
+    let is = c .before .before .ground .given .1 in (
+      told-worked (a .site) (a .receptors) (a .chemical) _ (c .before .before .before .before .before .before .values-of .ensures) _ (c .before .before .before .before .before .particles-of .ensures) (told .result) (told .ensures) _ is _ (c .source-from .ensures .0),
+      λ w. told-made (a .site) (a .receptors) (a .chemical) _ (c .before .before .before .before .before .before .values-of .ensures) _ (c .before .before .before .before .before .particles-of .ensures) (told .result) (told .ensures) _ is _ (c .source-from .ensures .1 w),
     )
 
 pub source-of-spec : {M : Type 1} → statement M
@@ -77,11 +59,8 @@ source-of-spec =
     particles-of-requires
     ground-of-requires
     enum-known-ground
-    source-from-requires
     enum-told
     not-sourced-requires
-    enum-told-2
-    not-sourced-requires-2
     returns
-    returns-2
-    returns-3)
+    source-from-requires
+    returns-2)

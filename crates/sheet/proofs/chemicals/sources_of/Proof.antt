@@ -61,7 +61,7 @@ returns c =
     let made = c .before .before .before .source-of in
     let stop = c .stopped-at .ensures in (
       stops (s .args .site) (s .args .receptors) (s .args .t2 .records) _ (l .i) here _ _ (made .ensures .0) (made .ensures .1) (l .inv .2) (not-true _ (c .before .if1 .taken)) (s .args .t2 .count) test _ stop,
-      λ e. absurd (never _ 41 _ 0 stop e),
+      λ e. absurd (never _ 53 _ 0 stop e),
     )
 
 mul-list : tie.Need-mul-list Inv-loop μ-loop

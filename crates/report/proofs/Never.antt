@@ -1,0 +1,37 @@
+-- No call on a deck tells 41, nor does the call on a scenario in memory. Assumes nothing.
+use Prim.Native.Nat.{ℕ}
+use native.Mathlib.Omega.{arith}
+use mathlib.Core.Path.{_≡_, refl}
+use mathlib.Core.List.{List}
+use mathlib.Core.Logic.{_≢_}
+use Rattle.deck.specs.declared.Status.{Status}
+use Rattle.deck.specs.declared.Status.the-variants.{Read, Stopped}
+use Rattle.deck.specs.Conditions.{Condition, Without, first, conditions}
+use Rattle.deck.specs.Cases.{toldOf}
+use Rattle.deck.proofs.Without.{without-append, told-without, deck-without}
+use Rattle.sheet.specs.Values.{Scenario}
+use Rattle.sheet.proofs.WithoutLaws.{large-without, sheet-without}
+use Rattle.report.specs.Report.{reportConditions, Call, scenarioOf, allConditions, statusOf, outcomeFor, outcomeOf}
+use Rattle.report.specs.Scenario.{writtenConditions, writtenStatus, writtenOutcome}
+
+same-number : (s : Status) (scenario : Scenario) → outcomeFor s scenario .number ≡ toldOf s .number
+unfolding outcomeFor toldOf
+same-number Read scenario = refl
+same-number (Stopped number line field) scenario = refl
+
+outcome-without : (cs : List Condition) (scenario : Scenario) → Without 41 cs → outcomeFor (first cs) scenario .number ≢ 41
+outcome-without cs scenario h = rw (same-number (first cs) scenario) (told-without 41 (λ e. omega arith) cs h)
+
+report-without : (scenario : Scenario) (room : ℕ) → Without 41 (reportConditions scenario room)
+unfolding reportConditions
+report-without scenario room = (λ e. omega arith, large-without scenario)
+
+pub report-never : (call : Call) (deck : List ℕ) (room : ℕ) → outcomeOf call deck room .number ≢ 41
+unfolding outcomeOf statusOf allConditions
+report-never call deck room =
+    outcome-without (allConditions call deck room) (scenarioOf call deck)
+    (without-append 41 (conditions (call .sort) deck) (reportConditions (scenarioOf call deck) room) (deck-without (call .sort) deck) (report-without (scenarioOf call deck) room))
+
+pub written-never : (scenario : Scenario) (room : ℕ) → writtenOutcome scenario room .number ≢ 41
+unfolding writtenOutcome writtenStatus writtenConditions
+written-never scenario room = outcome-without (writtenConditions scenario room) scenario (λ e. omega arith, (λ e. omega arith, sheet-without scenario))
