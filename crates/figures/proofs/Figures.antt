@@ -16,15 +16,15 @@ use Rattle.equations.specs.declared.Effect.the-variants.{Hazard, Cancer}
 use Rattle.equations.specs.declared.Values.{Values}
 use Rattle.equations.specs.Formula.{phi, psi, read, pairs}
 use Rattle.equations.specs.declared.Stay.the-variants.{Within, Beyond}
-use Rattle.equations.specs.Letters.{φ, ψ}
+use Rattle.equations.specs.Letters.{g, h}
 use Rattle.equations.specs.Series as series
 use Rattle.equations.specs.Series.{terms, fromZero, pairSeries}
 use Rattle.equations.specs.Page as page
-use Rattle.equations.specs.Page.{x, u, kse, ksr, ksl, k, g, A, D, C, aboveGround, belowGround, AT, B, exposure, factor, byMedium, medium, intakeBy, intake, byRoute, referenceSlot, reference, figureBy, line}
-use Rattle.equations.specs.Ranges.{sixtyFour}
-use Rattle.equations.specs.Readings.{letters, noSeries, plainWith, plain, summedAt, asAnswers, worked, valueIn, byOwner, inputs, noValues}
+use Rattle.equations.specs.Page.{growth, x, u, kse, ksr, ksl, k, A, D, C, aboveGround, belowGround, AT, B, exposure, factor, byMedium, medium, intakeBy, intake, byRoute, referenceSlot, reference, figureBy, line}
+use Rattle.equations.specs.Ranges.{sixtyFour, nextToNothing}
+use Rattle.equations.specs.Readings.{letters, noGrowth, plainWith, plain, exponents, grownAt, asAnswers, paceIf, paceOf, pacesOf, pairGrowing, worked, valueIn, byOwner, inputs, noValues}
 use Rattle.equations.proofs.Figures.{firstPair, series-at-zero, g-at-zero, h-at-zero}
-use Rattle.media.specs.Media.{mediaInputs, ofSlots, ofMedia}
+use Rattle.media.specs.Media.{mediaInputs, ofSlots, ofMedia, growthAt}
 use Rattle.pathway.specs.Lines.{workedFor, factorOf}
 use Rattle.deck.specs.declared.Status.{Status}
 use Rattle.deck.specs.declared.Status.the-variants.{Read}
@@ -37,20 +37,26 @@ use Rattle.deck.specs.Cases.{tabulate, valueOf, slotSpelled, recordOf, recordsO
 use Rattle.totals.specs.Totals.{_added_}
 use Rattle.text.specs.Text.{digits, decimal, justified, number, columnsText, rowText, linesText}
 use Rattle.sheet.specs.Values.{orOne, pairOf, restOf, valuesOf, noReceptor, chemicalIn, receptorIn, stayIn, printedIn, pairsAt, scenarioWith, orNone, printedYears, depositionOf, stayIf, laterIf, receptorWith, entered, enteredFrom}
-use Rattle.sheet.specs.Sheet.{pathwayAt, isPrinted, hasReference, figureAt, unitOf, capOf, counted, countedIn, columnsAt, addedOver, totalAt, chained, linesPerReceptor, isAbove, highAbove, exponentAt, laterExponentAt, isBeyond, fastLater, anyOf, tooFast, overCap, lineTooLarge, fastChemicals, largeLines}
+use Rattle.sheet.specs.Sheet.{pathwayAt, isPrinted, hasReference, figureAt, unitOf, capOf, counted, countedIn, columnsAt, addedOver, totalAt, chained, linesPerReceptor, isAbove, highAbove, overCap, lineTooLarge, largeLines}
 use Rattle.composite.specs.Composite.{summed, sumOfYears, mean, composed, yearsTogether, pairStage, lastStage, stageYears, exposureOf, pairComposite, compositeReceptor, compositeFrom, composite}
 use Rattle.report.specs.Report.{rowAt, totalRow, rowsAt, rowsOf, linesOfReport, ordinary, scenarioOf, reportConditions, allConditions, statusOf, lengthOf, outcomeFor, outcomeOf}
-use Rattle.figures.specs.Figures.{bytes, lines, deckWith, deck, equalDeck, longDeck, cancerSoil, compositeDeck, compositeText, compositeRows, fiveStages, fiveYears, printedLines, printedText, row, rows, Winter, cases, CheckedFigures}
+use Rattle.figures.specs.Figures.{bytes, lines, deckWith, deck, equalDeck, longDeck, solventDeck, cancerSoil, compositeDeck, compositeText, compositeRows, fiveStages, fiveYears, printedLines, printedText, row, rows, Winter, cases, CheckedFigures}
 
 -- x = 0
 half-at-zero : (site chemical : Values) (particles : Pair) → ofSlots site chemical x ≡ is zeroPair
-    → (ofMedia site chemical particles ψ ≡ bothEnds 500000000 500000000 (negsuc 8)) × (ofMedia site chemical particles page.h ≡ bothEnds 500000000 500000000 (negsuc 8))
-unfolding ofSlots ofMedia mediaInputs worked summedAt asAnswers read letters firstPair bothEnds
+    → (pairSeries psi (ofSlots site chemical x) ≡ bothEnds 500000000 500000000 (negsuc 8)) × (ofMedia site chemical particles h ≡ bothEnds 500000000 500000000 (negsuc 8))
+unfolding ofSlots ofMedia mediaInputs asAnswers firstPair bothEnds
 half-at-zero site chemical particles e = (ap (pairSeries psi) e ∙ series-at-zero psi, h-at-zero (mediaInputs site chemical particles) e)
 
-at-zero : (site chemical : Values) (particles : Pair) → ofSlots site chemical x ≡ is zeroPair → (ofMedia site chemical particles φ ≡ is onePair) × (ofMedia site chemical particles g ≡ is onePair)
-unfolding ofSlots ofMedia mediaInputs worked summedAt asAnswers read letters firstPair
-at-zero site chemical particles h = (ap (pairSeries phi) h ∙ series-at-zero phi, g-at-zero (mediaInputs site chemical particles) h)
+at-zero : (site chemical : Values) (particles : Pair) → ofSlots site chemical x ≡ is zeroPair → (pairSeries phi (ofSlots site chemical x) ≡ is onePair) × (ofMedia site chemical particles g ≡ is onePair)
+unfolding ofSlots ofMedia mediaInputs asAnswers firstPair
+at-zero site chemical particles e = (ap (pairSeries phi) e ∙ series-at-zero phi, g-at-zero (mediaInputs site chemical particles) e)
+
+-- x = 1E+6
+fast-growth : (growthAt (whole 1000000) .g ≡ is (record { low = record { significand = 999999990; exponent = negsuc 14 }; high = record { significand = 100000000; exponent = negsuc 13 } }))
+    × (growthAt (whole 1000000) .h ≡ bothEnds 999999000 999999001 (negsuc 14))
+unfolding growthAt growth page.gWith pairGrowing paceOf paceIf compared sixtyFour nextToNothing bothEnds whole pairs nineFigures inReach zeroExponent isZero isNumber zero one lesser rise unitsAt lower atMost isPair extra divided excessFrom excess carried rounded sumEnd productEnd quotientEnd restEnd provided calls.ends after afterOne entry sum product quotient calls.oneMinus
+fast-growth = (refl, refl)
 
 -- 365 × 4.5, and the winter factor as the page writes it
 year : (site chemical receptor : Values) → is (inputs site chemical receptor "ED") ≡ entry 45 (negsuc 0) → workedFor site chemical receptor (AT Hazard) ≡ bothEnds 164250000 164250000 (negsuc 4)
@@ -66,21 +72,26 @@ winter site chemical receptor w =
 
 -- the deck: its report's lines, their text, and that none of the conditions holds
 lines-are : rowsOf (scenarioOf ordinary deck) ≡ rows
-unfolding bytes lines deckWith deck within leading linesOf lineOf fieldIn fieldOf digitsValue idSpelled idIn signSpelled exponentSpelled powerOf digitsRead endedOf pointedOf spelledOf loneDash wordOf kindOf idOf countOf tabulate valueOf slotSpelled recordOf recordsOf caseWith caseOf table same isIn placeIn ownerOf placeOf valueAt chemicalAt receptorAt orOne pairOf restOf valuesOf chemicalIn receptorIn printedIn scenarioWith orNone printedYears depositionOf stayIf laterIf receptorWith entered enteredFrom calls.longEntry years.time years.amount years.isYears years.wordsOf years.timeOf years.none years.least years.printedAmount years.printed years.together years.atMost years.asPair years.beyond ordinary scenarioOf valueIn byOwner inputs pairsAt asAnswers nineFigures inReach zeroExponent isZero isNumber zero one lesser rise unitsAt lower atMost isPair extra divided excessFrom excess carried rounded sumEnd productEnd quotientEnd restEnd provided calls.ends after afterOne zeroPair onePair entry sum product quotient oneMinusEntry pairs read letters noSeries plainWith plain summedAt stayIn worked series.first series.step terms fromZero pairSeries u kse ksr ksl k x page.x′ page.gAt g page.g′ page.h page.gathered page.mean page.soil A D C aboveGround belowGround AT B exposure factor byMedium medium intakeBy intake byRoute referenceSlot reference figureBy line pathwayAt isPrinted hasReference figureAt chained unitsEnd inUnits unitOf counted countedIn columnsAt _added_ addedOver totalAt rowAt totalRow rowsAt rowsOf row rows
+unfolding bytes lines deckWith deck within leading linesOf lineOf fieldIn fieldOf digitsValue idSpelled idIn signSpelled exponentSpelled powerOf digitsRead endedOf pointedOf spelledOf loneDash wordOf kindOf idOf countOf tabulate valueOf slotSpelled recordOf recordsOf caseWith caseOf table same isIn placeIn ownerOf placeOf valueAt chemicalAt receptorAt orOne pairOf restOf valuesOf chemicalIn receptorIn printedIn scenarioWith orNone printedYears depositionOf stayIf laterIf receptorWith entered enteredFrom calls.longEntry years.time years.amount years.isYears years.wordsOf years.timeOf years.none years.least years.printedAmount years.printed years.together years.atMost years.asPair years.beyond ordinary scenarioOf valueIn byOwner inputs pairsAt asAnswers nineFigures inReach zeroExponent isZero isNumber zero one lesser rise unitsAt lower atMost isPair extra divided excessFrom excess carried rounded sumEnd productEnd quotientEnd restEnd provided calls.ends after afterOne zeroPair onePair entry sum product quotient oneMinusEntry pairs read letters noGrowth plainWith plain exponents grownAt stayIn compared paceIf paceOf pacesOf pairGrowing sixtyFour worked series.first series.step terms fromZero pairSeries u kse ksr ksl k x page.x′ page.gWith growth page.gathered page.mean page.soil A D C aboveGround belowGround AT B exposure factor byMedium medium intakeBy intake byRoute referenceSlot reference figureBy line pathwayAt isPrinted hasReference figureAt chained unitsEnd inUnits unitOf counted countedIn columnsAt _added_ addedOver totalAt rowAt totalRow rowsAt rowsOf row rows
 lines-are = refl
 
 -- its soils
 soils-are : (worked (pairsAt (scenarioOf ordinary deck) 0 0) C ≡ bothEnds 150000000 150000000 (negsuc 8))
     × (cancerSoil equalDeck ≡ bothEnds 750000000 750000000 (negsuc 9)) × (cancerSoil longDeck ≡ bothEnds 112500000 112500000 (negsuc 8))
-unfolding bytes lines deckWith deck equalDeck longDeck cancerSoil bothEnds within leading linesOf lineOf fieldIn fieldOf digitsValue idSpelled idIn signSpelled exponentSpelled powerOf digitsRead endedOf pointedOf spelledOf loneDash wordOf kindOf idOf countOf tabulate valueOf slotSpelled recordOf recordsOf caseWith caseOf table same isIn placeIn ownerOf placeOf valueAt chemicalAt receptorAt orOne pairOf restOf valuesOf chemicalIn receptorIn printedIn scenarioWith orNone printedYears depositionOf stayIf laterIf receptorWith entered enteredFrom calls.longEntry years.time years.amount years.isYears years.wordsOf years.timeOf years.none years.least years.printedAmount years.printed years.together years.atMost years.asPair years.beyond ordinary scenarioOf valueIn byOwner inputs pairsAt asAnswers nineFigures inReach zeroExponent isZero isNumber zero one lesser rise unitsAt lower atMost isPair extra divided excessFrom excess carried rounded sumEnd productEnd quotientEnd restEnd provided calls.ends after afterOne zeroPair onePair entry sum product quotient oneMinusEntry pairs read letters noSeries plainWith plain summedAt stayIn worked series.first series.step terms fromZero pairSeries u kse ksr ksl k x page.x′ page.gAt g page.g′ page.h page.gathered page.mean page.soil A D C aboveGround belowGround AT B exposure factor byMedium medium intakeBy intake byRoute referenceSlot reference figureBy line pathwayAt isPrinted hasReference figureAt chained unitsEnd inUnits unitOf counted countedIn columnsAt _added_ addedOver totalAt rowAt totalRow rowsAt rowsOf row rows
+unfolding bytes lines deckWith deck equalDeck longDeck cancerSoil bothEnds within leading linesOf lineOf fieldIn fieldOf digitsValue idSpelled idIn signSpelled exponentSpelled powerOf digitsRead endedOf pointedOf spelledOf loneDash wordOf kindOf idOf countOf tabulate valueOf slotSpelled recordOf recordsOf caseWith caseOf table same isIn placeIn ownerOf placeOf valueAt chemicalAt receptorAt orOne pairOf restOf valuesOf chemicalIn receptorIn printedIn scenarioWith orNone printedYears depositionOf stayIf laterIf receptorWith entered enteredFrom calls.longEntry years.time years.amount years.isYears years.wordsOf years.timeOf years.none years.least years.printedAmount years.printed years.together years.atMost years.asPair years.beyond ordinary scenarioOf valueIn byOwner inputs pairsAt asAnswers nineFigures inReach zeroExponent isZero isNumber zero one lesser rise unitsAt lower atMost isPair extra divided excessFrom excess carried rounded sumEnd productEnd quotientEnd restEnd provided calls.ends after afterOne zeroPair onePair entry sum product quotient oneMinusEntry pairs read letters noGrowth plainWith plain exponents grownAt stayIn compared paceIf paceOf pacesOf pairGrowing sixtyFour worked series.first series.step terms fromZero pairSeries u kse ksr ksl k x page.x′ page.gWith growth page.gathered page.mean page.soil A D C aboveGround belowGround AT B exposure factor byMedium medium intakeBy intake byRoute referenceSlot reference figureBy line pathwayAt isPrinted hasReference figureAt chained unitsEnd inUnits unitOf counted countedIn columnsAt _added_ addedOver totalAt rowAt totalRow rowsAt rowsOf row rows
 soils-are = (refl, refl, refl)
+
+-- a solvent's
+solvent-soils : (worked (pairsAt (scenarioOf ordinary solventDeck) 0 0) C ≡ bothEnds 499999998 500000001 (negsuc 19)) × (cancerSoil solventDeck ≡ bothEnds 249999998 250000004 (negsuc 19))
+unfolding bytes lines deckWith solventDeck cancerSoil bothEnds within leading linesOf lineOf fieldIn fieldOf digitsValue idSpelled idIn signSpelled exponentSpelled powerOf digitsRead endedOf pointedOf spelledOf loneDash wordOf kindOf idOf countOf tabulate valueOf slotSpelled recordOf recordsOf caseWith caseOf table same isIn placeIn ownerOf placeOf valueAt chemicalAt receptorAt orOne pairOf restOf valuesOf chemicalIn receptorIn printedIn scenarioWith orNone printedYears depositionOf stayIf laterIf receptorWith entered enteredFrom calls.longEntry years.time years.amount years.isYears years.wordsOf years.timeOf years.none years.least years.printedAmount years.printed years.together years.atMost years.asPair years.beyond ordinary scenarioOf valueIn byOwner inputs pairsAt asAnswers nineFigures inReach zeroExponent isZero isNumber zero one lesser rise unitsAt lower atMost isPair extra divided excessFrom excess carried rounded sumEnd productEnd quotientEnd restEnd provided calls.ends after afterOne zeroPair onePair entry sum product quotient oneMinusEntry pairs read letters noGrowth plainWith plain exponents grownAt stayIn compared paceIf paceOf pacesOf pairGrowing sixtyFour worked series.first series.step terms fromZero pairSeries u kse ksr ksl k x page.x′ page.gWith growth page.gathered page.mean page.soil A D C aboveGround belowGround AT B exposure factor byMedium medium intakeBy intake byRoute referenceSlot reference figureBy line pathwayAt isPrinted hasReference figureAt chained unitsEnd inUnits unitOf counted countedIn columnsAt _added_ addedOver totalAt rowAt totalRow rowsAt rowsOf row rows nextToNothing calls.oneMinus
+solvent-soils = (refl, refl)
 
 text-is : linesText rows ≡ printedText
 unfolding bytes lines printedLines printedText row rows linesText rowText columnsText number justified decimal digits
 text-is = refl
 
 read-whole : first (allConditions ordinary deck 665) ≡ Read
-unfolding bytes lines deckWith deck within leading linesOf lineOf fieldIn fieldOf digitsValue idSpelled idIn signSpelled exponentSpelled powerOf digitsRead endedOf pointedOf spelledOf loneDash wordOf kindOf idOf countOf tabulate valueOf slotSpelled recordOf recordsOf caseWith caseOf table same isIn placeIn ownerOf placeOf valueAt chemicalAt receptorAt orOne pairOf restOf valuesOf chemicalIn receptorIn printedIn scenarioWith orNone printedYears depositionOf stayIf laterIf receptorWith entered enteredFrom calls.longEntry years.time years.amount years.isYears years.wordsOf years.timeOf years.none years.least years.printedAmount years.printed years.together years.atMost years.asPair years.beyond ordinary scenarioOf valueIn byOwner inputs pairsAt asAnswers nineFigures inReach zeroExponent isZero isNumber zero one lesser rise unitsAt lower atMost isPair extra divided excessFrom excess carried rounded sumEnd productEnd quotientEnd restEnd provided calls.ends after afterOne zeroPair onePair entry sum product quotient oneMinusEntry pairs read letters noSeries plainWith plain summedAt stayIn worked series.first series.step terms fromZero pairSeries u kse ksr ksl k x page.x′ page.gAt g page.g′ page.h page.gathered page.mean page.soil A D C aboveGround belowGround AT B exposure factor byMedium medium intakeBy intake byRoute referenceSlot reference figureBy line pathwayAt isPrinted hasReference figureAt chained kindOrder befores among kinds rulesIn rulesOf ruleIn ruleAt lineRules above below valueAtMost valueAtLeast inRange first upTo misspelled misplaced outOfRange fieldConditions fieldAt badBytes badKind begins sameLetter wrongId badId lineConditionsAfter lineConditions badLength noEnd conditions compared sixtyFour capOf linesPerReceptor linesOfReport isAbove highAbove exponentAt laterExponentAt isBeyond fastLater anyOf tooFast overCap lineTooLarge fastChemicals largeLines reportConditions allConditions lengthOf
+unfolding bytes lines deckWith deck within leading linesOf lineOf fieldIn fieldOf digitsValue idSpelled idIn signSpelled exponentSpelled powerOf digitsRead endedOf pointedOf spelledOf loneDash wordOf kindOf idOf countOf tabulate valueOf slotSpelled recordOf recordsOf caseWith caseOf table same isIn placeIn ownerOf placeOf valueAt chemicalAt receptorAt orOne pairOf restOf valuesOf chemicalIn receptorIn printedIn scenarioWith orNone printedYears depositionOf stayIf laterIf receptorWith entered enteredFrom calls.longEntry years.time years.amount years.isYears years.wordsOf years.timeOf years.none years.least years.printedAmount years.printed years.together years.atMost years.asPair years.beyond ordinary scenarioOf valueIn byOwner inputs pairsAt asAnswers nineFigures inReach zeroExponent isZero isNumber zero one lesser rise unitsAt lower atMost isPair extra divided excessFrom excess carried rounded sumEnd productEnd quotientEnd restEnd provided calls.ends after afterOne zeroPair onePair entry sum product quotient oneMinusEntry pairs read letters noGrowth plainWith plain exponents grownAt stayIn compared paceIf paceOf pacesOf pairGrowing sixtyFour worked series.first series.step terms fromZero pairSeries u kse ksr ksl k x page.x′ page.gWith growth page.gathered page.mean page.soil A D C aboveGround belowGround AT B exposure factor byMedium medium intakeBy intake byRoute referenceSlot reference figureBy line pathwayAt isPrinted hasReference figureAt chained kindOrder befores among kinds rulesIn rulesOf ruleIn ruleAt lineRules above below valueAtMost valueAtLeast inRange first upTo misspelled misplaced outOfRange fieldConditions fieldAt badBytes badKind begins sameLetter wrongId badId lineConditionsAfter lineConditions badLength noEnd conditions capOf linesPerReceptor linesOfReport isAbove highAbove overCap lineTooLarge largeLines reportConditions allConditions lengthOf
 read-whole = refl
 
 answer-is : outcomeOf ordinary deck 665 ≡ record { number = 0; line = 665; field = 0 }
@@ -89,7 +100,7 @@ answer-is = ap (λ (s : Status). outcomeFor s (scenarioOf ordinary deck)) read-w
 
 -- the composite's
 composite-lines : rowsOf (scenarioOf composite compositeDeck) ≡ compositeRows
-unfolding bytes lines deckWith compositeDeck within leading linesOf lineOf fieldIn fieldOf digitsValue idSpelled idIn signSpelled exponentSpelled powerOf digitsRead endedOf pointedOf spelledOf loneDash wordOf kindOf idOf countOf tabulate valueOf slotSpelled recordOf recordsOf caseWith caseOf table same isIn placeIn ownerOf placeOf valueAt chemicalAt receptorAt orOne pairOf restOf valuesOf chemicalIn receptorIn printedIn scenarioWith composed mean summed sumOfYears yearsTogether pairStage lastStage stageYears exposureOf pairComposite orNone printedYears depositionOf stayIf laterIf receptorWith compositeReceptor calls.longEntry years.time years.amount years.isYears years.wordsOf years.timeOf years.none years.least years.printedAmount years.printed years.together years.atMost years.asPair years.beyond compositeFrom composite noReceptor scenarioOf valueIn byOwner inputs pairsAt asAnswers nineFigures inReach zeroExponent isZero isNumber zero one lesser rise unitsAt lower atMost isPair extra divided excessFrom excess carried rounded sumEnd productEnd quotientEnd restEnd provided calls.ends after afterOne zeroPair onePair entry sum product quotient oneMinusEntry pairs read letters noSeries plainWith plain summedAt stayIn worked series.first series.step terms fromZero pairSeries u kse ksr ksl k x page.x′ page.gAt g page.g′ page.h page.gathered page.mean page.soil A D C aboveGround belowGround AT B exposure factor byMedium medium intakeBy intake byRoute referenceSlot reference figureBy line pathwayAt isPrinted hasReference figureAt chained unitsEnd inUnits unitOf counted countedIn columnsAt _added_ addedOver totalAt rowAt totalRow rowsAt rowsOf row compositeRows
+unfolding bytes lines deckWith compositeDeck within leading linesOf lineOf fieldIn fieldOf digitsValue idSpelled idIn signSpelled exponentSpelled powerOf digitsRead endedOf pointedOf spelledOf loneDash wordOf kindOf idOf countOf tabulate valueOf slotSpelled recordOf recordsOf caseWith caseOf table same isIn placeIn ownerOf placeOf valueAt chemicalAt receptorAt orOne pairOf restOf valuesOf chemicalIn receptorIn printedIn scenarioWith composed mean summed sumOfYears yearsTogether pairStage lastStage stageYears exposureOf pairComposite orNone printedYears depositionOf stayIf laterIf receptorWith compositeReceptor calls.longEntry years.time years.amount years.isYears years.wordsOf years.timeOf years.none years.least years.printedAmount years.printed years.together years.atMost years.asPair years.beyond compositeFrom composite noReceptor scenarioOf valueIn byOwner inputs pairsAt asAnswers nineFigures inReach zeroExponent isZero isNumber zero one lesser rise unitsAt lower atMost isPair extra divided excessFrom excess carried rounded sumEnd productEnd quotientEnd restEnd provided calls.ends after afterOne zeroPair onePair entry sum product quotient oneMinusEntry pairs read letters noGrowth plainWith plain exponents grownAt stayIn compared paceIf paceOf pacesOf pairGrowing sixtyFour worked series.first series.step terms fromZero pairSeries u kse ksr ksl k x page.x′ page.gWith growth page.gathered page.mean page.soil A D C aboveGround belowGround AT B exposure factor byMedium medium intakeBy intake byRoute referenceSlot reference figureBy line pathwayAt isPrinted hasReference figureAt chained unitsEnd inUnits unitOf counted countedIn columnsAt _added_ addedOver totalAt rowAt totalRow rowsAt rowsOf row compositeRows
 composite-lines = refl
 
 composite-text : linesText compositeRows ≡ compositeText
@@ -97,7 +108,7 @@ unfolding bytes lines compositeText row compositeRows linesText rowText columnsT
 composite-text = refl
 
 composite-whole : first (allConditions composite compositeDeck 665) ≡ Read
-unfolding bytes lines deckWith compositeDeck within leading linesOf lineOf fieldIn fieldOf digitsValue idSpelled idIn signSpelled exponentSpelled powerOf digitsRead endedOf pointedOf spelledOf loneDash wordOf kindOf idOf countOf tabulate valueOf slotSpelled recordOf recordsOf caseWith caseOf table same isIn placeIn ownerOf placeOf valueAt chemicalAt receptorAt orOne pairOf restOf valuesOf chemicalIn receptorIn printedIn scenarioWith composed mean summed sumOfYears yearsTogether pairStage lastStage stageYears exposureOf pairComposite orNone printedYears depositionOf stayIf laterIf receptorWith compositeReceptor calls.longEntry years.time years.amount years.isYears years.wordsOf years.timeOf years.none years.least years.printedAmount years.printed years.together years.atMost years.asPair years.beyond compositeFrom composite noReceptor scenarioOf valueIn byOwner inputs pairsAt asAnswers nineFigures inReach zeroExponent isZero isNumber zero one lesser rise unitsAt lower atMost isPair extra divided excessFrom excess carried rounded sumEnd productEnd quotientEnd restEnd provided calls.ends after afterOne zeroPair onePair entry sum product quotient oneMinusEntry pairs read letters noSeries plainWith plain summedAt stayIn worked series.first series.step terms fromZero pairSeries u kse ksr ksl k x page.x′ page.gAt g page.g′ page.h page.gathered page.mean page.soil A D C aboveGround belowGround AT B exposure factor byMedium medium intakeBy intake byRoute referenceSlot reference figureBy line pathwayAt isPrinted hasReference figureAt chained kindOrder befores among kinds rulesIn rulesOf ruleIn ruleAt lineRules above below valueAtMost valueAtLeast inRange first upTo misspelled misplaced outOfRange fieldConditions fieldAt badBytes badKind begins sameLetter wrongId badId lineConditionsAfter lineConditions badLength noEnd conditions compared sixtyFour capOf linesPerReceptor linesOfReport isAbove highAbove exponentAt laterExponentAt isBeyond fastLater anyOf tooFast overCap lineTooLarge fastChemicals largeLines reportConditions allConditions lengthOf
+unfolding bytes lines deckWith compositeDeck within leading linesOf lineOf fieldIn fieldOf digitsValue idSpelled idIn signSpelled exponentSpelled powerOf digitsRead endedOf pointedOf spelledOf loneDash wordOf kindOf idOf countOf tabulate valueOf slotSpelled recordOf recordsOf caseWith caseOf table same isIn placeIn ownerOf placeOf valueAt chemicalAt receptorAt orOne pairOf restOf valuesOf chemicalIn receptorIn printedIn scenarioWith composed mean summed sumOfYears yearsTogether pairStage lastStage stageYears exposureOf pairComposite orNone printedYears depositionOf stayIf laterIf receptorWith compositeReceptor calls.longEntry years.time years.amount years.isYears years.wordsOf years.timeOf years.none years.least years.printedAmount years.printed years.together years.atMost years.asPair years.beyond compositeFrom composite noReceptor scenarioOf valueIn byOwner inputs pairsAt asAnswers nineFigures inReach zeroExponent isZero isNumber zero one lesser rise unitsAt lower atMost isPair extra divided excessFrom excess carried rounded sumEnd productEnd quotientEnd restEnd provided calls.ends after afterOne zeroPair onePair entry sum product quotient oneMinusEntry pairs read letters noGrowth plainWith plain exponents grownAt stayIn compared paceIf paceOf pacesOf pairGrowing sixtyFour worked series.first series.step terms fromZero pairSeries u kse ksr ksl k x page.x′ page.gWith growth page.gathered page.mean page.soil A D C aboveGround belowGround AT B exposure factor byMedium medium intakeBy intake byRoute referenceSlot reference figureBy line pathwayAt isPrinted hasReference figureAt chained kindOrder befores among kinds rulesIn rulesOf ruleIn ruleAt lineRules above below valueAtMost valueAtLeast inRange first upTo misspelled misplaced outOfRange fieldConditions fieldAt badBytes badKind begins sameLetter wrongId badId lineConditionsAfter lineConditions badLength noEnd conditions capOf linesPerReceptor linesOfReport isAbove highAbove overCap lineTooLarge largeLines reportConditions allConditions lengthOf
 composite-whole = refl
 
 composite-answer : outcomeOf composite compositeDeck 665 ≡ record { number = 0; line = 665; field = 0 }
@@ -112,7 +123,7 @@ stages-weigh = (refl, refl, refl)
 
 -- What the cases x = 0, ED 4.5 and winter ask of the values is met: by the deck, and by these values.
 deck-at-zero : ofSlots (valuesOf (caseOf deck .site)) (valuesOf (chemicalAt (caseOf deck) 0)) x ≡ is zeroPair
-unfolding bytes lines deckWith deck within leading linesOf lineOf fieldIn fieldOf digitsValue idSpelled idIn signSpelled exponentSpelled powerOf digitsRead endedOf pointedOf spelledOf loneDash wordOf kindOf idOf countOf tabulate valueOf slotSpelled recordOf recordsOf caseWith caseOf table same isIn placeIn ownerOf placeOf valueAt chemicalAt orOne pairOf valuesOf valueIn byOwner inputs asAnswers nineFigures inReach zeroExponent isZero isNumber zero one lesser rise unitsAt lower atMost isPair extra divided excessFrom excess carried rounded sumEnd productEnd quotientEnd restEnd provided calls.ends after afterOne zeroPair onePair entry sum product quotient oneMinusEntry pairs read letters noSeries plainWith plain u kse ksr ksl k x ofSlots noValues
+unfolding bytes lines deckWith deck within leading linesOf lineOf fieldIn fieldOf digitsValue idSpelled idIn signSpelled exponentSpelled powerOf digitsRead endedOf pointedOf spelledOf loneDash wordOf kindOf idOf countOf tabulate valueOf slotSpelled recordOf recordsOf caseWith caseOf table same isIn placeIn ownerOf placeOf valueAt chemicalAt orOne pairOf valuesOf valueIn byOwner inputs asAnswers nineFigures inReach zeroExponent isZero isNumber zero one lesser rise unitsAt lower atMost isPair extra divided excessFrom excess carried rounded sumEnd productEnd quotientEnd restEnd provided calls.ends after afterOne zeroPair onePair entry sum product quotient oneMinusEntry pairs read letters noGrowth plainWith plain u kse ksr ksl k x ofSlots noValues
 deck-at-zero = refl
 
 -- 1 in every place but those of a receptor's first ten slots, and so of the site's eleventh
@@ -139,4 +150,4 @@ year-met = refl
 -- the single list
 pub checked-figures : CheckedFigures
 unfolding CheckedFigures cases figures
-checked-figures = (figures-hold .0, (figures-hold .1 .0, (at-zero, (half-at-zero, (year, (winter, (figures-hold .1 .1 .1 .1 .0, (figures-hold .1 .1 .1 .1 .1 .0, (read-whole, (answer-is, (lines-are, (ap linesText lines-are ∙ text-is, (soils-are .0, (soils-are .1, (soils-are .2, (composite-whole, (composite-answer, (composite-lines, (ap linesText composite-lines ∙ composite-text, (stages-weigh .0, (stages-weigh .1, (stages-weigh .2, tt))))))))))))))))))))))
+checked-figures = (figures-hold .0, (figures-hold .1 .0, (at-zero, (half-at-zero, (fast-growth .0, (fast-growth .1, (year, (winter, (figures-hold .1 .1 .1 .1 .0, (figures-hold .1 .1 .1 .1 .1 .0, (read-whole, (answer-is, (lines-are, (ap linesText lines-are ∙ text-is, (soils-are .0, (soils-are .1, (soils-are .2, (solvent-soils .0, (solvent-soils .1, (composite-whole, (composite-answer, (composite-lines, (ap linesText composite-lines ∙ composite-text, (stages-weigh .0, (stages-weigh .1, (stages-weigh .2, tt))))))))))))))))))))))))))

@@ -18,11 +18,12 @@ use Rattle.years.specs.declared.Years.{Years}
 use Rattle.years.specs.Years as years
 use Rattle.slots.specs.Slots.{Slot, placeOf}
 use Rattle.equations.specs.declared.Values.{Values}
-use Rattle.equations.specs.Formula.{pairs}
-use Rattle.equations.specs.Letters.{φ, ψ}
-use Rattle.equations.specs.Page.{x, g, h, C, soil, AT}
+use Rattle.equations.specs.Formula.{phi, psi, pairs}
+use Rattle.equations.specs.Series.{pairSeries}
+use Rattle.equations.specs.Letters.{g, h}
+use Rattle.equations.specs.Page.{x, C, soil, AT}
 use Rattle.equations.specs.Readings.{worked, inputs}
-use Rattle.media.specs.Media.{ofSlots, ofMedia}
+use Rattle.media.specs.Media.{ofSlots, ofMedia, growthAt}
 use Rattle.pathway.specs.Lines.{workedFor, factorOf}
 use Rattle.deck.specs.declared.Status.the-variants.{Read}
 use Rattle.deck.specs.Conditions.{first}
@@ -44,14 +45,14 @@ unfoldable pub lines : List String → List ℕ
 lines [] = []
 lines (l ∷ ls) = bytes l ++ (10 ∷ lines ls)
 
--- the deck: kind, id and six fields; its receptor's fourth line is given
-unfoldable pub deckWith : String → List ℕ
-deckWith r4 =
+-- the deck: kind, id and six fields; its chemical's second line and its receptor's fourth are given
+unfoldable pub deckWith : String → String → List ℕ
+deckWith c2 r4 =
     lines
     ("S1     1          10           2          30         0.2           0           0"
     ∷ "S2     1           0           0           0        0.01         0.5            "
     ∷ "C1     1           1           1           1           0           0           1"
-    ∷ "C2     1           0           0       0.001           0         100           0"
+    ∷ c2
     ∷ "C3     1           0         0.1          10           1           1         0.1"
     ∷ "C4     1       0.001       0.001           1           -                        "
     ∷ "R1     1          20           5       27375          10           1         365"
@@ -61,16 +62,27 @@ deckWith r4 =
     ∷ "EN                                                                              "
     ∷ [])
 
+-- ksg is 0, or as large as a field holds
+abbrev pub keptLine : String
+keptLine = "C2     1           0           0       0.001           0         100           0"
+
+abbrev pub lostLine : String
+lostLine = "C2     1           0           0       0.001           0         100       1E+09"
+
 -- with 1 in the slot that document 02's P4 adds, T2
 unfoldable pub deck : List ℕ
-deck = deckWith "R4     1         0.5           1         365           1                        "
+deck = deckWith keptLine "R4     1         0.5           1         365           1                        "
 
 -- with T2 equal to tD, and with T2 twice as long
 unfoldable pub equalDeck : List ℕ
-equalDeck = deckWith "R4     1         0.5           1         365          30                        "
+equalDeck = deckWith keptLine "R4     1         0.5           1         365          30                        "
 
 unfoldable pub longDeck : List ℕ
-longDeck = deckWith "R4     1         0.5           1         365          60                        "
+longDeck = deckWith keptLine "R4     1         0.5           1         365          60                        "
+
+-- the same as the last of a solvent
+unfoldable pub solventDeck : List ℕ
+solventDeck = deckWith lostLine "R4     1         0.5           1         365          60                        "
 
 -- the soil of cancer for the first chemical and receptor, by the working rule
 unfoldable pub cancerSoil : List ℕ → Outcome Pair
@@ -78,7 +90,7 @@ cancerSoil deck′ = worked (pairsAt (scenarioOf ordinary deck′) 0 0) (soil Ca
 
 -- with 1 in the slot that document 02's P2 adds: a composite's deck of one stage, its years 1
 unfoldable pub compositeDeck : List ℕ
-compositeDeck = deckWith "R4     1         0.5           1         365                       1            "
+compositeDeck = deckWith keptLine "R4     1         0.5           1         365                       1            "
 
 -- what `tally` prints of it, and these lines as values
 unfoldable pub printedLines : List String
@@ -162,7 +174,7 @@ pub record Winter (env : Slot → Pair) : Type 0 where
   pub BW : is (env "BW") ≡ entry 633 (negsuc 0)
   pub ATc : is (env "ATc") ≡ whole 27375
 
--- document 01's cases, and the figures of document 02's P1, P2 and P4
+-- document 01's cases, and the figures of document 02's P1, P2, P4 and P5
 unfoldable pub cases : List (Type 0)
 cases =
     -- 2 / 3
@@ -171,10 +183,13 @@ cases =
     ∷ (afterOne oneMinus (entry 1 (negsuc 19))
     ≡ is (record { low = record { significand = 999999999; exponent = negsuc 8 }; high = record { significand = 100000000; exponent = negsuc 7 } }))
     -- x = 0: φ and g are 1, as the media read them
-    ∷ ((site chemical : Values) (particles : Pair) → ofSlots site chemical x ≡ is zeroPair → (ofMedia site chemical particles φ ≡ is onePair) × (ofMedia site chemical particles g ≡ is onePair))
+    ∷ ((site chemical : Values) (particles : Pair) → ofSlots site chemical x ≡ is zeroPair → (pairSeries phi (ofSlots site chemical x) ≡ is onePair) × (ofMedia site chemical particles g ≡ is onePair))
     -- ψ and h are 1/2 there
     ∷ ((site chemical : Values) (particles : Pair) → ofSlots site chemical x ≡ is zeroPair
-    → (ofMedia site chemical particles ψ ≡ bothEnds 500000000 500000000 (negsuc 8)) × (ofMedia site chemical particles h ≡ bothEnds 500000000 500000000 (negsuc 8)))
+    → (pairSeries psi (ofSlots site chemical x) ≡ bothEnds 500000000 500000000 (negsuc 8)) × (ofMedia site chemical particles h ≡ bothEnds 500000000 500000000 (negsuc 8)))
+    -- x = 1E+6: g is 1 / (x + 0..1E-25), and h is (1 − g) / x
+    ∷ (growthAt (whole 1000000) .g ≡ is (record { low = record { significand = 999999990; exponent = negsuc 14 }; high = record { significand = 100000000; exponent = negsuc 13 } }))
+    ∷ (growthAt (whole 1000000) .h ≡ bothEnds 999999000 999999001 (negsuc 14))
     -- ED 4.5: AT is 1642.5, as the pathways read it
     ∷ ((site chemical receptor : Values) → is (inputs site chemical receptor "ED") ≡ entry 45 (negsuc 0) → workedFor site chemical receptor (AT Hazard) ≡ bothEnds 164250000 164250000 (negsuc 4))
     -- 002's winter factor
@@ -192,6 +207,9 @@ cases =
     ∷ (worked (pairsAt (scenarioOf ordinary deck) 0 0) C ≡ bothEnds 150000000 150000000 (negsuc 8))
     ∷ (cancerSoil equalDeck ≡ bothEnds 750000000 750000000 (negsuc 9))
     ∷ (cancerSoil longDeck ≡ bothEnds 112500000 112500000 (negsuc 8))
+    -- a solvent's, which loses 1E+9 in a year what 0.005 adds, is 5E-12, and half of that where T2 is twice tD
+    ∷ (worked (pairsAt (scenarioOf ordinary solventDeck) 0 0) C ≡ bothEnds 499999998 500000001 (negsuc 19))
+    ∷ (cancerSoil solventDeck ≡ bothEnds 249999998 250000004 (negsuc 19))
     -- the composite's deck likewise
     ∷ (first (allConditions composite compositeDeck 665) ≡ Read)
     ∷ (outcomeOf composite compositeDeck 665 ≡ record { number = 0; line = 665; field = 0 })
