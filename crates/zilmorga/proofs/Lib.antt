@@ -1,2 +1,3 @@
--- What the proofs of several functions use.
+-- What the proofs of several functions use, and that no function returns 41 (`Never`). Assumes nothing.
 mod Fields
+pub mod Never
