@@ -5,10 +5,11 @@ and 02.
   python3 make_decks.py ORACLE
 
 ORACLE is the folder of that reading (its oracle.py and decks.py), written in Python from the documents alone; nothing of it is
-copied here. It gives number, line and field, or which records a deck has, with P1 to P4 landed: level 4. P4 changes T2 alone: an
-ordinary deck that does not stop at a T2 must have the same answer at level 2 with slot 22 cleared, and a composite's deck the same as
-it is. No answer comes from the crate deck. The checksum needs digits and power as printed, which the oracle does not keep: they are
-taken from the fields' bytes here, and their value is held to the oracle's.
+copied here. It gives number, line and field, or which records a deck has, with P1 to P5 landed: level 5. P5 changes nothing in how
+a deck is read: each must have the same answer at level 4. P4 changes T2 alone: an ordinary deck that does not stop at a T2 must
+have the same answer at level 2 with slot 22 cleared, and a composite's deck the same as it is. No answer comes from the crate deck.
+The checksum needs digits and power as printed, which the oracle does not keep: they are taken from the fields' bytes here, and
+their value is held to the oracle's.
 
 The first 452 decks stand in data/decks since before P1 and are answered afresh, with a T2 where they had none. One that did not stop
 at slot 22 must keep its number, line and field. The others are made anew on each run, from document 01's example but for one or two
@@ -32,7 +33,7 @@ import sys
 from fractions import Fraction
 from pathlib import Path
 
-LEVEL = 4
+LEVEL = 5
 ORDINARY, COMPOSITE = (LEVEL, False), (LEVEL, True)
 OLD = 452
 MODULUS = 999983
@@ -107,6 +108,7 @@ def at_exposure(deck, numbers):
 def answer(deck, how=ORDINARY):
     """the five numbers that are stored before a deck"""
     numbers = told(deck, how)
+    assert numbers == told(deck, (4, how[1])), "P5 changes how a deck is read"
     before = deck if how == COMPOSITE else with_exposure(deck, "", lambda part: all(32 <= b <= 126 for b in part))
     assert numbers == told(before, (2, how[1])) or at_exposure(deck, numbers), "P4 changes more than T2"
     lines = [deck[i:i + 81] for i in range(0, len(deck), 81)] if numbers[0] == 0 else []
@@ -234,7 +236,9 @@ def around_a_stop():
     yield with_fields(long, ("S", "Zs", "0000000000.0"))
 
 
-def generated(rng, how=ORDINARY):
+def generated(rng, composite=False):
+    """as the generator makes them at level 4; at level 5 it would draw others, which are read in the same way"""
+    how = 4, composite
     for i in range(28):
         deck = generator.deck(rng, *how)
         while not many_digits(deck) or len(deck) > 2500:
@@ -328,7 +332,7 @@ def stopped_composites():
 def composites(rng):
     for count in range(1, 9):
         yield composite(count, 1 + count % 3)
-    for decks in (some_years(), in_every_stage_slot(rng), stopped_composites(), generated(rng, COMPOSITE)):
+    for decks in (some_years(), in_every_stage_slot(rng), stopped_composites(), generated(rng, True)):
         yield from decks
 
 

@@ -3,12 +3,16 @@
 
 Writes FOLDER/decks, FOLDER/composites, and FOLDER/stdout, which is what a trial of the one and then of the other prints.
 
-The answers are those of level 4: document 01 with requests P1, P2 and P4 (P3 changes none). P4 changes cancer alone: each deck is held to its answer
-at level 2, an ordinary one with slot 22 cleared. Where both are reports, all hazard figures and the air's risks must be the same; a refusal must be
-the same but for 32 and 33 at a T2, 41 by one, and 42 by the risk of soil or produce. Else the script stops.
+The answers are those of level 5: document 01 with requests P1, P2, P4 and P5 (P3 changes none). P5 takes condition 41 away and changes nothing else: a
+deck that does not stop with 41 at level 4 must have the same answer at both levels, and none may stop with 41 at level 5. An accepted deck's totals must
+hold to demand 3 with 256 terms. Else the script stops.
+
+The decks of document 01, P1, P2 and P4 are the ones that were stored before P5: what they are chosen by is their answer at level 4, where a number wanted
+may be 41. Those of P5, at the end, are chosen by their answer at level 5.
 """
 import collections
 import functools
+import math
 import random
 import sys
 sys.path.insert(0, sys.argv[1])
@@ -19,10 +23,10 @@ from oracle import SITE, CHEM, NOVALUE, NONZERO, ATMOST1, ATMOST366, deck_text, 
 SEED = int(sys.argv[2])
 rng = random.Random(SEED)
 LINE = 95
-LEVEL = 4
-ORDINARY, COMPOSITE = (LEVEL, False), (LEVEL, True)
+LEVEL, BEFORE = 5, 4
+ORDINARY, COMPOSITE = (BEFORE, False), (BEFORE, True)
 REC = oracle.REC + ["T2"]
-call = ORDINARY         # the level and whether it is the composite call
+call = ORDINARY         # the level that decks are chosen by, and whether it is the composite call
 moved = collections.Counter()
 
 
@@ -30,6 +34,7 @@ class File:
     """the decks of a file, and of each kind how many have which number"""
     def __init__(self):
         self.stored, self.have, self.by_kind = [], set(), collections.defaultdict(collections.Counter)
+        self.accepted = []
 
 
 files = {"decks": File(), "composites": File()}
@@ -50,7 +55,7 @@ def need(deck):
         site, chems, recs = oracle.read_deck(deck, *call)
     except Refusal:
         return None
-    return LINE * (1 if call == COMPOSITE else len(recs)) * (6 * len(chems) + 1)
+    return LINE * (1 if call[1] else len(recs)) * (6 * len(chems) + 1)
 
 
 def any_room(deck):
@@ -68,28 +73,20 @@ def without_exposure(deck):
     return deck
 
 
-def not_cancer(text):
-    """the columns of a report that P4 leaves: hazard's, and the air's risks"""
-    return [line if line[12:14] == b" 1" else line[:54] for line in text.splitlines()]
-
-
 def held(deck, room):
-    """the deck's answer, which differs from the one before P4 in what P4 changes alone"""
-    then, now = answer(deck if call == COMPOSITE else without_exposure(deck), room, (2, call[1])), answer(deck, room)
-    before, number, line, field = then[0][0], *now[0]
-    if before == number == 0:
-        assert not_cancer(then[1]) == not_cancer(now[1])
-    elif then[0] != now[0]:
-        at_T2 = call == ORDINARY and number in (31, 32, 33) and field == 4 and deck[81 * line - 81:81 * line - 79] == b"R4"
-        assert at_T2 or number == 41 or {before, number} <= {0, 42}, (then[0], now[0])
-    moved[call[1], before, number] += then != now
+    """the answer that is stored: the one before P5, but for 41"""
+    then, now = (answer(deck, room, (level, call[1])) for level in (BEFORE, LEVEL))
+    assert now[0][0] != 41 and (then == now or then[0][0] == 41), (then[0], now[0])
+    assert now[0][0] != 0 or oracle.demand_3(deck, 256, LEVEL, call[1])
+    moved[call[1], now[0][0]] += then[0][0] == 41
     return now
 
 
 def put(kind, deck, room=None, want=None):
+    """stores it, where its number at the level of the call is wanted"""
     if room is None:
         room = any_room(deck)
-    file = files["composites" if call == COMPOSITE else "decks"]
+    file = files["composites" if call[1] else "decks"]
     if (deck, room) in file.have:
         return False
     if want is not None and answer(deck, room)[0][0] not in want:
@@ -99,6 +96,8 @@ def put(kind, deck, room=None, want=None):
     file.have.add((deck, room))
     file.stored.append("".join(f"{x:>6}" for x in (len(deck), room) + told).encode() + b"\n" + deck + rep)
     file.by_kind[kind][told[0]] += 1
+    if told[0] == 0:
+        file.accepted.append(deck)
     return True
 
 
@@ -353,8 +352,8 @@ while done < 10:
         if told[1] > first:
             done += put(K, deck, None)
 
-# 41 before 42, 51 before both, the deck's own conditions before 51
-K = "two conditions at once"
+# 51 before 42, with a solvent too, and the deck's own conditions before 51; before P5 41 came between
+K = "two conditions at once; a solvent with one"
 both = one(S(tD="1", **ONLY), C(ksg="65", CSFo="1E+09", Q="1E+09"))
 put(K, both)
 put(K, both, n - 1)
@@ -452,8 +451,8 @@ put(K, deck_text((1, S0), [(1, C0)], [(9, R0), (9, R0)]), None, {22})
 put(K, deck_text((1, S0), [(1, C0)], [(10, R0), (9, R0)]), None, {22})
 put(K, deck_text((7, S0), [(7, C0), (999999, C0)], [(7, R0), (8, R0)]))
 for number, count in ((11, 2), (12, 12), (21, 4), (22, 10), (31, 16), (32, 14), (33, 14)):
-    fill(K, count, lambda: decks.damage(rng, some_deck(), LEVEL), {number})
-fill(K, 8, lambda: decks.damage(rng, some_deck(), LEVEL), {0})
+    fill(K, count, lambda: decks.damage(rng, some_deck(), BEFORE), {number})
+fill(K, 8, lambda: decks.damage(rng, some_deck(), BEFORE), {0})
 
 
 # ---- request P1: as many digits as twelve columns hold ----
@@ -697,7 +696,7 @@ for name, t in zip(rng.sample(SITE + CHEM + REC, 20),
 # damaged decks of long numbers
 K = "P1: damaged decks"
 for number, count in ((0, 3), (31, 4), (32, 2), (33, 4), (22, 1), (21, 1)):
-    fill(K, count, lambda: decks.damage(rng, long_deck(1, 1), LEVEL), {number})
+    fill(K, count, lambda: decks.damage(rng, long_deck(1, 1), BEFORE), {number})
 
 # ---- request P2: composite receptors, each made of one to eight stages ----
 STAGE = oracle.Rules(*COMPOSITE).slots["R"]
@@ -870,10 +869,10 @@ YEAR_WAYS = {**EXPOSURE_WAYS, "years added as pairs, the low end": (lambda: year
 tells = collections.Counter()
 
 
-def told_apart(deck):
+def told_apart(deck, ways):
     """the ways whose report is another one"""
-    told, rep = answer(deck, None)
-    return {w for w, (way, *where) in (YEAR_WAYS if call == COMPOSITE else EXPOSURE_WAYS).items() if otherwise(deck, way(), *where) != rep}
+    rep = answer(deck, None)[1]
+    return {w for w, (way, *where) in ways.items() if otherwise(deck, way(), *where) != rep}
 
 
 def scaled(v, power):
@@ -896,7 +895,7 @@ def telling_best(make, tD="30", tries=40):
         deck = make(figures(tD))
         if answer(deck, None)[0][0] != 0:
             return deck
-        apart = told_apart(deck)
+        apart = told_apart(deck, YEAR_WAYS if call[1] else EXPOSURE_WAYS)
         if best[0] is None or len(apart) > len(best[1]):
             best = deck, apart
     tells.update((call[1], w) for w in best[1])
@@ -957,7 +956,7 @@ for tD, T2 in (("20", "52.1234567"), ("25", "50")):
     for k in adjacent(loss, 0, MOST, eleven):
         assert put(K, loss(eleven(k)), None, {0, 41})
 
-K = "P4: one receptor's T2 above the bound"
+K = "P4: one receptor's k x (T2 - tD) at 64 and above"
 for place, chemical, count in ((1, 1, 1), (2, 1, 1), (3, 2, 2), (4, 3, 3), (4, 16, 16)):
     cs = [(i, C(ksg="2" if i == chemical else "0.5", ksv="0")) for i in range(1, count + 1)]
     for T2 in ("33", "33.000000001"):
@@ -1249,7 +1248,7 @@ def later_cap():
 fill("42 of a later line", 5, later_cap)
 
 # order
-K = "two conditions at once"
+K = "two conditions at once; a solvent with one"
 fast, hot = C(ksg="65", ksv="0"), C(CSFo="1E+09", Q="1E+09")
 for cs, room, number in (([hot], 664, 51), ([hot], 665, 42), ([fast], 664, 51), ([hot, fast], 1235, 41), ([hot, fast], 1234, 51), ([fast, hot], 0, 51)):
     assert put(K, composite(FIVE, S(tD="1", **ONLY), cs), room, {number})
@@ -1348,6 +1347,312 @@ for tD, years, ksg, number in (("1", "16 17", "2", 0), ("1", "16 17.0000001", "2
                None, {number})
 print("of the decks for P4 so many tell apart:", {f"{w}{', composites' if c else ''}": n for (c, w), n in sorted(tells.items())})
 
+# ---- request P5: solvents, whose x or k x (T2 - tD) is above 64; ordinary ones and composites, chosen by the answers stored ----
+g_kept, h_kept, losses_kept = oracle.g_at, oracle.h_at, oracle.losses
+
+
+def choice(above):
+    """over_64 with another test of the pair k x tD, or k x (T2 - tD)"""
+    kept = oracle.over_64
+    return lambda site, c, T2s: {t: above(PAIRS.mul(oracle.loss(PAIRS, site, c), PAIRS.num(t))) for t in kept(site, c, T2s)}
+
+
+def later_by_x(A, site, c, T2s, over):
+    return soils_kept(A, site, c, T2s, dict.fromkeys(over, over[site["tD"]]))
+
+
+def x_by_later(A, site, c, T2s, over):
+    """in the mean; hazard's soil as ever"""
+    tD = site["tD"]
+    return soils_kept(A, site, c, [], over)[0], [soils_kept(A, site, c, [T2], {**over, tD: over.get(T2 - tD, over[tD])})[1][0] for T2 in T2s]
+
+
+def one_for_all_chemicals(case, rules):
+    over = losses_kept(case, rules)
+    return [{t: any(o[t] for o in over) for t in over[0]}] * len(over)
+
+
+def one_for_all_receptors(case, rules):
+    tD = case[0]["tD"]
+    return [{t: o[t] if t == tD else any(o[u] for u in o if u != tD) for t in o} for o in losses_kept(case, rules)]
+
+
+def low_from_low(p):
+    return oracle.restw(p[0], False), oracle.restw(p[1], True)
+
+
+SOLVENT_WAYS = {
+    "1 / phi as 0 and 0": (lambda: oracle.ZERO, oracle, "TINY"),
+    "the low end decides": (lambda: choice(lambda p: oracle.value(p[0]) > 64), oracle, "over_64"),
+    "64 counted as above": (lambda: choice(lambda p: oracle.value(p[1]) >= 64), oracle, "over_64"),
+    "h by the series": (lambda: lambda A, x, above: h_kept(A, x, False), oracle, "h_at"),
+    "h as 1 / x": (lambda: lambda A, x, above: A.div(A.num(1), x) if above else h_kept(A, x, False), oracle, "h_at"),
+    "k x (T2 - tD) goes by x": (lambda: later_by_x, oracle, "soils"),
+    "x goes by k x (T2 - tD)": (lambda: x_by_later, oracle, "soils"),
+    "1 - g low from low": (lambda: staticmethod(low_from_low), oracle.Pairs, "comp"),
+    "one chemical decides for all": (lambda: one_for_all_chemicals, oracle, "losses"),
+    "one receptor decides for all": (lambda: one_for_all_receptors, oracle, "losses"),
+}
+# the first two are never told: beside x, whose ninth figure is 1E-7 or more, all that is above 0 and at most that moves the sum's high end alone, by one
+# working number; the last is the first way of those above
+SAME_WAYS = {
+    "1E-26 for 1E-25": (lambda: (None, oracle.of(oracle.F(1, 10 ** 26), True)), oracle, "TINY"),
+    "g by the series": (lambda: lambda A, x, above: g_kept(A, x, False), oracle, "g_at"),
+    "g as 1 / x": (lambda: lambda A, x, above: A.div(A.num(1), x) if above else g_kept(A, x, False), oracle, "g_at"),
+}
+
+
+def sized(v):
+    """six figures of a number in range"""
+    return f"{min(max(v, 1e-20), 9e8):.5e}".replace("e", "E")
+
+
+def fitted(site, chems, people):
+    """a deck of these whose largest quotient and risk of each chemical have all their figures printed and are below the caps: first with reference values of 1
+    and an emission drawn, then with others"""
+    text = lambda cs: deck_text((1, site), [(i, C(**c)) for i, c in enumerate(cs, 1)], list(enumerate(people, 1)))
+    drawn = [dict(Q=rng.uniform(20, 200), Dydp=rng.uniform(.01, .1), Dywp=rng.uniform(.01, .1)) for _ in chems]
+    some = [{**dict(HgA="0", RfDo="1", CSFo="1", RfDi="1E+05", Br=digits(rng.uniform(.01, .1), 5)), **c, **{k: sized(v) for k, v in d.items()}}
+            for c, d in zip(chems, drawn)]
+    case, rules = oracle.read_deck(text(some), *call), oracle.Rules(*call)
+    largest = [[0, 0] for _ in chems]
+    for _, lines in oracle.sheet(PAIRS, case, rules, oracle.losses(case, rules)):
+        for i, _, *two in lines:
+            largest[i - 1] = [max(a, float(oracle.value(b[1]))) for a, b in zip(largest[i - 1], two)]
+    for c, d, (quotient, risk) in zip(some, drawn, largest):
+        lift = -2 - round(math.log10(risk))
+        q = min(max(lift, -18), 6)
+        more = min(max(lift - q, 0), 9)
+        c.update(Q=sized(d["Q"] * 10.0 ** q), Dydp=sized(d["Dydp"] * 10.0 ** more), Dywp=sized(d["Dywp"] * 10.0 ** more),
+                 RfDo=sized(quotient * 10.0 ** (q + more) / rng.uniform(1000, 9000)), CSFo=sized(rng.uniform(.1, .9) / risk / 10.0 ** (q + more)))
+    return text(some)
+
+
+def telling_solvent(site, chems, people, tries=10):
+    """of such decks the one that tells the most ways apart; a loss may be drawn"""
+    best = None, set()
+    for _ in range(tries):
+        deck = fitted(site, [{k: v() if callable(v) else v for k, v in c.items()} for c in chems], people)
+        apart = told_apart(deck, SOLVENT_WAYS) if answer(deck, None)[0][0] == 0 else set()
+        if best[0] is None or len(apart) > len(best[1]):
+            best = deck, apart
+    return best[0]
+
+
+def over_of(deck):
+    """for each chemical: whether x is above 64, and whether k x (T2 - tD) of each T2 above tD is"""
+    case = site, chems, recs = oracle.read_deck(deck, *call)
+    return [(o[site["tD"]], [o[T2 - site["tD"]] for _, T2, _ in oracle.people(recs, oracle.Rules(*call)) if T2 > site["tD"]])
+            for o in oracle.losses(case, oracle.Rules(*call))]
+
+
+def at_64(deck):
+    """some x or k x (T2 - tD) of it is 64 or above"""
+    site, chems, recs = oracle.read_deck(deck, *call)
+    T2s = [T2 for _, T2, _ in oracle.people(recs, oracle.Rules(*call))]
+    return any(any(choice(lambda p: oracle.value(p[1]) >= 64)(site, c, T2s).values()) for c in chems)
+
+
+def exposures(T2):
+    """the receptor with this T2, or stages whose years add to it"""
+    if not call[1]:
+        return [R(T2=T2)]
+    return [with_(f, STAGE, years=y) for f, y in zip(EIGHT, T2.split())]
+
+
+def solvents(kind, *shapes):
+    """stores a deck of one chemical for each shape: tD, T2, its loss, whether x is above 64, and where T2 is above tD whether k x (T2 - tD) is"""
+    for tD, T2, loss, *above in shapes:
+        loss = {"ksg": loss} if type(loss) is not dict else loss
+        site = {**ONLY, **{k: v for k, v in loss.items() if k in SITE}}
+        chemical = {"ksg": "0", "ksv": "0", **{k: v for k, v in loss.items() if k in CHEM}}
+        deck = telling_solvent(S(tD=tD, **site), [chemical], exposures(T2))
+        assert over_of(deck) == [(above[0], above[1:])], (tD, T2, loss, over_of(deck))
+        assert put(kind, deck, None, {0}), (kind, tD, T2)
+
+
+def about(v):
+    """draws eleven digits, up to a tenth above v"""
+    return lambda: digits(v * rng.uniform(1, 1.1), 11)
+
+
+def straddling(tD, T2):
+    """a loss of all kinds whose x has its ends on both sides of 64"""
+    site = {k: S0[SITE.index(k)] for k in ONLY}
+    case = oracle.read_deck(deck_text((1, S(tD=tD)), [(1, C(ksg="0"))], [(1, exposures(T2)[0])]), *call)
+    rest = 64 / case[0]["tD"] - oracle.loss(oracle.Exact(256), case[0], case[1][0])
+    return tD, T2, {**site, "ksv": C0[CHEM.index("ksv")], "ksg": f"{float(rest):.10f}"}
+
+
+UP, DOWN = True, False
+THIN = dict(Zs="1E-20", BD="1E-20", th="1E-20")
+RUNOFF, RAIN = (dict(THIN, Kds="1E-20", **{k: "1E+09"}) for k in ("RO", "R"))
+EROSION = dict(THIN, Kds="1E+09", Xe="1E+09", SD="1E+09", ER="1E+09")
+ALL = {**EROSION, **{k: "1E+09" for k in ("RO", "R", "ksg", "ksv")}}
+
+ORDINARY, COMPOSITE = (LEVEL, False), (LEVEL, True)
+call = ORDINARY
+solvents("P5: x at 64 and a unit of its ninth figure above",
+         ("1", "0.5", "64", DOWN), ("1", "1", "64.0000001", UP), ("1", "0.5", "64.0000001", UP), ("10", "4", "6.40000001", UP), ("10", "10.05", "6.4", DOWN, DOWN),
+         ("10", "10.05", "6.40000001", UP, DOWN), ("100", "100.5", "0.64", DOWN, DOWN), ("100", "100.5", "0.640000001", UP, DOWN),
+         ("100", "300", "0.640000001", UP, UP), ("32", "16", "2", DOWN), ("32", "64", "2", DOWN, DOWN), ("32", "64.000000001", "2", DOWN, UP),
+         ("1E+09", "1E+09", {"ksv": "6.4E-08"}, DOWN), ("1E+09", "5", {"ksv": "64000001E-15"}, UP), ("1", "0.25", {"ksg": "32", "ksv": "32.0000001"}, UP),
+         ("64.0000001", "65", "1", UP, DOWN), ("64", "64.5", "1", DOWN, DOWN))
+solvents("P5: x with its ends on both sides of 64",
+         ("1", "0.5", "64.000000001", UP), ("1.0000000001", "0.5", "64", UP), ("32.000000001", "33", "2", UP, DOWN), ("1", "1.001", "64.000000001", UP, DOWN),
+         (*straddling("30", "20"), UP), (*straddling("30", "30.01"), UP, DOWN), (*straddling("12.345678901", "75.123456789"), UP, UP))
+solvents("P5: x far above 64, T2 within tD",
+         ("30", "20", about(33), UP), ("30", "30", about(3.3), UP), ("1", "0.5", about(1e6), UP), ("1", "1", "1E+09", UP), ("1000", "7", "1E+09", UP),
+         ("1E+09", "1E+09", "1E+09", UP), ("1E+09", "1E-20", {"ksg": "1E+09", "ksv": "1E+09"}, UP), ("1E+09", "0.5", {"ksv": "1E+09"}, UP),
+         ("30", "20", {"RO": "1E+09"}, UP), ("30", "20", {"R": "1E+06"}, UP), ("30", "20", {"Xe": "1E+06"}, UP), ("1E+09", "70", RUNOFF, UP), ("1E+09", "70", RAIN, UP),
+         ("1E+09", "70", EROSION, UP), ("1E+09", "1E+09", ALL, UP))
+solvents("P5: x above 64, k x (T2 - tD) not",
+         ("30", "30.1", about(3.3), UP, DOWN), ("30", "30.000000001", "1E+09", UP, DOWN), ("30", "30.000000001", about(1e7), UP, DOWN),
+         ("999999999.99", "1E+09", "100", UP, DOWN), ("33", "65", "2", UP, DOWN), ("75", "85", about(1), UP, DOWN), ("30", "30.001", {"RO": "1E+06"}, UP, DOWN),
+         ("30", "30.01", {"Xe": "1E+05"}, UP, DOWN), ("12.345678901", "12.345678912", "1E+09", UP, DOWN), ("1E-07", "1.1E-07", "1E+09", UP, DOWN))
+solvents("P5: k x (T2 - tD) above 64, x not",
+         ("1", "34", "2", DOWN, UP), ("1", "65.0000001", "1", DOWN, UP), ("1", "33.000000001", "2", DOWN, UP), ("32", "1E+09", "2", DOWN, UP),
+         ("1E-20", "1E+09", "1E+09", DOWN, UP), ("1E-20", "1", {"ksg": "1E+09", "ksv": "1E+09"}, DOWN, UP), ("30", "75.5", "2.12345678", DOWN, UP),
+         ("30", "1E+09", "1E-07", DOWN, UP), ("0.01", "30", {"RO": "1E+06"}, DOWN, UP), ("12.345678901", "85.123456789", about(1), DOWN, UP))
+solvents("P5: x and k x (T2 - tD) above 64",
+         ("30", "75.5", about(3.3), UP, UP), ("33", "65.000000001", "2", UP, UP), ("64.0000001", "128.0000002", "1", UP, UP), ("1", "2", "1E+09", UP, UP),
+         ("1E-07", "1E+09", "1E+09", UP, UP), ("5E+08", "1E+09", "1E+09", UP, UP), ("1", "1E+09", RUNOFF, UP, UP), ("1", "1E+09", RAIN, UP, UP),
+         ("1E-20", "1E+09", EROSION, UP, UP), ("5E+08", "1E+09", ALL, UP, UP))
+
+
+def several(kind, tD, T2s, losses, tries=4):
+    """stores a deck of these chemicals; T2s are the receptors', or one list of years"""
+    people = exposures(T2s) if call[1] else [R(T2=t) for t in T2s.split()]
+    assert put(kind, telling_solvent(S(tD=tD, **ONLY), [{"ksv": "0", "ksg": k, "Kds": str(10 * i)} for i, k in enumerate(losses, 1)], people, tries), None, {0})
+
+
+K = "P5: no loss, alone and beside a solvent"
+for tD, T2s, losses in (("1E+09", "1E+09", ["0"]), ("30", "1E+09", ["0"]), ("30", "20", ["0", "1E+09"]), ("30", "75", ["1E+09", "0"])):
+    several(K, tD, T2s, losses)
+K = "P5: one chemical of several a solvent"
+for tD, T2s, place, count in (("30", "20", 1, 2), ("30", "31.5", 2, 2), ("30", "30 75", 2, 3), ("30", "75 30.1", 3, 3), ("30", "30.001", 5, 5), ("30", "20", 16, 16)):
+    several(K, tD, T2s, [about(3.3) if i == place else about(.01 * i) for i in range(1, count + 1)])
+several(K, "1", "1.5", [about(65), "64", "1E+09", "64.0000001", "0.5"])
+K = "P5: receptors that differ in T2 alone"
+for tD, T2s, losses in (("30", "20 30 30.1 80", [about(3.3)]), ("30", "80 30.1 30 20", [about(3.3)]), ("1", "33 34 1.5 0.5", ["2"]),
+                        ("1", "1.5 34 33 40", [about(1.9), "2"]), ("1E-20", "1E+09 1 1E-20", ["1E+09"]), ("30", "30.000000001 75 31", ["1E+09", "2", about(.5)])):
+    several(K, tD, T2s, losses)
+
+
+def with_solvents(records):
+    """these records, each chemical with a quick decay"""
+    s, cs, rs = records
+    for _, c in cs:
+        c[11] = decks.spell(rng, 10 ** rng.uniform(.3, 2) * 64 / float(s[1][2]), 9)
+    return deck_text(s, cs, rs)
+
+
+K = "P5: 16 solvents"
+full = accepted(lambda: with_solvents(realistic(16, 4)))
+assert all(x for x, _ in over_of(full)) and put(K, full, 36860, {0}) and put(K, full, 36859, {51})
+assert put(K, accepted(lambda: with_solvents(realistic(16, 1))), None, {0})
+
+K = "P5: ten to twelve digits in all fields"
+
+
+def long_solvents(nc, nr, receptor):
+    record = lambda names: ["" if n is None else long(lively(n)) for n in names]
+    s, cs, rs = (1, record(SITE)), [(i, record(CHEM)) for i in range(1, nc + 1)], [(i, record(receptor)) for i in range(1, nr + 1)]
+    for _, c in cs:
+        c[11] = f"{10 ** rng.uniform(.3, 3) * 64 / float(s[1][2]):.10f}"[:12]
+    return deck_text(s, cs, rs)
+
+
+for nc, nr in ((1, 1), (1, 1), (1, 2), (2, 1), (3, 4)):
+    fill(K, 1, lambda: long_solvents(nc, nr, REC), {0})
+
+K = "P5: figures near their caps"
+
+
+def solvent_at(p, name, T2, t):
+    """pathway p alone, this reference value"""
+    people = each(exposures(T2), **ALONE[p]) if call[1] else [R(T2=T2, **ALONE[p])]
+    return deck_text((1, S0), [(1, C(**{**dict.fromkeys(REFS, "-"), "Q": "1E+05", "RCF": "1E+04", "ksg": "3.3", name: t}))], list(enumerate(people, 1)))
+
+
+def solvents_at_caps(K, T2s, paths=range(2, 7)):
+    for p in paths:
+        name = "RfDo" if p % 2 else "CSFo"
+        make = functools.partial(solvent_at, p, name, T2s[p // 2 % 2])
+        for k, number in zip(adjacent(make, 0, 90_000_000 * 29), (42, 0) if name == "RfDo" else (0, 42)):
+            assert put(K, make(nine(k)), None, {number})
+
+
+solvents_at_caps(K, ("20", "75"))
+# x = 100, whose g has the high end 0.01: the high end of pathway 5's quotient is Q / 800
+for q, number in (("8000000", 0), ("8000000.01", 42), ("7999999.99", 0)):
+    assert put(K, one(with_(XS, SITE, tD="100"), with_(XC, CHEM, Q=q, ksg="1", HgA="0", CSFo="-"), XR), None, {number})
+hot, quick = C(CSFo="1E+09", Q="1E+09"), C(ksg="1E+09", CSFo="1E+09", Q="1E+09", Dydp="1E+09")
+for cs, room, number in (([C0, quick], None, 42), ([quick, C0], 95 * 13 - 1, 51), ([C(ksg="1E+09"), hot], None, 42)):
+    assert put(K, deck_text((1, S0), list(enumerate(cs, 1)), [(1, R0)]), room, {number})
+
+
+def generated():
+    """a deck of the reading's own generator that stopped with 41"""
+    while True:
+        deck = decks.deck(rng, *call)
+        if answer(deck, None, (BEFORE, call[1]))[0][0] == 41:
+            return deck
+
+
+K = "P5: by the reading's own generator"
+for number, count in ((0, 12), (42, 2)):
+    fill(K, count, generated, {number})
+
+# a composite's T2 is the sum of its years
+call = COMPOSITE
+PERSON = "0.5 4.5 7 8 56"
+solvents("P5: x at 64 and a unit of its ninth figure above",
+         ("1", "0.2 0.3", "64", DOWN), ("1", "0.5 0.5", "64.0000001", UP), ("32", "16 16.5", "2", DOWN, DOWN), ("10", "10 0.05", "6.40000001", UP, DOWN),
+         ("64.0000001", "64 0.5", "1", UP, DOWN), ("100", PERSON, "0.640000001", UP))
+solvents("P5: x with its ends on both sides of 64",
+         ("32.000000001", "16 17", "2", UP, DOWN), ("1", "0.25 0.75", "64.000000001", UP), (*straddling("30", PERSON), UP, UP), (*straddling("76", PERSON), UP))
+solvents("P5: x far above 64, T2 within tD",
+         ("76", PERSON, about(3.3), UP), ("76", PERSON, "1E+09", UP), ("1E+09", "1E+09", "1E+09", UP), ("1E+09", PERSON, RUNOFF, UP),
+         ("1E+09", PERSON, RAIN, UP), ("1E+09", PERSON, EROSION, UP), ("1E+09", "5E+08 5E+08", ALL, UP))
+solvents("P5: x above 64, k x (T2 - tD) not",
+         ("30", "15 15.1", about(3.3), UP, DOWN), ("30", "30 1E-20", "1E+09", UP, DOWN), ("76", PERSON + ".000000001", "1E+09", UP, DOWN), ("33", "32 33", "2", UP, DOWN),
+         ("0.8", "0.1 " * 7 + "0.1000000001", about(1e8), UP, DOWN), ("75", PERSON, about(2), UP, DOWN), ("1E+09", "1E+09 1E-20", "1E+09", UP, DOWN))
+solvents("P5: k x (T2 - tD) above 64, x not",
+         ("1", "16 17.0000001", "2", DOWN, UP), ("1", "33 1E-20", "2", DOWN, UP), ("30", PERSON, "2", DOWN, UP), ("1", "65 0.0000001", "1", DOWN, UP),
+         ("1E-20", "1E+09 1E+09", "1E+09", DOWN, UP), ("0.01", PERSON, {"RO": "1E+06"}, DOWN, UP))
+solvents("P5: x and k x (T2 - tD) above 64",
+         ("30", PERSON, about(3.3), UP, UP), ("1", "1 1", "1E+09", UP, UP), ("33", "33 32.000000001", "2", UP, UP),
+         ("1", "1E+09 " * 8, "1E+09", UP, UP), ("1", PERSON, ALL, UP, UP))
+K = "P5: no loss beside a solvent, one chemical of several a solvent"
+for tD, years, losses in (("76", PERSON, ["0", "1E+09"]), ("30", PERSON, ["1E+09", "0"]), ("75.5", PERSON, [about(.1), about(3.3)]),
+                          ("75.9", PERSON, [about(3.3), about(.1), about(.2)]), ("30", "15 15.5", [about(3.3 if i == 9 else .03 * i) for i in range(1, 17)])):
+    several(K, tD, years, losses)
+K = "P5: 16 solvents and 8 stages"
+full = accepted(lambda: with_solvents(realistic(16, 8, STAGE)))
+assert len(full) == 8019 and put(K, full, 9215, {0}) and put(K, full, 9214, {51})
+K = "P5: ten to twelve digits in all fields"
+for nc, nr in ((1, 1), (1, 3), (2, 8)):
+    fill(K, 1, lambda: long_solvents(nc, nr, STAGE), {0})
+K = "P5: figures near their caps"
+solvents_at_caps(K, (PERSON, "10 15"), (2, 3, 5, 6))
+assert put(K, composite(FIVE, None, [C0, quick]), None, {42})
+K = "P5: by the reading's own generator"
+for number, count in ((0, 7), (42, 1)):
+    fill(K, count, generated, {number})
+
+# what all decks tell that are stored, those from before P5 too
+solvent_tells = collections.Counter()
+for name, file in files.items():
+    call = COMPOSITE if name == "composites" else ORDINARY
+    for deck in file.accepted:
+        if at_64(deck):
+            apart = told_apart(deck, {**SOLVENT_WAYS, **SAME_WAYS})
+            assert not apart & {"1E-26 for 1E-25", "g by the series"} and ("g as 1 / x" in apart) == ("1 / phi as 0 and 0" in apart)
+            solvent_tells.update((name, w) for w in apart)
+            solvent_tells[name, "all"] += 1
+print("of the decks with a product at 64 or above so many tell apart:", {f"{name}, {w}": n for (name, w), n in sorted(solvent_tells.items())})
+
 for name, file in files.items():
     data = b"".join(file.stored)
     open(f"{sys.argv[3]}/{name}", "wb").write(data)
@@ -1359,4 +1664,4 @@ for name, file in files.items():
     with open(f"{sys.argv[3]}/stdout", "a" if name == "composites" else "w") as f:
         f.write(f"decks {len(file.stored)}\naccepted {accepted}\nrefused {refused}\ndiffering 0\n")
 for composites, whose in ((False, "ordinary"), (True, "a composite's")):
-    print(f"{whose} decks that P4 answers otherwise:", {f"{a} to {b}": n for (c, a, b), n in sorted(moved.items()) if c == composites and n})
+    print(f"{whose} decks that stop with 41 before P5, and now with:", {number: n for (c, number), n in sorted(moved.items()) if c == composites and n})
