@@ -2,10 +2,10 @@
 //! Either call has its own.
 
 use crate::deck::{
-    Chemical, Printed, Receptor, Slot, Sort, CHEMICAL, CHEMICAL_VALUES, FV, LINE, MOST_CHEMICALS, RECEPTOR, SITE, TD,
-    YEARS,
+    Case, Chemical, Printed, Receptor, Slot, Sort, CHEMICAL, CHEMICAL_VALUES, FV, LINE, MOST_CHEMICALS, RECEPTOR, SITE,
+    TD, YEARS,
 };
-use crate::page::{composite, pathways, Body, Exposure, Figures, Media, Site};
+use crate::page::{composite, has_series, pathways, Body, Exposure, Figures, Loss, Media, Site};
 use crate::pairs::{Pair, Working};
 use crate::rng::Rng;
 use crate::years::{Years, FINEST};
@@ -38,7 +38,7 @@ pub fn trial(sort: Sort, seed: u64, place: u64) -> Trial {
     Trial { deck, room, before: rng.word() }
 }
 
-/// A sound deck of this many chemicals and receptors with everyday values, for timing.
+/// A sound deck of this many chemicals and receptors with everyday values, for timing: at every exponent a series is worked.
 pub fn everyday(sort: Sort, seed: u64, chemicals: usize, receptors: usize) -> Vec<u8> {
     everyday_draft(&mut Rng::new(seed), sort, chemicals, receptors).1
 }
@@ -51,7 +51,7 @@ pub fn everyday_eleven(sort: Sort, seed: u64, chemicals: usize, receptors: usize
         let mut draft = draft.clone();
         draft.each(|slot, v| lengthened(rng, slot, v, 11));
         let deck = draft.written(plain);
-        if accepted(sort, &deck) {
+        if accepted(sort, &deck) && slow(sort, &deck) {
             return deck;
         }
     }
@@ -78,7 +78,7 @@ fn everyday_draft(rng: &mut Rng, sort: Sort, chemicals: usize, receptors: usize)
     loop {
         let draft = Draft::new(rng, sort, chemicals, receptors, 0);
         let deck = draft.deck(rng);
-        if accepted(sort, &deck) {
+        if accepted(sort, &deck) && slow(sort, &deck) {
             return (draft, deck);
         }
     }
@@ -86,6 +86,29 @@ fn everyday_draft(rng: &mut Rng, sort: Sort, chemicals: usize, receptors: usize)
 
 fn accepted(sort: Sort, deck: &[u8]) -> bool {
     crate::report(sort, deck, &mut [0; LONGEST_REPORT]).0 == 0
+}
+
+/// Whether no exponent of a deck that is read is above 64.
+fn slow(sort: Sort, deck: &[u8]) -> bool {
+    let mut case = Case::empty();
+    crate::report::read_reported(sort, deck, &mut case).is_ok() && {
+        let site = Site::new(&case.site, case.td);
+        let exposures: Vec<Exposure> = case.receptors().iter().map(|r| site.exposure(r)).collect();
+        case.chemicals().iter().map(|c| site.loss(c)).all(|l| has_series(l.x) && !fast_beyond(&l, &exposures))
+    }
+}
+
+/// k × (T2 − tD), where T2 is above tD.
+fn beyond(loss: &Loss, exposure: &Exposure) -> Option<Pair> {
+    match *exposure {
+        Exposure::Within => None,
+        Exposure::Beyond { rest, .. } => Some(loss.k * rest),
+    }
+}
+
+/// Whether k × (T2 − tD) of any of these is above 64.
+fn fast_beyond(loss: &Loss, exposures: &[Exposure]) -> bool {
+    exposures.iter().filter_map(|exposure| beyond(loss, exposure)).any(|x| !has_series(x))
 }
 
 fn room(rng: &mut Rng, sort: Sort, deck: &[u8]) -> usize {
@@ -250,6 +273,11 @@ struct Draft {
 }
 
 // Places of slots that a style sets.
+const XE: usize = 4;
+const SD: usize = 5;
+const ER: usize = 6;
+const RO: usize = 7;
+const R: usize = 8;
 const FRSNOW: usize = 10;
 const KDS: usize = 10;
 const KSG: usize = 11;
@@ -484,25 +512,20 @@ impl Draft {
         }
     }
 
-    /// The figures of one chemical and receptor, unless its loss is too fast to work them.
-    fn figures(&self, chemical: usize, receptor: usize) -> Option<[Figures; 6]> {
+    /// The figures of one chemical and receptor.
+    fn figures(&self, chemical: usize, receptor: usize) -> [Figures; 6] {
         let (site, chemical, person) = (self.site(), self.chemical(chemical), self.person(receptor));
-        let (loss, exposure) = (site.loss(&chemical), site.exposure(&person));
-        let slow = loss.slow_enough(&[exposure]);
-        slow.then(|| {
-            let media = Media::new(&site, &chemical, &loss);
-            pathways(&site, &chemical, &media, &exposure, &Body::new(&person))
-        })
+        let media = Media::new(&site, &chemical);
+        pathways(&site, &chemical, &media, &site.exposure(&person), &Body::new(&person))
     }
 
-    /// k of a chemical, about.
-    fn real_k(&self, i: usize) -> f64 {
-        real(self.site().loss(&self.chemical(i)).k().high)
+    fn loss(&self, i: usize) -> Loss {
+        self.site().loss(&self.chemical(i))
     }
 
     /// No loss but by decay.
     fn decay_alone(&mut self, i: usize) {
-        for at in [4, 7, 8] {
+        for at in [XE, RO, R] {
             self.site[at] = Some((0, 0));
         }
         self.chemicals[i].1[KSV] = Some((0, 0));
@@ -514,7 +537,7 @@ impl Draft {
         let exposures: Vec<Exposure> = (0..self.persons()).map(|r| site.exposure(&self.person(r))).collect();
         let fast = |i: usize| {
             let loss = site.loss(&self.chemical(i));
-            loss.slow_enough(&[]) && !loss.slow_enough(&exposures)
+            has_series(loss.x) && fast_beyond(&loss, &exposures)
         };
         if !(0..self.chemicals.len()).any(fast) {
             return;
@@ -596,15 +619,25 @@ impl Draft {
     /// Sets one receptor's T2, or one stage's years, so that k × (T2 − tD) of the most quickly lost chemical comes to about 64.
     fn bring_rest_to_64(&mut self, rng: &mut Rng, r: usize) {
         self.most = 12;
-        if rng.chance(60) {
+        let nine = rng.chance(30);
+        if nine || rng.chance(50) {
             // Loss that divides 64.
             for i in 0..self.chemicals.len() {
                 self.decay_alone(i);
                 let round = rng.one_of(&[(64, -2), (5, -1), (1, 0), (16, -1), (2, 0), (8, -1), (1, -1), (128, -3)]);
-                self.chemicals[i].1[KSG] = Some(round);
+                self.chemicals[i].1[KSG] = Some(if nine { (1, 0) } else { round });
             }
         }
-        let k = (0..self.chemicals.len()).map(|i| self.real_k(i)).fold(0.0, f64::max);
+        if nine {
+            // Loss of 1, and 64 years but for some of the ninth figure.
+            let rest = (640_000_000 + rng.one_of(&[0, 1, 1, 2, -1])) as u128 * 10u128.pow((-7 - FINEST) as u32);
+            let own = (years(self.site[TD]).0 + rest).checked_sub(self.other_years(r));
+            if let Some(v) = own.and_then(|n| self.near_years(n)) {
+                self.receptors[r].1[DRAFT_YEARS] = Some(v);
+                return;
+            }
+        }
+        let k = (0..self.chemicals.len()).map(|i| real(self.loss(i).k.high)).fold(0.0, f64::max);
         let mut td = real(pair(self.site[TD]).high);
         if k * td > 64.0 {
             let v = decimal(64.0 / k * rng.between(1, 99) as f64 / 100.0, 8);
@@ -625,10 +658,14 @@ impl Draft {
         }
     }
 
-    /// Sets one chemical's decay so that its x comes to about 64.
+    /// Sets one chemical's decay so that its x comes to about 64; in half of them at a tD that leaves the decay's own digits.
     fn bring_x_to_64(&mut self, rng: &mut Rng, i: usize) {
         self.chemicals[i].1[KSG] = Some((0, 0));
-        let others = real(self.site().loss(&self.chemical(i)).x().high);
+        if rng.chance(50) {
+            self.decay_alone(i);
+            self.site[TD] = Some(rng.one_of(&[(1, 0), (1, 0), (10, 0), (100, 0), (1, -1), (1, 9), (2, 0), (5, -1)]));
+        }
+        let others = real(self.loss(i).x.high);
         let wanted = if others < 64.0 {
             64.0 - others
         } else {
@@ -637,17 +674,85 @@ impl Draft {
         };
         let figures = self.most.min(11);
         let (digits, power) = decimal(wanted / real(pair(self.site[TD]).high), figures);
-        let near = digits.saturating_add_signed(rng.between(-3, 3)).clamp(1, 10u64.pow(figures as u32) - 1);
-        let near = self.fitted((near, power));
+        // In the last place, or in the ninth.
+        let place = if figures == 11 { rng.one_of(&[1, 100]) } else { 1 };
+        let near = digits.saturating_add_signed(place * rng.one_of(&[0, 0, 1, 1, 1, -1, 2, -2]));
+        let near = self.fitted((near.clamp(1, 10u64.pow(figures as u32) - 1), power));
         if in_range(&CHEMICAL[KSG], near) {
             self.chemicals[i].1[KSG] = Some(near);
         }
     }
 
-    /// Sets one of a chemical's reference values so that one figure comes to about its cap.
-    fn bring_to_cap(&mut self, rng: &mut Rng, i: usize) {
+    /// Sets one chemical's x by one of the five losses alone, as near as its field goes.
+    fn bring_x_by_one_loss(&mut self, rng: &mut Rng, i: usize, wanted: f64) {
+        self.decay_alone(i);
+        self.chemicals[i].1[KSG] = Some((0, 0));
+        let way = rng.below(7);
+        for at in [SD, ER] {
+            if way == 2 && pair(self.site[at]) == Pair::ZERO {
+                self.site[at] = Some((1, 0));
+            }
+        }
+        let set = |draft: &mut Draft, v: Printed| match way {
+            0 => draft.chemicals[i].1[KSV] = Some(v),
+            1 => draft.site[RO] = Some(v),
+            2 => draft.site[XE] = Some(v),
+            3 => draft.site[R] = Some(v),
+            _ => draft.chemicals[i].1[KSG] = Some(v),
+        };
+        // At 1, and so in proportion; all five have the general range.
+        set(self, (1, 0));
+        let at_1 = real(self.loss(i).x.high);
+        let v = self.fitted(decimal(wanted / at_1, self.most.min(11)));
+        set(self, if in_range(&CHEMICAL[KSG], v) { v } else { (1, 9) });
+    }
+
+    /// Brings one chemical's x above 64, by little, by much or as far as decay and tD go; or takes all of its loss.
+    fn hasten(&mut self, rng: &mut Rng, i: usize) {
+        match rng.below(8) {
+            0 => {
+                self.chemicals[i].1[KSG] = Some((1, 9));
+                self.site[TD] = Some((1, 9));
+            }
+            1 => {
+                self.decay_alone(i);
+                self.chemicals[i].1[KSG] = Some((0, 0));
+            }
+            _ => {
+                let wanted = rng.between(64_000_001, 999_999_999) as f64;
+                let scale = rng.one_of(&[1e-6, 1e-6, 1e-5, 1e-4, 1e-2, 1.0, 1e3, 1e9]);
+                self.bring_x_by_one_loss(rng, i, wanted * scale);
+            }
+        }
+    }
+
+    /// Sets T2, or a composite's years in sum, above tD, and one chemical's loss so that of its x and its k × (T2 − tD) one is
+    /// above 64 and the other is not.
+    fn bring_across_64(&mut self, rng: &mut Rng, i: usize, r: usize) {
+        self.most = 12;
+        let by = rng.one_of(&[1, 1_000, 100_000, 500_000, 900_000, 1_100_000, 3_000_000, 50_000_000, 1_000_000_000]);
+        let (td, others) = (years(self.site[TD]).0, self.other_years(r));
+        // T2 is tD and so many millionths of it.
+        let t2 = (td / 1_000_000).checked_mul(by).map(|rest| td + rest);
+        if let Some(v) = t2.and_then(|t2| t2.checked_sub(others)).and_then(|own| self.near_years(own)) {
+            self.receptors[r].1[DRAFT_YEARS] = Some(v);
+        } else {
+            let t2 = others + years(self.receptors[r].1[DRAFT_YEARS]).0;
+            match self.near_years(t2 / (1_000_000 + by) * 1_000_000) {
+                Some(v) => self.site[TD] = Some(v),
+                None => return,
+            }
+        }
+        let part = by as f64 / 1e6;
+        let (low, high) = (64.0 * f64::min(1.0, 1.0 / part), 64.0 * f64::max(1.0, 1.0 / part));
+        let wanted = rng.one_of(&[low * 1.01, low * (high / low).sqrt(), low * (high / low).sqrt(), high * 0.99]);
+        self.bring_x_by_one_loss(rng, i, wanted);
+    }
+
+    /// Sets one of a chemical's reference values so that one figure comes to about its cap, or to so many times less.
+    fn bring_to_cap(&mut self, rng: &mut Rng, i: usize, less: f64) {
         let r = rng.below(self.receptors.len());
-        let Some(figures) = self.figures(i, r) else { return };
+        let figures = self.figures(i, r);
         let hazard = rng.chance(50);
         let real_figure = |f: &Figures| (if hazard { f.quotient } else { f.risk }).map_or(0.0, |p: Pair| real(p.high));
         // The largest of those that share a reference value, so that no other line stops first; or any line.
@@ -660,7 +765,7 @@ impl Draft {
         let at = RFDO + if hazard { 0 } else { 2 } + usize::from(line == 0);
         let Some(now) = self.chemicals[i].1[at] else { return };
         let now = real(pair(Some(now)).high);
-        let wanted = if hazard { now * figure / 10_000.0 } else { now / figure };
+        let wanted = if hazard { now * figure / 10_000.0 * less } else { now / figure / less };
         if !(1e-20..=1e9).contains(&wanted) {
             return;
         }
@@ -826,7 +931,7 @@ fn sound(rng: &mut Rng, sort: Sort, most_receptors: usize) -> Vec<u8> {
         _ => {
             let mut draft = Draft::level(rng, sort, chemicals, receptors);
             for _ in 0..3 {
-                draft.bring_to_cap(rng, 0);
+                draft.bring_to_cap(rng, 0, 1.0);
             }
             // All chemicals alike: every line of a receptor at the cap.
             let like = draft.chemicals[0].1.clone();
@@ -848,15 +953,26 @@ fn sound(rng: &mut Rng, sort: Sort, most_receptors: usize) -> Vec<u8> {
             draft.bring_t2_to_td(rng, r);
         }
     }
-    if rng.chance(90) {
+    if rng.chance(60) {
         draft.slow_down(rng);
     }
     let (i, r) = (rng.below(chemicals), rng.below(receptors));
-    match rng.below(100) {
-        0..=6 => draft.bring_x_to_64(rng, i),
-        7..=14 => draft.bring_rest_to_64(rng, r),
-        15..=34 => draft.bring_to_cap(rng, i),
+    let about_64 = rng.below(100);
+    match about_64 {
+        0..=9 => draft.bring_x_to_64(rng, i),
+        10..=19 => draft.bring_rest_to_64(rng, r),
+        20..=29 => draft.hasten(rng, i),
+        30..=39 => draft.bring_across_64(rng, i, r),
         _ => {}
+    }
+    if about_64 < 40 {
+        // What is lost quickly would count few units: references that leave all of its figures to be seen.
+        for _ in 0..rng.below(4) {
+            let less = rng.one_of(&[2.0, 3.0, 30.0]);
+            draft.bring_to_cap(rng, i, less);
+        }
+    } else if about_64 < 60 {
+        draft.bring_to_cap(rng, i, 1.0);
     }
     draft.deck(rng)
 }
@@ -1103,10 +1219,11 @@ mod tests {
                 count[crate::report(sort, &t.deck, &mut out[..t.room]).0 as usize] += 1;
             }
             // 200 of 200,000 is 1 in 1,000.
-            for number in [11, 12, 21, 22, 31, 32, 33, 51, 41, 42] {
+            for number in [11, 12, 21, 22, 31, 32, 33, 51, 42] {
                 assert!(count[number] >= 4, "{sort:?}, {number}: {}", count[number]);
             }
             assert!(count[0] >= decks * 30 / 100 && count[0] <= decks * 60 / 100, "{sort:?}: {}", count[0]);
+            assert_eq!(count[41], 0, "{sort:?}");
         }
     }
 
@@ -1146,15 +1263,14 @@ mod tests {
         assert!(small > 50 && large > 50 && long > 500 && ordinary > 10, "{small} {large} {long} {ordinary}");
     }
 
-    /// How T2 lies to tD in the decks that are answered, receptor by receptor; what stops T2 or the years themselves; and how
-    /// near 64 k × (T2 − tD) comes on either side.
+    /// How T2 lies to tD in the decks that are answered, receptor by receptor; and what stops T2 or the years themselves.
     #[test]
     fn kinds_of_exposures() {
         for sort in [Sort::Ordinary, Sort::Composite] {
             let (mut refused, mut out) = ([0; 40], vec![0; LONGEST_REPORT]);
             // Below, equal, above in the last four places that twelve columns have beside tD, above, more than a thousand times.
             let mut lies = [0; 5];
-            let (mut same_pair, mut fast, mut just_fast, mut just_slow) = (0, 0, 0, 0);
+            let mut same_pair = 0;
             for place in 0..6_000 {
                 let t = trial(sort, 1, place);
                 let told = crate::report(sort, &t.deck, &mut out);
@@ -1162,44 +1278,100 @@ mod tests {
                 {
                     refused[told.0 as usize] += 1;
                 }
-                let mut case = crate::deck::Case::empty();
-                if crate::report::read_reported(sort, &t.deck, &mut case).is_err() {
-                    continue;
-                }
-                let site = Site::new(&case.site, case.td);
-                let exposures: Vec<Exposure> = case.receptors().iter().map(|r| site.exposure(r)).collect();
-                for chemical in case.chemicals() {
-                    let loss = site.loss(chemical);
-                    fast += usize::from(loss.slow_enough(&[]) && !loss.slow_enough(&exposures));
-                    for exposure in &exposures {
-                        let Exposure::Beyond { rest, .. } = exposure else { continue };
-                        let x = loss.k() * *rest;
-                        let near = Pair { low: Working::entry(63_999_999, -6), high: Working::entry(64_000_001, -6) };
-                        if near.low.at_most(x.high) && x.high.at_most(near.high) && loss.slow_enough(&[]) {
-                            *(if loss.slow_enough(&[*exposure]) { &mut just_slow } else { &mut just_fast }) += 1;
-                        }
-                    }
-                }
                 if told.0 != 0 {
                     continue;
                 }
+                let mut case = Case::empty();
+                crate::report::read_reported(sort, &t.deck, &mut case).unwrap();
                 for r in case.receptors() {
                     let (t2, td) = (r.exact_years.0, case.td.0);
                     let kind = match t2.checked_sub(td) {
                         None => 0,
                         Some(0) => 1,
                         Some(rest) if rest < td / 1_000_000 => 2,
-                        Some(rest) if rest < td * 1_000 => 3,
+                        Some(rest) if rest / 1_000 < td => 3,
                         _ => 4,
                     };
                     lies[kind] += 1;
                     same_pair += usize::from(kind == 2 && r.years == case.site[TD]);
                 }
             }
-            let told = format!("{sort:?}: {refused:?} {lies:?} {same_pair} {fast} {just_fast} {just_slow}");
+            let told = format!("{sort:?}: {refused:?} {lies:?} {same_pair}");
             assert!([31, 32, 33].iter().all(|&n| refused[n] > 10), "{told}");
             assert!(lies.iter().all(|&n| n > 60) && same_pair > 10, "{told}");
-            assert!(fast > 100 && just_fast > 20 && just_slow > 20, "{told}");
+        }
+    }
+
+    /// Where x and k × (T2 − tD) lie to 64 in the decks that are answered, chemical by chemical and receptor by receptor, and
+    /// by what x comes above it.
+    #[test]
+    fn kinds_of_losses() {
+        let at = Working::entry(64, 0);
+        let above = Working::entry(640_000_001, -7);
+        for sort in [Sort::Ordinary, Sort::Composite] {
+            let mut out = vec![0; LONGEST_REPORT];
+            // High end at 64; one unit above, with a low end at 64 or below, and with no lower end.
+            let (mut near, mut near_beyond) = ([0; 3], [0; 3]);
+            // x above 64: at most 1,000, at most 1E+9, more; ksg and tD both 1E+9.
+            let mut far = [0; 4];
+            // Rows: x at most 64, above. Columns: T2 ≤ tD, k × (T2 − tD) at most 64, above.
+            let mut sides = [[0; 3]; 2];
+            // k 0: T2 ≤ tD, above.
+            let mut none = [0; 2];
+            // x above 64 by decay alone, volatilization, erosion, runoff, leaching, or by several.
+            let mut ways = [0; 6];
+            // Of the lines with x or k × (T2 − tD) above 64, those that tell nine figures of a quotient, or of a risk.
+            let mut told = [0; 2];
+            for place in 0..6_000 {
+                let t = trial(sort, 1, place);
+                if crate::report(sort, &t.deck, &mut out).0 != 0 {
+                    continue;
+                }
+                let mut case = Case::empty();
+                crate::report::read_reported(sort, &t.deck, &mut case).unwrap();
+                let site = Site::new(&case.site, case.td);
+                let mut lines = out.chunks(crate::report::LINE);
+                let losses: Vec<Loss> = case.chemicals().iter().map(|c| site.loss(c)).collect();
+                let count_near = |x: Pair, near: &mut [usize; 3]| {
+                    near[0] += usize::from(x.high == at);
+                    near[1] += usize::from(x.high == above && x.low.at_most(at));
+                    near[2] += usize::from(x == Pair::of(above));
+                };
+                for (chemical, loss) in case.chemicals().iter().zip(&losses) {
+                    count_near(loss.x, &mut near);
+                    if has_series(loss.x) {
+                        continue;
+                    }
+                    far[[3, 9, 99].iter().position(|&e| loss.x.high.at_most(Working::entry(1, e))).unwrap()] += 1;
+                    let billion = Pair::entry(1, 9);
+                    far[3] += usize::from(chemical.value[KSG] == billion && case.site[TD] == billion);
+                    let erosion = case.site[XE] * case.site[SD] * case.site[ER];
+                    let by = [chemical.value[KSG], chemical.value[KSV], erosion, case.site[RO], case.site[R]];
+                    let all: Vec<usize> = (0..5).filter(|&way| by[way] != Pair::ZERO).collect();
+                    ways[if all.len() == 1 { all[0] } else { 5 }] += 1;
+                }
+                for r in case.receptors() {
+                    let exposure = site.exposure(r);
+                    for loss in &losses {
+                        let rest = beyond(loss, &exposure);
+                        rest.into_iter().for_each(|x| count_near(x, &mut near_beyond));
+                        let slow = [has_series(loss.x), rest.is_none_or(has_series)];
+                        sides[usize::from(!slow[0])][rest.map_or(0, |_| 1 + usize::from(!slow[1]))] += 1;
+                        none[usize::from(rest.is_some())] += usize::from(loss.k == Pair::ZERO);
+                        for line in lines.by_ref().take(6) {
+                            let nine = |at: usize| line[at..at + 12].iter().any(|&b| b != b' ');
+                            told[0] += usize::from(slow != [true; 2] && line[13] != b'1' && nine(34));
+                            told[1] += usize::from(slow != [true; 2] && line[13] != b'1' && nine(74));
+                        }
+                    }
+                    lines.next();
+                }
+            }
+            let all = format!("{sort:?}: {near:?} {near_beyond:?} {far:?} {sides:?} {none:?} {ways:?} {told:?}");
+            assert!(near.iter().chain(&near_beyond).all(|&n| n > 10), "{all}");
+            assert!(far.iter().all(|&n| n > 20) && ways.iter().all(|&n| n > 15), "{all}");
+            assert!(sides.iter().flatten().all(|&n| n > 60) && none.iter().all(|&n| n > 60), "{all}");
+            assert!(told.iter().all(|&n| n > 200), "{all}");
         }
     }
 

@@ -2,8 +2,8 @@
 //! (brackets, then × and / from the left, then + from the left), one rounding each.
 //!
 //! Fields lie between 1E-20 and 1E+9 or are 0, a composite's but for a rounding too and its years below 1E+10, and T2 − tD is
-//! 1E-27 at least, so every exponent here stays within a few hundred, those of the series (x at most 64 or not used) within
-//! some tens of thousands; and no divisor is 0, since its factors are never 0.
+//! 1E-27 at least, so every exponent here stays within a few hundred, those of the series (worked at 64 at most) within some
+//! tens of thousands; and no divisor is 0, since its factors are never 0, and x divides only where it is about 64 or more.
 
 use crate::deck::{Chemical, Receptor};
 use crate::pairs::{self, Pair, Working};
@@ -15,8 +15,10 @@ const HUNDRED: Pair = Pair::entry(100, 0);
 const THOUSAND: Pair = Pair::entry(1000, 0);
 const DAYS_A_YEAR: Pair = Pair::entry(365, 0);
 
-/// The high end of x, and of k × (T2 − tD), may not be above it.
+/// Where the high end of x, or of k × (T2 − tD), is above it, no series is worked.
 const MOST_X: Working = Working::entry(64, 0);
+/// 1 / φ there.
+const BY_PHI_ABOVE: Pair = Pair { low: Working::ZERO, high: Working::entry(1, -25) };
 pub const MOST_QUOTIENT: Working = Working::entry(10_000, 0);
 pub const MOST_RISK: Working = Working::ONE;
 
@@ -49,8 +51,9 @@ impl Site {
         let [_, _, _, _, _, _, _, _, _, _, kds, ksg, ksv, ..] = chemical.value;
         let u = kds * bd;
         let kse = TENTH * xe * sd * er / (bd * zs) * u / (theta + u);
-        let ksr = ro / (theta * zs) / (Pair::ONE + u / theta);
-        let ksl = r / (theta * zs) / (Pair::ONE + u / theta);
+        let (water, held) = (theta * zs, Pair::ONE + u / theta);
+        let ksr = ro / water / held;
+        let ksl = r / water / held;
         let k = ksg + kse + ksr + ksl + ksv;
         Loss { k, x: k * td }
     }
@@ -76,40 +79,37 @@ pub enum Exposure {
 /// A chemical's loss from the site's soil.
 #[derive(Clone, Copy)]
 pub struct Loss {
-    k: Pair,
+    pub k: Pair,
     /// k × tD.
-    x: Pair,
+    pub x: Pair,
 }
 
-impl Loss {
-    pub const NONE: Loss = Loss { k: Pair::ZERO, x: Pair::ZERO };
-
-    /// Whether x, and k × (T2 − tD) of all these, can be worked.
-    pub fn slow_enough(&self, exposures: &[Exposure]) -> bool {
-        self.x.high.at_most(MOST_X)
-            && exposures.iter().all(|exposure| match *exposure {
-                Exposure::Within => true,
-                Exposure::Beyond { rest, .. } => (self.k * rest).high.at_most(MOST_X),
-            })
-    }
-
-    pub fn k(&self) -> Pair {
-        self.k
-    }
-
-    pub fn x(&self) -> Pair {
-        self.x
-    }
+/// Whether the series are worked at this exponent, x or k × (T2 − tD).
+#[inline]
+pub fn has_series(x: Pair) -> bool {
+    x.high.at_most(MOST_X)
 }
 
 /// Stands for (1 − exp(−x)) / x.
-fn g(x: Pair, phi: Pair) -> Pair {
-    Pair::ONE / (Pair::ONE / phi + x)
+fn g_by(by_phi: Pair, x: Pair) -> Pair {
+    Pair::ONE / (by_phi + x)
 }
 
-/// Stands for (1 − g) / x.
-fn h(x: Pair, phi: Pair, psi: Pair) -> Pair {
-    psi / (Pair::ONE + x * phi)
+/// g alone.
+fn g(x: Pair) -> Pair {
+    let by_phi = if has_series(x) { Pair::ONE / pairs::series(x).0 } else { BY_PHI_ABOVE };
+    g_by(by_phi, x)
+}
+
+/// g, and h, which stands for (1 − g) / x.
+fn g_and_h(x: Pair) -> (Pair, Pair) {
+    if has_series(x) {
+        let (phi, psi) = pairs::both_series(x);
+        (g_by(Pair::ONE / phi, x), psi / (Pair::ONE + x * phi))
+    } else {
+        let g = g_by(BY_PHI_ABOVE, x);
+        (g, g.one_minus() / x)
+    }
 }
 
 /// A soil's concentration and those of what grows in it.
@@ -146,8 +146,7 @@ impl Media {
     pub const NONE: Media =
         Media { air: Pair::ZERO, highest: Ground::NONE, mean: Ground::NONE, mean_by_td: Pair::ZERO, k: Pair::ZERO };
 
-    /// The loss is slow enough.
-    pub fn new(site: &Site, chemical: &Chemical, loss: &Loss) -> Media {
+    pub fn new(site: &Site, chemical: &Chemical) -> Media {
         let Site { zs, bd, td, .. } = *site;
         let [q, hga, hgd, fv, cyv, cyp, dydv, dywv, dydp, dywp, ..] = chemical.value;
         // From the printed digits: the pair may have lost what they leave of 1.
@@ -155,16 +154,15 @@ impl Media {
         let one_minus_fv = Pair::one_minus_entry(digits, power);
         let air = q * hga * (fv * cyv + one_minus_fv * cyp) / THOUSAND;
         let d = HUNDRED * hgd * q / (zs * bd) * (fv * (dydv + dywv) + (dydp + dywp) * one_minus_fv);
-        let x = loss.x;
-        let (phi, psi) = pairs::both_series(x);
-        let (g, h) = (g(x, phi), h(x, phi, psi));
+        let Loss { k, x } = site.loss(chemical);
+        let (g, h) = g_and_h(x);
         let deposited = d * td;
         Media {
             air,
             highest: Ground::new(site, chemical, deposited * g),
             mean: Ground::new(site, chemical, deposited * h),
             mean_by_td: deposited * td * h,
-            k: loss.k,
+            k,
         }
     }
 
@@ -173,9 +171,8 @@ impl Media {
         match *exposure {
             Exposure::Within => self.mean,
             Exposure::Beyond { t2, rest } => {
-                let x = self.k * rest;
-                let (phi, _) = pairs::series(x);
-                Ground::new(site, chemical, (self.mean_by_td + self.highest.soil * rest * g(x, phi)) / t2)
+                let beyond = self.highest.soil * rest * g(self.k * rest);
+                Ground::new(site, chemical, (self.mean_by_td + beyond) / t2)
             }
         }
     }
@@ -264,23 +261,55 @@ mod tests {
     #[test]
     fn no_loss() {
         let half = Pair::entry(5, -1);
-        assert_eq!(g(Pair::ZERO, Pair::ONE), Pair::ONE);
-        assert_eq!(h(Pair::ZERO, Pair::ONE, half), half);
+        assert_eq!(g_and_h(Pair::ZERO), (Pair::ONE, half));
+        assert_eq!(g(Pair::ZERO), Pair::ONE);
     }
 
-    /// At 64 g and h are 1 / 64 and 63 / 64², but for some 1E-28.
+    /// g and h about 64, by the series and above: 1 / x and (1 − 1 / x) / x, but for some 1E-28.
     #[test]
-    fn most_loss() {
-        let x = Pair::entry(64, 0);
-        let (phi, psi) = pairs::both_series(x);
-        let held = |p: Pair, digits: u64, power: i32| {
-            let exact = Pair::entry(digits, power);
+    fn either_side_of_64() {
+        let held = |p: Pair, exact: Pair| {
             let width = Pair::entry(100_007, -5);
             assert!(p.low.at_most(exact.low) && exact.high.at_most(p.high), "{p:?}");
             assert!(p.high.at_most((p * width).low), "{p:?}");
         };
-        held(g(x, phi), 15_625, -6);
-        held(h(x, phi, psi), 15_380_859_375, -12);
+        let (at, above) = (Pair::entry(64, 0), Pair::entry(640_000_001, -7));
+        assert!(has_series(at) && !has_series(above));
+        // The high end decides.
+        assert!(!has_series(Pair { low: at.low, high: above.high }));
+        assert!(has_series(Pair { low: Working::entry(639_999_999, -7), high: at.high }));
+        let (g_at, h_at) = g_and_h(at);
+        held(g_at, Pair::entry(15_625, -6));
+        held(h_at, Pair::entry(15_380_859_375, -12));
+        // 1 / 64.0000001 is 0.01562499997558.., (1 − that) / 64.0000001 is 0.01538085935109..
+        let (g_above, h_above) = g_and_h(above);
+        held(g_above, Pair::entry(156_249_999_755, -13));
+        held(h_above, Pair::entry(153_808_593_509, -13));
+        assert_eq!((g(at), g(above)), (g_at, g_above));
+    }
+
+    /// x with 1E-25 added is one unit higher at its high end; all else follows by hand.
+    #[test]
+    fn fast_loss() {
+        let ends = |low: (u32, i32), high: (u32, i32)| Pair {
+            low: Working { m: low.0, e: low.1 },
+            high: Working { m: high.0, e: high.1 },
+        };
+        // 1 / 100.000001 is 0.00999999990.., 1 − 0.0099999999 is 0.9900000001.
+        let hundred = g_and_h(Pair::entry(100, 0));
+        assert_eq!(hundred.0, ends((999_999_990, -11), (100_000_000, -10)));
+        assert_eq!(hundred.1, ends((990_000_000, -11), (990_000_001, -11)));
+        // ksg and tD both 1E+9: what 1 − g leaves of 1 is less than a unit.
+        let far = g_and_h(Pair::entry(1, 18));
+        assert_eq!(far.0, ends((999_999_990, -27), (100_000_000, -26)));
+        assert_eq!(far.1, ends((999_999_999, -27), (100_000_000, -26)));
+        // Some of the largest x that fields come to, by erosion.
+        let farthest = g_and_h(Pair::entry(1, 75));
+        assert_eq!(farthest.0, ends((999_999_990, -84), (100_000_000, -83)));
+        assert_eq!(farthest.1, ends((999_999_999, -84), (100_000_000, -83)));
+        for x in [Pair::entry(100, 0), Pair::entry(1, 18), Pair::entry(1, 75)] {
+            assert_eq!(g(x), g_and_h(x).0);
+        }
     }
 
     /// A site with this tD, each other value 1.

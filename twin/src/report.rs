@@ -1,7 +1,7 @@
 //! The report of a deck, and totals.
 
 use crate::deck::{read_case, Case, Sort, MOST_CHEMICALS, MOST_RECEPTORS};
-use crate::page::{composite, pathways, Body, Exposure, Loss, Media, Site, MOST_QUOTIENT, MOST_RISK};
+use crate::page::{composite, pathways, Body, Media, Site, MOST_QUOTIENT, MOST_RISK};
 use crate::pairs::Pair;
 use crate::Outcome;
 
@@ -56,26 +56,15 @@ fn work(sort: Sort, deck: &[u8], room: usize, case: &mut Case, lines: &mut [Line
         return Err((51, 0, 0));
     }
     let site = Site::new(&case.site, case.td);
-    let mut exposures = [Exposure::Within; MOST_RECEPTORS];
-    for (exposure, receptor) in exposures.iter_mut().zip(case.receptors()) {
-        *exposure = site.exposure(receptor);
-    }
-    let mut losses = [Loss::NONE; MOST_CHEMICALS];
-    for (i, chemical) in case.chemicals().iter().enumerate() {
-        losses[i] = site.loss(chemical);
-        if !losses[i].slow_enough(&exposures) {
-            return Err((41, i + 1, 0));
-        }
-    }
     let mut media = [Media::NONE; MOST_CHEMICALS];
-    for (i, chemical) in case.chemicals().iter().enumerate() {
-        media[i] = Media::new(&site, chemical, &losses[i]);
+    for (media, chemical) in media.iter_mut().zip(case.chemicals()) {
+        *media = Media::new(&site, chemical);
     }
     let mut at = 0;
     for (r, receptor) in case.receptors().iter().enumerate() {
-        let body = Body::new(receptor);
-        for (i, chemical) in case.chemicals().iter().enumerate() {
-            for figures in pathways(&site, chemical, &media[i], &exposures[r], &body) {
+        let (body, exposure) = (Body::new(receptor), site.exposure(receptor));
+        for (chemical, media) in case.chemicals().iter().zip(&media) {
+            for figures in pathways(&site, chemical, media, &exposure, &body) {
                 // Each receptor before this one has a total line too.
                 let stop = (42, at + r + 1, 0);
                 lines[at] = [
@@ -380,52 +369,77 @@ mod tests {
         }
     }
 
-    /// tD 1 or 100; decay 0.5: 128 years beyond tD pass, and no more.
-    #[test]
-    fn loss_beyond_the_deposition() {
-        let mut out = [b'#'; 26 * LINE];
-        let chemicals = [CHEMICAL, &decaying("0.5")];
-        let with = |td: &str, t2: [&str; 2]| {
-            let deck = deck_of(&chemicals, &t2.map(|t2| exposed(RECEPTOR, t2)));
-            String::from_utf8(deck).unwrap().replacen("          30", &format!("{td:>12}"), 1).into_bytes()
-        };
-        for (td, at, above) in [("1", "129", "129.00000013"), ("100", "228", "228.0000002")] {
-            assert_eq!(report(&with(td, ["1", at]), &mut out), (0, 26 * LINE, 0));
-            assert_eq!(report(&with(td, [at, at]), &mut out), (0, 26 * LINE, 0));
-            out.fill(b'#');
-            assert_eq!(report(&with(td, ["1", above]), &mut out), (41, 2, 0));
-            assert_eq!(report(&with(td, [above, at]), &mut out), (41, 2, 0));
-            assert_eq!(report(&with(td, [above, "1E+09"]), &mut out[..26 * LINE - 1]), (51, 0, 0));
-            assert_eq!(out, [b'#'; 26 * LINE]);
-        }
-        // 41 of any chemical comes before 42 of any line.
-        let over = CHEMICAL.replacen("0.001 0.001 1", "0.001 4E-08 1", 1);
-        let deck = deck_of(&[&over, &decaying("0.5")], &[exposed(RECEPTOR, "1"), exposed(RECEPTOR, "1E+09")]);
-        assert_eq!(report(&deck, &mut out), (41, 2, 0));
-        let deck = deck_of(&[&over, &decaying("0.5")], &[exposed(RECEPTOR, "1"), exposed(RECEPTOR, "150")]);
-        assert_eq!(report(&deck, &mut out), (42, 1, 0));
-        // A composite's, by the sum of its years.
-        let stages = |last: &str| deck_of(&chemicals, &[stage(RECEPTOR, "100"), stage(RECEPTOR, last)]);
-        assert_eq!(composite_report(&stages("58"), &mut out), (0, 13 * LINE, 0));
-        assert_eq!(composite_report(&stages("58.0000002"), &mut out), (41, 2, 0));
+    /// The example with this tD and these chemicals and receptors.
+    fn deposited(td: &str, chemicals: &[&str], receptors: &[String]) -> Vec<u8> {
+        let deck = String::from_utf8(deck_of(chemicals, receptors)).unwrap();
+        deck.replacen("          30", &format!("{td:>12}"), 1).into_bytes()
     }
 
-    /// A chemical with this ksg: x is ksg × 30.
+    /// A chemical with this ksg: x is ksg × tD.
     fn decaying(ksg: &str) -> String {
         CHEMICAL.replacen("100 0 0 ", &format!("100 {ksg} 0 "), 1)
     }
 
+    /// Low and high of hazard and of risk on a line.
+    fn units_of(line: &[u8]) -> [u64; 4] {
+        let text = std::str::from_utf8(line).unwrap();
+        [14, 34, 54, 74].map(|at| text[at..at + 20].trim().parse().unwrap())
+    }
+
+    /// Soil eaten and above-ground produce of one receptor, B of cancer 20 × 36500 days, by hand.
     #[test]
-    fn x_of_64_passes() {
-        let mut out = [0; 13 * LINE];
-        let site = deck(&[&decaying("64")], 1);
-        // tD 1
-        let one_year = String::from_utf8(site).unwrap().replacen("          30", "           1", 1);
-        assert_eq!(report(one_year.as_bytes(), &mut out), (0, 7 * LINE, 0));
-        let above = one_year.replacen("          64", "  64.0000001", 1);
-        assert_eq!(report(above.as_bytes(), &mut out), (41, 1, 0));
-        let second = deck(&[CHEMICAL, &decaying("3")], 1);
-        assert_eq!(report(&second, &mut out), (41, 2, 0));
+    fn fast_losses() {
+        let receptor = RECEPTOR.replacen("27375", "36500", 1);
+        let figures = |td: &str, ksg: &str, t2: &str| {
+            let mut out = [0; 7 * LINE];
+            let deck = deposited(td, &[&decaying(ksg)], &[exposed(&receptor, t2)]);
+            assert_eq!(report(&deck, &mut out), (0, 7 * LINE, 0), "{td} {ksg} {t2}");
+            (units_of(&out[LINE..2 * LINE]), units_of(&out[4 * LINE..5 * LINE]))
+        };
+        // tD 1, D × tD 0.005, x 100: g is 9.99999990E-3 to 0.01, h 9.9E-3 to 9.90000001E-3. Soil eaten is C × 8E-7 / 0.001 and
+        // C × 4E-8, produce C × 2.5E-4 / 0.001 and C × 1.25E-5, but that the mean is for cancer.
+        let want = ([39_999, 40_000, 1_980, 1_981], [12_499_999, 12_500_000, 618_750, 618_751]);
+        assert_eq!(figures("1", "100", "1"), want);
+        // T2 101: (D × tD × tD × h + C × 100 × g at 10000) / 101, with C × 100 × g 5E-7: 4.95E-5 + 5E-7 is 5E-5.
+        let long = figures("1", "100", "101");
+        assert_eq!((long.0[..2].to_vec(), long.1[..2].to_vec()), (vec![39_999, 40_000], vec![12_499_999, 12_500_000]));
+        assert_eq!((long.0[2..].to_vec(), long.1[2..].to_vec()), (vec![19, 20], vec![6_188, 6_189]));
+    }
+
+    /// At 64 the series are worked and above it they are not; no deck stops for it, whatever x and k × (T2 − tD) are.
+    #[test]
+    fn no_loss_is_too_fast() {
+        let mut out = [b'#'; 26 * LINE];
+        let answered = (0, 26 * LINE, 0);
+        let two = |t2: [&str; 2]| t2.map(|t2| exposed(RECEPTOR, t2));
+        for (td, ksg) in [("1", "64"), ("1", "64.0000001"), ("1", "64.000000001"), ("30", "3"), ("1E+09", "1E+09")] {
+            for t2 in [["1", "1E-20"], ["1E+09", "30.000000001"], ["1.00000001", "2"], ["2", "1000000000"]] {
+                let deck = deposited(td, &[&decaying(ksg), &decaying("1E+09")], &two(t2));
+                assert_eq!(report(&deck, &mut out), answered, "{td} {ksg} {t2:?}");
+            }
+        }
+        // tD 1 or 100; decay 0.5: k × (T2 − tD) at 64, one unit above, and far above.
+        for (td, at, above) in [("1", "129", "129.00000013"), ("100", "228", "228.0000002")] {
+            for t2 in [["1", at], [at, at], ["1", above], [above, at], [above, "1E+09"]] {
+                let deck = deposited(td, &[CHEMICAL, &decaying("0.5")], &two(t2));
+                assert_eq!(report(&deck, &mut out), answered, "{td} {t2:?}");
+                let before = out;
+                assert_eq!(report(&deck, &mut out[..26 * LINE - 1]), (51, 0, 0));
+                assert_eq!(out, before);
+            }
+        }
+        // A fast loss after a figure over its cap.
+        let over = CHEMICAL.replacen("0.001 0.001 1", "0.001 4E-08 1", 1);
+        assert_eq!(report(&deck_of(&[&over, &decaying("1E+09")], &two(["1", "1E+09"])), &mut out), (42, 1, 0));
+        assert_eq!(report(&deck_of(&[&decaying("1E+09"), &over], &two(["1", "1E+09"])), &mut out), (42, 7, 0));
+        // A composite's, by the sum of its years: 128, a unit more, and far more than tD.
+        for last in ["58", "58.0000002", "1E+09"] {
+            let stages = [stage(RECEPTOR, "100"), stage(RECEPTOR, last)];
+            for ksg in ["0.5", "3", "1E+09"] {
+                let deck = deck_of(&[CHEMICAL, &decaying(ksg)], &stages);
+                assert_eq!(composite_report(&deck, &mut out), (0, 13 * LINE, 0), "{last} {ksg}");
+            }
+        }
     }
 
     #[test]
@@ -574,8 +588,6 @@ mod tests {
         let alone = deck_of(&[CHEMICAL], &[exposed(&light, "1")]);
         assert_eq!(report(&alone, &mut out), (42, 1, 0));
         assert_eq!(composite_report(&deck_of(&[CHEMICAL], &stages(&light)), &mut out), (0, 7 * LINE, 0));
-        let decaying = deck_of(&[CHEMICAL, &decaying("3")], &stages(RECEPTOR));
-        assert_eq!(composite_report(&decaying, &mut out), (41, 2, 0));
     }
 
     #[test]

@@ -5,7 +5,8 @@
 //!     compare vector SEED PLACE                     one call again
 //!
 //! DECKS are ordinary ones; a third as many decks of composites come on top. One in eight of either is also handed to the
-//! other's call. Status 1 if anything differs or, in a run of at least 200,000 decks, if an outcome came up too seldom.
+//! other's call. Status 1 if anything differs, if any call of either side returned 41 or, in a run of at least 200,000 decks, if
+//! an outcome came up too seldom.
 
 use std::process::ExitCode;
 use twin::calls::{self, Answer, Raw};
@@ -19,7 +20,9 @@ const FULL: u64 = 200_000;
 const ORDINARY: u64 = 3;
 /// Decks to each one that is also handed to the other call.
 const CROSSED: u64 = 8;
-const NUMBERS: [u32; 11] = [0, 11, 12, 21, 22, 31, 32, 33, 51, 41, 42];
+const NUMBERS: [u32; 10] = [0, 11, 12, 21, 22, 31, 32, 33, 51, 42];
+/// Left the table with P5: no call of either side may return it.
+const GONE: u32 = 41;
 
 /// Bytes on either side of a lent buffer that no call may touch.
 const GUARD: usize = 256;
@@ -37,8 +40,8 @@ impl Bench {
         Bench { before: bytes.clone(), library: bytes.clone(), twin: bytes }
     }
 
-    /// The twin's outcome, and what differs.
-    fn deck(&mut self, sort: Sort, t: &Trial) -> (Outcome, Option<String>) {
+    /// The twin's outcome, how often 41 was returned by either side, and what differs.
+    fn deck(&mut self, sort: Sort, t: &Trial) -> (Outcome, u64, Option<String>) {
         let all = t.room + 2 * GUARD;
         let rng = &mut Rng::new(t.before);
         self.before[..all].chunks_mut(8).for_each(|c| c.copy_from_slice(&rng.word().to_le_bytes()[..c.len()]));
@@ -51,6 +54,8 @@ impl Bench {
         let library_read = ffi::read(sort, &deck);
         let twin = twin::report(sort, &t.deck, &mut self.twin[lent]);
         let twin_read = twin::read(sort, &t.deck);
+
+        let gone = [library, library_read, twin, twin_read].iter().filter(|told| told.0 == GONE).count();
 
         // The bytes a report covers; none after a refusal.
         let length = if twin.0 == 0 { twin.1 } else { 0 };
@@ -72,7 +77,7 @@ impl Bench {
             let at = reports.clone().position(|(l, t)| l != t);
             at.map(|at| format!("report byte {} (line {})", at - GUARD + 1, (at - GUARD) / 95 + 1))
         };
-        (twin, differs)
+        (twin, gone as u64, differs)
     }
 }
 
@@ -171,19 +176,21 @@ fn decks(sort: Sort, seed: u64, count: u64, full: bool) -> bool {
     let mut bench = Bench::new();
     // By this sort's own call, and by the other.
     let (mut own, mut crossed): (Outcomes, Outcomes) = ([0; 64], [0; 64]);
-    let mut different = 0;
+    let (mut different, mut gone) = (0, 0);
     for place in 0..count {
         let t = trial(sort, seed, place);
         let mut hand = |call: Sort, outcomes: &mut Outcomes| {
-            let (outcome, differs) = bench.deck(call, &t);
+            let (outcome, returned, differs) = bench.deck(call, &t);
             outcomes[outcome.0 as usize] += 1;
-            let Some(what) = differs else { return };
-            different += 1;
-            if different > SHOWN {
-                return;
-            }
+            gone += returned;
+            different += u64::from(differs.is_some());
+            let what = match differs {
+                Some(what) if different <= SHOWN => what,
+                None if returned > 0 && gone <= SHOWN => format!("{GONE} from both"),
+                _ => return,
+            };
             let file = format!("{file_name}-{seed}-{place}.deck");
-            println!("{what_deck} {place} differs, {} call: {what}", name(call));
+            println!("{what_deck} {place}, {} call: {what}", name(call));
             let composite = if call == Sort::Composite { " composite" } else { "" };
             match std::fs::write(&file, &t.deck) {
                 Ok(()) => println!("  again: compare deck {file} {} {}{composite}", t.room, t.before),
@@ -204,8 +211,9 @@ fn decks(sort: Sort, seed: u64, count: u64, full: bool) -> bool {
     println!("  {all_crossed:>8}  of these also to the {} call:", name(other));
     let counts: Vec<String> = NUMBERS.map(|n| format!("{} {}", crossed[n as usize], shown(n))).into();
     println!("            {}", counts.join(", "));
+    println!("  {gone:>8}  times {GONE}, from either side");
     println!("  {different:>8}  different");
-    let mut right = different == 0;
+    let mut right = different == 0 && gone == 0;
     if full {
         let seldom: Vec<u32> = NUMBERS.into_iter().filter(|&n| n != 0 && 1000 * own[n as usize] < count).collect();
         let accepted = own[0];
@@ -224,13 +232,14 @@ fn decks(sort: Sort, seed: u64, count: u64, full: bool) -> bool {
 
 fn pair_calls(seed: u64, count: u64) -> bool {
     let mut counts = [(0u64, 0u64); NAMES.len()];
-    let mut different = 0;
+    let (mut different, mut gone) = (0, 0);
     for place in 0..count {
         let call = vectors::call(seed, place);
         let (library, twin) = (library(&call), twin_left(&call));
         let (all, refused) = &mut counts[call.place()];
         *all += 1;
         *refused += u64::from(twin.0 != 0);
+        gone += u64::from(library.0 == GONE) + u64::from(twin.0 == GONE);
         if library != twin {
             different += 1;
             if different <= SHOWN {
@@ -243,8 +252,9 @@ fn pair_calls(seed: u64, count: u64) -> bool {
     for (name, (all, refused)) in NAMES.iter().zip(counts) {
         println!("  {all:>8}  {name}, of these refused {refused}");
     }
+    println!("  {gone:>8}  times {GONE}, from either side");
     println!("  {different:>8}  different");
-    let mut right = different == 0;
+    let mut right = different == 0 && gone == 0;
     if count >= FULL && counts.iter().any(|&(all, refused)| refused == 0 || refused == all) {
         println!("  a call that was never refused, or always");
         right = false;
@@ -270,15 +280,15 @@ fn main() -> ExitCode {
                 std::process::exit(2)
             });
             let room = (whole(room) as usize).min(2 * LONGEST_REPORT);
-            let (outcome, differs) = Bench::new().deck(sort, &Trial { deck, room, before: whole(before) });
-            println!("twin {outcome:?}; {}", differs.as_deref().unwrap_or("the same"));
-            differs.is_none()
+            let (outcome, gone, differs) = Bench::new().deck(sort, &Trial { deck, room, before: whole(before) });
+            println!("twin {outcome:?}; {gone} times {GONE}; {}", differs.as_deref().unwrap_or("the same"));
+            differs.is_none() && gone == 0
         }
         ["vector", seed, place] => {
             let call = vectors::call(whole(seed), whole(place));
             let (library, twin) = (library(&call), twin_left(&call));
             println!("{call:?}\n  library {library:?}\n  twin    {twin:?}");
-            library == twin
+            library == twin && twin.0 != GONE
         }
         _ if args.len() <= 3 => {
             let or = |i: usize, usual: u64| args.get(i).map_or(usual, |a| whole(a));
