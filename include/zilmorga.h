@@ -9,8 +9,7 @@
  *   31  a field is neither blank nor a lone - nor a number
  *   32  a needed field is blank, - stands where a value is needed, or a later field is not blank
  *   33  a value is out of its range
- *   41  a chemical is lost too fast: the high end of its loss times tD, the years of deposition, is above 64; or of its loss times
- *       T2 - tD, for a receptor whose length of exposure T2 is above tD
+ *   41  free: no call returns it, since quickly lost chemicals are worked too
  *   42  a report line is too large: a quotient's high end above 10,000, or a risk's above 1
  *   51  the report buffer is shorter than 95 bytes for each report line
  *   52  a list of units is longer than 96 numbers, or has one above 1E+16
@@ -50,13 +49,13 @@ extern "C" {
 
 /* Decks
  *
- * line and field are always written. On a refusal they say where: line counts from 1 (41: the chemical's place; 42: the report line,
- * total lines counted too; 11 and 51: 0), and field is 1 to 6, or 0 where no field is meant. */
+ * line and field are always written. On a refusal they say where: line counts from 1 (42: the report line, total lines
+ * counted too; 11 and 51: 0), and field is 1 to 6, or 0 where no field is meant. */
 
 /* The report of a deck of n bytes, into a buffer of room bytes. Each receptor has its length of exposure in slot 22, over which cancer's
  * soil is a mean. On 0, *line is the report's length in bytes and *field is 0; the bytes of the buffer past the report stay as they were.
  * On a refusal the whole buffer does.
- * Refusals, the first that holds: 11; then line by line 12, 21, 22, and in each field 31, 32, 33; then 51, 41, 42. */
+ * Refusals, the first that holds: 11; then line by line 12, 21, 22, and in each field 31, 32, 33; then 51, 42. */
 uint32_t zilmorga_report(const uint8_t *deck, size_t n, uint8_t *report, size_t room, size_t *line, size_t *field);
 
 /* The report of a composite's deck: its one to eight receptors are the life stages of one person, each with its years in slot 23, and the
