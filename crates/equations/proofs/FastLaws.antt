@@ -1,8 +1,8 @@
 -- Where the loss is fast, the high end of the exponent above 64: 1 / φ lies between 0 and 1E-25, and g and h by the rule hold the exact ones
 -- of every N from 256 up. They are far narrower than by the series: 1 / φ is too small to widen x, and g is at most 1/2, so that 1 − g is no
 -- wider than g. Assumes nothing.
-use mathlib.Core.Path.{_≡_, refl, sym, _∙_, ap, subst}
-use mathlib.Core.Bool.{Bool, true, false}
+use mathlib.Core.Path.{_≡_, refl, subst}
+use mathlib.Core.Bool.{true, false}
 use Prim.Native.Nat.{ℕ, _+_, _*_, _-_, _^_, _≤_, _<_}
 use native.Mathlib.Nat.{mul-le-mul-right, le-of-mul-le-mul-right, mul-pos, one-le-pow, le-dest, pow-le-pow-left}
 use native.Mathlib.Omega.{arith}
@@ -12,12 +12,11 @@ use Rattle.pair.specs.declared.Number.{Number}
 use Rattle.pair.specs.declared.Pair.{Pair}
 use Rattle.pair.specs.Fraction.{Fraction, Proper, _≤ᶠ_, plus, over, rest}
 use Rattle.pair.specs.Number.{isPair, value, place, depth}
-use Rattle.pair.specs.Calls.{Outcome, is, after, afterOne, entry, sum, oneMinus}
+use Rattle.pair.specs.Calls.{Outcome, is, after, afterOne, oneMinus}
 use Rattle.pair.specs.Promises.{sums, quotients, call, exactResult, lowEnd, highEnd, withLow, withHigh, Holds, scaled}
-use Rattle.pair.proofs.Promises as promises
-use Rattle.pair.proofs.Promises.{Within, Usable, joint, value-proper, through, ordered, answered-within, rounds, ends-proper, pair-again, holds, entry-written, rest-answered, rest-rounds, rest-pair, rest-within, rest-holds}
-use Rattle.equations.specs.Formula.{phi, pairs, fractions}
-use Rattle.equations.specs.Series.{exactSeries}
+use Rattle.pair.proofs.Promises.{Within, Usable, joint, value-proper, ordered, answered-within, rounds, ends-proper, pair-again, holds, entry-written, rest-answered, rest-rounds, rest-pair, rest-within, rest-holds}
+use Rattle.equations.specs.Formula.{pairs, fractions}
+use Rattle.equations.specs.Series.{phi, exactSeries}
 use Rattle.equations.specs.Page.{Fast, gWith, growth}
 use Rattle.equations.specs.Ranges.{nextToNothing}
 use Rattle.equations.specs.Readings.{pairGrowing, exactGrowing}

@@ -3,15 +3,15 @@ use mathlib.Core.Path.{_≡_, refl, _∙_, ap, ap₂}
 use mathlib.Core.Bool.{true}
 use Prim.Native.Nat.{ℕ, zero, suc, _+_, _≤_}
 use native.Mathlib.Omega.{arith}
-use lib.Dec.{lit≤, lit<}
+use lib.Dec.{lit≤}
 use lib.IntN.{pos, negsuc}
 use Rattle.pair.specs.declared.Pair.{Pair}
 use Rattle.pair.specs.Number as numbers
 use Rattle.pair.specs.Number.{nineFigures, inReach, zeroExponent, isZero, isNumber, isPair, lesser, rise, unitsAt, lower, atMost}
 use Rattle.pair.specs.Calls.{Outcome, is, provided, after, afterOne, zeroPair, onePair, entry, sum, product, quotient, compared}
 use Rattle.pair.proofs.Promises.{zero-pair, one-pair, one-entry, entry-answered, entry-around, entry-above, around-pair, scaled-proper, sum-zero, product-zero, zero-product, zero-quotient, quotient-one, entry-written}
-use Rattle.equations.specs.Formula.{Series, phi, psi, read, pairs}
-use Rattle.equations.specs.Series.{first, step, terms, fromZero, pairSeries}
+use Rattle.equations.specs.Formula.{read, pairs}
+use Rattle.equations.specs.Series.{Series, phi, psi, first, step, terms, fromZero, pairSeries}
 use Rattle.equations.specs.Letters.{g, h}
 use Rattle.equations.specs.Page.{x, Pace, Slow, Growth, gWith, growth}
 use Rattle.equations.specs.Ranges.{sixtyFour}

@@ -3,18 +3,18 @@
 use mathlib.Core.Path.{_≡_, refl, sym, _∙_, ap, subst}
 use mathlib.Core.Bool.{Bool, true, false}
 use Prim.Native.Nat.{ℕ, _*_, _^_, _≤_, _<_}
-use native.Mathlib.Nat.{mul-le-mul-right, le-of-mul-le-mul-right, one-le-pow, mul-pos}
+use native.Mathlib.Nat.{mul-le-mul-right, le-of-mul-le-mul-right, one-le-pow}
 use native.Mathlib.Omega.{arith}
 use lib.Dec.{lit<, lit≤}
 use lib.IntN.{pos, negsuc}
 use Rattle.pair.specs.declared.Pair.{Pair}
 use Rattle.pair.specs.Fraction.{Fraction, _≤ᶠ_}
 use Rattle.pair.specs.Number.{isNumber, isPair, atMost, value, depth}
-use Rattle.pair.specs.Calls.{Outcome, is, refused, after, compared}
+use Rattle.pair.specs.Calls.{Outcome, is, refused, compared}
 use Rattle.pair.specs.Promises.{sums, products, quotients, call, exactResult}
-use Rattle.pair.proofs.Promises.{_<ᶠ_, joint, ordered, through, value-proper, compared-right, compared-answered, number-written, sixty-four-entry}
-use Rattle.equations.specs.Formula.{Series, phi, psi, pairs, fractions}
-use Rattle.equations.specs.Series.{first, step, terms, pairSeries, exactSeries}
+use Rattle.pair.proofs.Promises.{_<ᶠ_, joint, ordered, compared-right, compared-answered, number-written, sixty-four-entry}
+use Rattle.equations.specs.Formula.{pairs, fractions}
+use Rattle.equations.specs.Series.{Series, phi, psi, first, step, terms, pairSeries, exactSeries}
 use Rattle.equations.specs.Page.{Pace, Slow, Fast, gWith, growth}
 use Rattle.equations.specs.Ranges.{sixtyFour}
 use Rattle.equations.specs.Readings.{paceIf, paceOf, pairGrowing, exactGrowing}

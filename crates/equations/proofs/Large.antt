@@ -5,10 +5,9 @@ use native.Mathlib.Nat.{mul-le-mul, mul-le-mul-right, le-of-mul-le-mul-right, mu
 use native.Mathlib.Omega.{arith}
 use lib.Dec.{lit≤}
 use Rattle.pair.specs.Fraction.{Fraction, Proper, _≤ᶠ_, plus}
-use Rattle.pair.proofs.Promises.{through}
-use Rattle.equations.specs.Formula.{phi, fractions}
-use Rattle.equations.specs.Series.{terms, exactSeries}
-use Rattle.equations.proofs.Tail.{factorial, factorial-above, lead, order, term, total, term-is, term-proper, total-proper, total-least, total-first}
+use Rattle.equations.specs.Formula.{fractions}
+use Rattle.equations.specs.Series.{phi, terms, exactSeries}
+use Rattle.equations.proofs.Tail.{factorial, factorial-above, lead, order, term, total, term-is, total-proper, total-least, total-first}
 use Rattle.equations.proofs.SeriesLaws.{series-is}
 
 -- The terms at 63, each cut to a whole number, and their sum.

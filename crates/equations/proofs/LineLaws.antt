@@ -98,7 +98,7 @@ x′-profile = refl
 
 -- the profiles of g and h at x, of g at x′, and of a formula
 unfoldable pub ofLaterGrowth : Stay → Profile
-ofLaterGrowth Within = record { size = 521; width = 3379; positive = true; answered = false }
+ofLaterGrowth Within = record { size = ofG .size; width = ofG .width; positive = true; answered = false }
 ofLaterGrowth Beyond = ofG
 
 unfoldable pub ofGrown : Stay → AtBoth (Growth Profile)

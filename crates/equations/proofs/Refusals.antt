@@ -3,8 +3,8 @@ use Prim.Native.Nat.{ℕ, zero, suc}
 use Rattle.pair.specs.declared.Pair.{Pair}
 use Rattle.pair.specs.Calls.{Outcome, is, after, sum, product, quotient}
 use Rattle.pair.proofs.Refusals.{OnlyBy, is-by, after-by, afterOne-by, entry-by, sum-by, product-by, quotient-by}
-use Rattle.equations.specs.Formula.{pairs, Series, phi, psi}
-use Rattle.equations.specs.Series.{first, step, terms, fromZero, pairSeries}
+use Rattle.equations.specs.Formula.{pairs}
+use Rattle.equations.specs.Series.{Series, phi, psi, first, step, terms, fromZero, pairSeries}
 
 first-by : (s : Series) → OnlyBy 53 (first pairs s)
 unfolding first pairs

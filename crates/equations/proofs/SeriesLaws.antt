@@ -16,8 +16,8 @@ use Rattle.pair.specs.Calls.{Outcome, is, after, afterOne, zeroPair}
 use Rattle.pair.specs.Promises.{sums, call, exactResult, lowEnd, highEnd, withLow, withHigh, Holds, Sized}
 use Rattle.pair.proofs.Promises as promises
 use Rattle.pair.proofs.Promises.{Within, Usable, joint, value-proper, through, ordered, pair-from, zero-pair, answered-within, rounds, ends-proper, pair-again, holds}
-use Rattle.equations.specs.Formula.{Series, pairs, fractions}
-use Rattle.equations.specs.Series.{terms, fromZero, pairSeries, exactSeries}
+use Rattle.equations.specs.Formula.{pairs, fractions}
+use Rattle.equations.specs.Series.{Series, terms, fromZero, pairSeries, exactSeries}
 use Rattle.equations.proofs.Nearness.{Near, near-from, near-through, near-down, near-up}
 use Rattle.equations.proofs.Profile.{Profile, profiles, Fits, Good, both}
 use Rattle.equations.proofs.Tail.{term, total, total-proper, total-half, total-small, total-least, total-most, last-small}

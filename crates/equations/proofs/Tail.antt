@@ -12,8 +12,8 @@ use Rattle.pair.specs.Fraction.{Fraction, Proper, _≤ᶠ_, plus, times, over}
 use Rattle.pair.specs.Number.{place, depth}
 use Rattle.pair.specs.Promises.{scaled}
 use Rattle.pair.proofs.Promises.{below-itself, through}
-use Rattle.equations.specs.Formula.{Series, phi, psi, fractions}
-use Rattle.equations.specs.Series.{first, step, terms}
+use Rattle.equations.specs.Formula.{fractions}
+use Rattle.equations.specs.Series.{Series, phi, psi, first, step, terms}
 
 unfoldable pub factorial : ℕ → ℕ
 factorial zero = 1

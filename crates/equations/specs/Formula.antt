@@ -8,10 +8,6 @@ use Rattle.pair.specs.Calls.{Outcome, after, entry, sum, product, quotient}
 use Rattle.pair.specs.Promises.{scaled}
 use Rattle.slots.specs.Slots.{Slot}
 
--- φ and ψ (Series.antt)
-pub data Series : Type 0 where
-  phi psi : Series
-
 -- A letter stands for the value of a slot, for 1 less that value, for T2 − tD, for g and h at x, or for g at k × (T2 − tD).
 pub data Letter : Type 0 where
   slot : Slot → Letter

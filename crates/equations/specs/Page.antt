@@ -8,7 +8,8 @@ use Rattle.equations.specs.declared.Effect.the-variants.{Hazard, Cancer}
 use Rattle.equations.specs.declared.Stay.{Stay}
 use Rattle.equations.specs.declared.Stay.the-variants.{Within, Beyond}
 use Rattle.slots.specs.Slots.{Slot}
-use Rattle.equations.specs.Formula.{Series, phi, psi, Formula, Algebra, letter, slot, constant, 1−, T2−tD, _⊕_, _⊗_, _⊘_}
+use Rattle.equations.specs.Formula.{Formula, Algebra, letter, slot, constant, 1−, T2−tD, _⊕_, _⊗_, _⊘_}
+use Rattle.equations.specs.Series.{Series, phi, psi}
 use Rattle.equations.specs.Letters.{Zs, BD, tD, θ, Xe, SD, ER, RO, R, VG, FRsnow, Q, HgA, HgD, Fv, Cyv, Cyp, Dydv, Dywv, Dydp, Dywp, Kds, ksg, ksv, Br, RCF, AFinh, AForal, AFderm, BW, ED, ATc, IRinh, ETinh, EFinh, IRsoil, ETsoil, EFs, EFw, SAb, SAFb, SAh, SAFh, ETderm, IRag, Fag, IRbg, Fbg, WP, EFp, T2, g, h, g′}
 
 -- Constants: 1, 0.1, 100, 1000, 365 and 0.000001

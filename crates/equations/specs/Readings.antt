@@ -14,8 +14,8 @@ use Rattle.slots.specs.Slots.{Slot, ownerOf, placeOf}
 use Rattle.slots.specs.declared.Owner.{Owner}
 use Rattle.slots.specs.declared.Owner.the-variants.{Site, Chemical, Receptor}
 use Rattle.equations.specs.declared.Values.{Values}
-use Rattle.equations.specs.Formula.{phi, Letter, slot, rest, later, g-at-x, h-at-x, g-at-x′, Formula, Algebra, read, pairs, fractions}
-use Rattle.equations.specs.Series.{pairSeries, exactSeries}
+use Rattle.equations.specs.Formula.{Letter, slot, rest, later, g-at-x, h-at-x, g-at-x′, Formula, Algebra, read, pairs, fractions}
+use Rattle.equations.specs.Series.{phi, pairSeries, exactSeries}
 use Rattle.equations.specs.Page.{x, x′, Pace, Slow, Fast, Growth, Growing, growth}
 use Rattle.equations.specs.Ranges.{sixtyFour, nextToNothing}
 

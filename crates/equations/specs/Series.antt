@@ -6,7 +6,10 @@ use Rattle.pair.specs.declared.Pair.{Pair}
 use Rattle.pair.specs.Fraction.{Fraction}
 use Rattle.pair.specs.Number as numbers
 use Rattle.pair.specs.Calls.{Outcome, is, after, afterOne, sum}
-use Rattle.equations.specs.Formula.{Algebra, pairs, fractions, Series, phi, psi}
+use Rattle.equations.specs.Formula.{Algebra, pairs, fractions}
+
+pub data Series : Type 0 where
+  phi psi : Series
 
 -- t0 = 1, and s0 = 1/2
 unfoldable pub first : {A : Type 0} → Algebra A → Series → A

@@ -14,11 +14,10 @@ use Rattle.slots.specs.Slots.{table, same, isIn, placeIn, ruleIn, ruleAt, lineR
 use Rattle.equations.specs.declared.Pathway.the-variants.{SoilWinter}
 use Rattle.equations.specs.declared.Effect.the-variants.{Hazard, Cancer}
 use Rattle.equations.specs.declared.Values.{Values}
-use Rattle.equations.specs.Formula.{phi, psi, read, pairs}
-use Rattle.equations.specs.declared.Stay.the-variants.{Within, Beyond}
+use Rattle.equations.specs.Formula.{read, pairs}
 use Rattle.equations.specs.Letters.{g, h}
 use Rattle.equations.specs.Series as series
-use Rattle.equations.specs.Series.{terms, fromZero, pairSeries}
+use Rattle.equations.specs.Series.{phi, psi, terms, fromZero, pairSeries}
 use Rattle.equations.specs.Page as page
 use Rattle.equations.specs.Page.{growth, x, u, kse, ksr, ksl, k, A, D, C, aboveGround, belowGround, AT, B, exposure, factor, byMedium, medium, intakeBy, intake, byRoute, referenceSlot, reference, figureBy, line}
 use Rattle.equations.specs.Ranges.{sixtyFour, nextToNothing}

@@ -18,8 +18,8 @@ use Rattle.years.specs.declared.Years.{Years}
 use Rattle.years.specs.Years as years
 use Rattle.slots.specs.Slots.{Slot, placeOf}
 use Rattle.equations.specs.declared.Values.{Values}
-use Rattle.equations.specs.Formula.{phi, psi, pairs}
-use Rattle.equations.specs.Series.{pairSeries}
+use Rattle.equations.specs.Formula.{pairs}
+use Rattle.equations.specs.Series.{phi, psi, pairSeries}
 use Rattle.equations.specs.Letters.{g, h}
 use Rattle.equations.specs.Page.{x, C, soil, AT}
 use Rattle.equations.specs.Readings.{worked, inputs}

@@ -5,8 +5,8 @@ use lib.Dec.{lit≤}
 use Rattle.pair.specs.declared.Pair.{Pair}
 use Rattle.pair.specs.Calls.{Outcome, is, refused, after}
 use Rattle.pair.proofs.Promises.{one-entry}
-use Rattle.equations.specs.Formula.{Series, phi, psi, pairs}
-use Rattle.equations.specs.Series.{step, terms}
+use Rattle.equations.specs.Formula.{pairs}
+use Rattle.equations.specs.Series.{Series, phi, psi, step, terms}
 use Rattle.equations.specs.Page.{gWith, growth}
 use Rattle.equations.specs.Readings.{paceOf, pairGrowing}
 use Rattle.equations.proofs.EarlyStop.{series-refused}

@@ -14,8 +14,8 @@ use Rattle.pair.specs.Calls.{Outcome, is, refused, after, afterOne, zeroPair, e
 use Rattle.pair.specs.Promises.{scaled}
 use Rattle.pair.proofs.Promises.{entry-answered, entry-exact, through, value-proper}
 use Rattle.pair.proofs.Partials.{partial-worked, partial-refused}
-use Rattle.equations.specs.Formula.{Series, phi, psi, pairs}
-use Rattle.equations.specs.Series.{step, terms, fromZero, pairSeries}
+use Rattle.equations.specs.Formula.{pairs}
+use Rattle.equations.specs.Series.{Series, phi, psi, step, terms, fromZero, pairSeries}
 use Rattle.equations.proofs.EarlyStop.{reach, step-plain, series-stopped, series-refused}
 use Rattle.equations.proofs.Figures.{firstPair, first-is, series-at-zero}
 use Rattle.media.specs.Inner.{Moderate}

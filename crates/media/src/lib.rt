@@ -16,8 +16,7 @@ use pair::Answer;
 use pair::Pair;
 ghost use mathlib.Core.Path.{_≡_};
 ghost use Rattle.pair.specs.Calls as calls;
-ghost use Rattle.equations.specs.Formula.{phi, psi};
-ghost use Rattle.equations.specs.Series.{pairSeries};
+ghost use Rattle.equations.specs.Series.{phi, psi, pairSeries};
 ghost use Rattle.equations.specs.Readings.{inputs, noValues};
 ghost use Rattle.media.specs.Media as specs;
 

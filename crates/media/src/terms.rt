@@ -10,8 +10,8 @@ ghost use mathlib.Core.Bool.{true};
 ghost use Prim.Native.Nat.{_+_, _<_};
 ghost use lib.IntN.{pos};
 ghost use Rattle.pair.specs.Calls.{answer, is, after, afterOne, sum, compared, absorbs, zeroPair, entry, partial};
-ghost use Rattle.equations.specs.Formula.{phi, psi, pairs};
-ghost use Rattle.equations.specs.Series.{step, fromZero, pairSeries};
+ghost use Rattle.equations.specs.Formula.{pairs};
+ghost use Rattle.equations.specs.Series.{phi, psi, step, fromZero, pairSeries};
 ghost use Rattle.media.specs.Inner.{Moderate};
 
 // x from here on leaves no term out of the exponents' reach.

@@ -1,6 +1,6 @@
 -- An exposure that is set against a deposition on the printed digits. Assumes nothing.
 use mathlib.Core.Path.{_≡_, refl, sym, _∙_, ap}
-use mathlib.Core.Bool.{Bool, true, false, not}
+use mathlib.Core.Bool.{Bool, true, false}
 use Prim.Native.Nat.{ℕ, _<_}
 use native.Mathlib.Omega.{arith}
 use lib.Dec.{leb}
@@ -11,8 +11,6 @@ use Rattle.years.specs.declared.Years.{Years}
 use Rattle.years.specs.Years as years
 use Rattle.years.specs.Years.{amount, isYears}
 use Rattle.years.proofs.Promises.{at-most-told, beyond-answered}
-use Rattle.equations.specs.declared.Stay.{Stay}
-use Rattle.equations.specs.declared.Stay.the-variants.{Within, Beyond}
 use Rattle.sheet.specs.Values.{orOne, stayIf, laterIf}
 use Rattle.report.specs.DemandTwo.{isBeyond, Exposed}
 

@@ -26,11 +26,15 @@ report-without : (scenario : Scenario) (room : ℕ) → Without 41 (reportCondit
 unfolding reportConditions
 report-without scenario room = (λ e. omega arith, large-without scenario)
 
+-- no condition of a call's list has this number
+pub conditions-without : (call : Call) (deck : List ℕ) (room : ℕ) → Without 41 (allConditions call deck room)
+unfolding allConditions
+conditions-without call deck room =
+    without-append 41 (conditions (call .sort) deck) (reportConditions (scenarioOf call deck) room) (deck-without (call .sort) deck) (report-without (scenarioOf call deck) room)
+
 pub report-never : (call : Call) (deck : List ℕ) (room : ℕ) → outcomeOf call deck room .number ≢ 41
-unfolding outcomeOf statusOf allConditions
-report-never call deck room =
-    outcome-without (allConditions call deck room) (scenarioOf call deck)
-    (without-append 41 (conditions (call .sort) deck) (reportConditions (scenarioOf call deck) room) (deck-without (call .sort) deck) (report-without (scenarioOf call deck) room))
+unfolding outcomeOf statusOf
+report-never call deck room = outcome-without (allConditions call deck room) (scenarioOf call deck) (conditions-without call deck room)
 
 pub written-never : (scenario : Scenario) (room : ℕ) → writtenOutcome scenario room .number ≢ 41
 unfolding writtenOutcome writtenStatus writtenConditions

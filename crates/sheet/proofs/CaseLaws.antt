@@ -2,7 +2,7 @@
 -- where 42 does not hold, every line with a reference value has its pair and its counts, and all counts and totals are small. Assumes nothing.
 use mathlib.Core.Path.{_≡_, refl, _∙_, ap, subst}
 use mathlib.Core.Bool.{Bool, true, false, cond, _&&_, false≢true}
-use mathlib.Core.List.{List, [], _∷_, _++_, append-assoc}
+use mathlib.Core.List.{List, _++_, append-assoc}
 use Prim.Native.Nat.{ℕ, zero, suc, _+_, _*_, _/_, _%_, _^_, _≤_, _<_}
 use native.Mathlib.Nat.{mul-le-mul-right}
 use native.Mathlib.Omega.{arith}
@@ -18,7 +18,7 @@ use Rattle.equations.specs.declared.Pathway.the-variants.{Air, SoilSummer, Abov
 use Rattle.equations.specs.declared.Effect.{Effect}
 use Rattle.equations.specs.declared.Effect.the-variants.{Hazard, Cancer}
 use Rattle.equations.specs.declared.Stay.{Stay}
-use Rattle.equations.specs.declared.Stay.the-variants.{Within, Beyond}
+use Rattle.equations.specs.declared.Stay.the-variants.{Within}
 use Rattle.equations.specs.Page as page
 use Rattle.equations.specs.Page.{byMedium}
 use Rattle.equations.specs.Readings.{Inputs, pacesOf, exactly, inputs, byOwner}

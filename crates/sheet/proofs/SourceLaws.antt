@@ -13,7 +13,6 @@ use Rattle.equations.specs.declared.Effect.{Effect}
 use Rattle.equations.specs.declared.Effect.the-variants.{Hazard, Cancer}
 use Rattle.equations.specs.declared.Values.{Values}
 use Rattle.equations.specs.declared.Stay.{Stay}
-use Rattle.equations.specs.declared.Stay.the-variants.{Within, Beyond}
 use Rattle.equations.specs.Formula.{read, pairs}
 use Rattle.equations.specs.Page as page
 use Rattle.equations.specs.Page.{byRoute, byMedium, figureBy, intakeBy, referenceSlot}

@@ -15,8 +15,7 @@ use Rattle.pair.specs.declared.Units.{Units}
 use Rattle.pair.specs.Calls as calls
 use Rattle.pair.specs.Calls.{Outcome, is, refused}
 use Rattle.pair.proofs.Refusals.{OnlyBy, is-by, refused-by, provided-by, after-by, afterOne-by, entry-by, oneMinusEntry-by, sum-by, product-by, quotient-by, oneMinus-by, compared-by, inUnits-by}
-use Rattle.equations.specs.Formula.{phi, psi}
-use Rattle.equations.specs.Series.{pairSeries}
+use Rattle.equations.specs.Series.{phi, psi, pairSeries}
 use Rattle.equations.proofs.Refusals.{series-by}
 use Rattle.slots.specs.declared.Sort.{Sort}
 use Rattle.slots.specs.declared.Sort.the-variants.{Ordinary, Composite}

@@ -6,8 +6,7 @@ use Prim.Native.Nat.{ℕ}
 use lib.IntN.{ℤ}
 use Rattle.pair.specs.declared.Units.{Units}
 use Rattle.pair.specs.Calls as calls
-use Rattle.equations.specs.Formula.{phi, psi}
-use Rattle.equations.specs.Series.{pairSeries}
+use Rattle.equations.specs.Series.{phi, psi, pairSeries}
 use Rattle.slots.specs.declared.Sort.the-variants.{Ordinary, Composite}
 use Rattle.totals.specs.Totals.{totalOf}
 use Rattle.report.specs.Report.{ordinary, outcomeOf}

@@ -9,8 +9,8 @@ use Rattle.pair.specs.declared.Pair.{Pair}
 use Rattle.pair.specs.declared.Partial.{Partial}
 use Rattle.pair.specs.Number.{one}
 use Rattle.pair.specs.Calls.{Outcome, is, answer, after, onePair, entry, sum, partial}
-use Rattle.equations.specs.Formula.{psi, pairs}
-use Rattle.equations.specs.Series.{step}
+use Rattle.equations.specs.Formula.{pairs}
+use Rattle.equations.specs.Series.{psi, step}
 use Rattle.equations.proofs.Figures.{firstPair}
 use Rattle.media.proofs.Sofar.{Sofar, nextOf, start, at-none, entered, step-refused, again, stopped, done}
 use Rattle.media.proofs.terms.mean_of_terms.Statement.{statement}

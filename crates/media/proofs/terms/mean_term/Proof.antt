@@ -5,8 +5,8 @@ use lib.IntN.{pos}
 use borrow.Author.Needs.{needs}
 use Rattle.pair.specs.declared.Pair.{Pair}
 use Rattle.pair.specs.Calls.{Outcome, is, answer, after, entry, product, quotient}
-use Rattle.equations.specs.Formula.{psi, pairs}
-use Rattle.equations.specs.Series.{step}
+use Rattle.equations.specs.Formula.{pairs}
+use Rattle.equations.specs.Series.{psi, step}
 use Rattle.media.proofs.terms.mean_term.Statement.{statement}
 use Rattle.media.proofs.terms.mean_term.Tie as tie
 

@@ -8,8 +8,8 @@ use borrow.Author.Tests.{not-true, not-false}
 use Rattle.pair.specs.declared.Pair.{Pair}
 use Rattle.pair.specs.Number.{one}
 use Rattle.pair.specs.Calls.{Outcome, is, answer, after, onePair, entry, sum, product, quotient, partial, nextTerm}
-use Rattle.equations.specs.Formula.{phi, pairs}
-use Rattle.equations.specs.Series.{step}
+use Rattle.equations.specs.Formula.{pairs}
+use Rattle.equations.specs.Series.{phi, step}
 use Rattle.equations.proofs.Figures.{firstPair}
 use Rattle.media.proofs.Sofar.{Sofar, nextOf, start, at-none, entered, step-refused, again, stopped, done}
 use Rattle.media.proofs.terms.sum_of_terms.Statement.{statement}
