@@ -58,8 +58,8 @@ x = k ⊗ tD
 unfoldable pub x′ : Formula
 x′ = k ⊗ T2−tD
 
--- g and h at an exponent x, which is k × tD or k × (T2 − tD), in any reading. φ and ψ are the series there (Series.antt). Where the high end of x
--- is above 64 (P5) the chemical is lost fast: then 1 / φ is next to nothing and h is (1 − g) / x.
+-- g and h at an exponent x, which is k × tD or k × (T2 − tD), in any reading: g = 1 / (1 / φ + x) and h = ψ / (1 + x × φ), with φ and ψ the series
+-- there (Series.antt). Where the high end of x is above 64 (P5) the chemical is lost fast: then 1 / φ is next to nothing, and h = (1 − g) / x.
 pub data Pace : Type 0 where
   Slow Fast : Pace
 

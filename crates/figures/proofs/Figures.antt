@@ -51,11 +51,12 @@ at-zero : (site chemical : Values) (particles : Pair) → ofSlots site chemical 
 unfolding ofSlots ofMedia mediaInputs asAnswers firstPair
 at-zero site chemical particles e = (ap (pairSeries phi) e ∙ series-at-zero phi, g-at-zero (mediaInputs site chemical particles) e)
 
--- x = 1E+6
-fast-growth : (growthAt (whole 1000000) .g ≡ is (record { low = record { significand = 999999990; exponent = negsuc 14 }; high = record { significand = 100000000; exponent = negsuc 13 } }))
+-- x = 64.0000001, and x = 1E+6
+fast-growth : (growthAt (bothEnds 640000001 640000001 (negsuc 6)) ≡ record { g = bothEnds 156249999 156250000 (negsuc 9); h = bothEnds 153808593 153808594 (negsuc 9) })
+    × (growthAt (whole 1000000) .g ≡ is (record { low = record { significand = 999999990; exponent = negsuc 14 }; high = record { significand = 100000000; exponent = negsuc 13 } }))
     × (growthAt (whole 1000000) .h ≡ bothEnds 999999000 999999001 (negsuc 14))
 unfolding growthAt growth page.gWith pairGrowing paceOf paceIf compared sixtyFour nextToNothing bothEnds whole pairs nineFigures inReach zeroExponent isZero isNumber zero one lesser rise unitsAt lower atMost isPair extra divided excessFrom excess carried rounded sumEnd productEnd quotientEnd restEnd provided calls.ends after afterOne entry sum product quotient calls.oneMinus
-fast-growth = (refl, refl)
+fast-growth = (refl, refl, refl)
 
 -- 365 × 4.5, and the winter factor as the page writes it
 year : (site chemical receptor : Values) → is (inputs site chemical receptor "ED") ≡ entry 45 (negsuc 0) → workedFor site chemical receptor (AT Hazard) ≡ bothEnds 164250000 164250000 (negsuc 4)
@@ -149,4 +150,4 @@ year-met = refl
 -- the single list
 pub checked-figures : CheckedFigures
 unfolding CheckedFigures cases figures
-checked-figures = (figures-hold .0, (figures-hold .1 .0, (at-zero, (half-at-zero, (fast-growth .0, (fast-growth .1, (year, (winter, (figures-hold .1 .1 .1 .1 .0, (figures-hold .1 .1 .1 .1 .1 .0, (read-whole, (answer-is, (lines-are, (ap linesText lines-are ∙ text-is, (soils-are .0, (soils-are .1, (soils-are .2, (solvent-soils .0, (solvent-soils .1, (composite-whole, (composite-answer, (composite-lines, (ap linesText composite-lines ∙ composite-text, (stages-weigh .0, (stages-weigh .1, (stages-weigh .2, tt))))))))))))))))))))))))))
+checked-figures = (figures-hold .0, (figures-hold .1 .0, (at-zero, (half-at-zero, (fast-growth .0, (fast-growth .1, (fast-growth .2, (year, (winter, (figures-hold .1 .1 .1 .1 .0, (figures-hold .1 .1 .1 .1 .1 .0, (read-whole, (answer-is, (lines-are, (ap linesText lines-are ∙ text-is, (soils-are .0, (soils-are .1, (soils-are .2, (solvent-soils .0, (solvent-soils .1, (composite-whole, (composite-answer, (composite-lines, (ap linesText composite-lines ∙ composite-text, (stages-weigh .0, (stages-weigh .1, (stages-weigh .2, tt)))))))))))))))))))))))))))

@@ -187,7 +187,8 @@ cases =
     -- ψ and h are 1/2 there
     ∷ ((site chemical : Values) (particles : Pair) → ofSlots site chemical x ≡ is zeroPair
     → (pairSeries psi (ofSlots site chemical x) ≡ bothEnds 500000000 500000000 (negsuc 8)) × (ofMedia site chemical particles h ≡ bothEnds 500000000 500000000 (negsuc 8)))
-    -- x = 1E+6: g is 1 / (x + 0..1E-25), and h is (1 − g) / x
+    -- x = 64.0000001, the first above 64, and x = 1E+6: g is 1 / (x + 0..1E-25), and h is (1 − g) / x
+    ∷ (growthAt (bothEnds 640000001 640000001 (negsuc 6)) ≡ record { g = bothEnds 156249999 156250000 (negsuc 9); h = bothEnds 153808593 153808594 (negsuc 9) })
     ∷ (growthAt (whole 1000000) .g ≡ is (record { low = record { significand = 999999990; exponent = negsuc 14 }; high = record { significand = 100000000; exponent = negsuc 13 } }))
     ∷ (growthAt (whole 1000000) .h ≡ bothEnds 999999000 999999001 (negsuc 14))
     -- ED 4.5: AT is 1642.5, as the pathways read it

@@ -1,31 +1,24 @@
--- Document 02's P5 at its bound: the loss is slow at 64 and fast at the next working number above it, where g and h are those of the rule, by
--- computation. Assumes nothing.
-use mathlib.Core.Path.{_≡_, refl}
-use Prim.Native.Nat.{ℕ}
+-- Document 02's P5 at its bound: the loss is slow at 64 and fast at the next working number above it. Assumes nothing.
+use mathlib.Core.Path.{_≡_, refl, ap}
+use Prim.Native.Nat.{ℕ, _≤_}
+use lib.Dec.{leb, lit<, lit≤}
 use lib.IntN.{negsuc}
 use Rattle.pair.specs.declared.Number.{Number}
-use Rattle.pair.specs.declared.Pair.{Pair}
-use Rattle.pair.specs.Number.{nineFigures, inReach, zeroExponent, isZero, isNumber, isPair, zero, one, lesser, rise, unitsAt, lower, atMost}
-use Rattle.pair.specs.Rounding.{extra, divided, excessFrom, excess, carried, rounded, sumEnd, quotientEnd, restEnd}
-use Rattle.pair.specs.Calls.{is, provided, ends, entry, sum, quotient, oneMinus, compared, after, afterOne}
-use Rattle.equations.specs.Formula.{pairs}
-use Rattle.equations.specs.Page.{Slow, Fast, gWith, growth}
-use Rattle.equations.specs.Ranges.{sixtyFour, nextToNothing}
-use Rattle.equations.specs.Readings.{paceIf, paceOf, pairGrowing}
-use Rattle.media.specs.Media.{growthAt}
+use Rattle.pair.specs.Calls.{is, compared}
+use Rattle.pair.proofs.Promises.{number-written, compared-level}
+use Rattle.equations.specs.Page.{Slow, Fast}
+use Rattle.equations.specs.Ranges.{sixtyFour}
+use Rattle.equations.specs.Readings.{paceIf, paceOf}
 
 -- a number of nine figures with 64's exponent
 abbrev atSeven : ℕ → Number
 atSeven m = record { significand = m; exponent = negsuc 6 }
 
+compared-64 : (m : ℕ) → 100000000 ≤ m → m ≤ 999999999 → compared (atSeven m) sixtyFour ≡ is (leb m 640000000)
+unfolding sixtyFour
+compared-64 m l h = compared-level (atSeven m) (atSeven 640000000) (number-written m (negsuc 6) l h (lit< tt)) (number-written 640000000 (negsuc 6) (lit≤ tt) (lit≤ tt) (lit< tt)) refl
+
 -- the high end decides, whatever the low end is
 pub pace-at-64 : (low : Number) → (paceOf (is (record { low = low; high = atSeven 640000000 })) ≡ Slow) × (paceOf (is (record { low = low; high = atSeven 640000001 })) ≡ Fast)
-unfolding paceOf paceIf compared provided isNumber isZero zeroExponent nineFigures inReach atMost unitsAt lower lesser rise sixtyFour
-pace-at-64 low = (refl, refl)
-
-abbrev between : ℕ → ℕ → Pair
-between m n = record { low = record { significand = m; exponent = negsuc 9 }; high = record { significand = n; exponent = negsuc 9 } }
-
-pub growth-above-64 : growthAt (is (record { low = atSeven 640000001; high = atSeven 640000001 })) ≡ record { g = is (between 156249999 156250000); h = is (between 153808593 153808594) }
-unfolding growthAt paceOf paceIf compared growth gWith pairGrowing pairs after afterOne entry sum quotient oneMinus provided ends isPair isNumber isZero zeroExponent nineFigures inReach atMost unitsAt lower lesser rise rounded excess excessFrom carried divided extra sumEnd quotientEnd restEnd zero one sixtyFour nextToNothing
-growth-above-64 = refl
+unfolding paceOf paceIf
+pace-at-64 low = (ap paceIf (compared-64 640000000 (lit≤ tt) (lit≤ tt)), ap paceIf (compared-64 640000001 (lit≤ tt) (lit≤ tt)))
