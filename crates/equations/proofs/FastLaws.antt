@@ -23,7 +23,7 @@ use Rattle.equations.specs.Readings.{pairGrowing, exactGrowing}
 use Rattle.equations.proofs.Tail.{place-zero}
 use Rattle.equations.proofs.Nearness.{Near, near-from, near-through, near-above, near-down, near-up, spread}
 use Rattle.equations.proofs.Profile.{Profile, ofNumber, positives, usable, joined, Fits, Good, down-is, good-op, good-number, answeredAs, two-more}
-use Rattle.equations.proofs.SeriesLaws.{series-proper, zero-num, above-zero, above-zero-pair, above-zero-within, above-zero-holds, near-half}
+use Rattle.equations.proofs.SeriesLaws.{series-proper, zero-num, above-zero, above-zero-pair, above-zero-within, above-zero-holds, near-half, small-plus}
 use Rattle.equations.proofs.Large.{phi-large}
 
 -- ---- 1 / φ
@@ -82,7 +82,7 @@ module _ {v : Fraction} (p : Proper v) (least : 63 * v .den ≤ v .num) (N : ℕ
 -- ---- g: an exponent X of which the low end is at least 63
 small-before : (x y : Fraction) → y .den ≤ 2 * y .num → x .num * 200000000 ≤ x .den → Near 1 (plus x y) y
 unfolding plus
-small-before x y h k = record { across = omega (arith, mul-le-mul-right (y .den * y .den) k, mul-le-mul-right (x .den * y .den) h) }
+small-before x y h k = record { across = omega (arith, small-plus y x h k .across) }
 
 nothing-before : (x y : Fraction) → x .num ≡ 0 → y ≤ᶠ plus x y
 unfolding plus

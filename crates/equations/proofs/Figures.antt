@@ -1,21 +1,22 @@
 -- Document 01's checked figure x = 0: φ and g are 1; and P4's: ψ and h are 1/2. Assumes nothing.
-use mathlib.Core.Path.{_≡_, refl, _∙_, ap, ap₂}
+use mathlib.Core.Path.{_≡_, _∙_, ap, ap₂}
 use mathlib.Core.Bool.{true}
 use Prim.Native.Nat.{ℕ, zero, suc, _+_, _≤_}
 use native.Mathlib.Omega.{arith}
-use lib.Dec.{lit≤, lit<}
+use lib.Dec.{lit≤}
 use lib.IntN.{pos, negsuc}
 use Rattle.pair.specs.declared.Pair.{Pair}
 use Rattle.pair.specs.Number as numbers
 use Rattle.pair.specs.Number.{isNumber, isPair, value}
 use Rattle.pair.specs.Calls.{Outcome, is, after, afterOne, zeroPair, onePair, entry, sum, product, quotient}
-use Rattle.pair.proofs.Promises.{ordered, at-most, compared-answered, number-written, zero-pair, one-pair, one-entry, entry-answered, entry-around, entry-above, around-pair, scaled-proper, sum-zero, product-zero, zero-product, zero-quotient, quotient-one, entry-written}
+use Rattle.pair.proofs.Promises.{ordered, at-most, compared-answered, zero-pair, one-pair, one-entry, entry-answered, entry-around, entry-above, around-pair, scaled-proper, sum-zero, product-zero, zero-product, zero-quotient, quotient-one, entry-written}
 use Rattle.equations.specs.Formula.{read, pairs}
 use Rattle.equations.specs.Series.{Series, phi, psi, first, step, terms, fromZero, pairSeries}
 use Rattle.equations.specs.Letters.{g, h}
 use Rattle.equations.specs.Page.{x, Pace, Slow, Growth, gWith, growth}
 use Rattle.equations.specs.Ranges.{sixtyFour}
 use Rattle.equations.specs.Readings.{Inputs, letters, plain, exponents, grownAt, asAnswers, paceIf, paceOf, pacesOf, pairGrowing, worked}
+use Rattle.equations.proofs.Limits.{sixty-four-number}
 use Rattle.equations.proofs.SeriesLaws.{zero-below}
 
 -- a whole number, by which may be divided
@@ -96,11 +97,10 @@ half-over = rw (one-entry, zero-product onePair (one-pair .0), sum-zero onePair 
 
 -- g at x = 0 is 1, and h is 1/2.
 slow-at-zero : paceOf (is zeroPair) ≡ Slow
-unfolding paceOf paceIf zeroPair sixtyFour
+unfolding paceOf paceIf zeroPair
 slow-at-zero =
     let zero-number : isNumber numbers.zero ≡ true = ordered zeroPair (zero-pair .0) .high in
-    let number : isNumber sixtyFour ≡ true = number-written 640000000 (negsuc 6) (lit≤ tt) (lit≤ tt) (lit< tt) in
-    ap paceIf (compared-answered numbers.zero sixtyFour zero-number number ∙ ap is (at-most numbers.zero sixtyFour zero-number number .1 (zero-below (value sixtyFour))))
+    ap paceIf (compared-answered numbers.zero sixtyFour zero-number sixty-four-number ∙ ap is (at-most numbers.zero sixtyFour zero-number sixty-four-number .1 (zero-below (value sixtyFour))))
 
 growth-at-zero : growth pairGrowing Slow (is zeroPair) ≡ record { g = is onePair; h = is (firstPair psi) }
 unfolding growth gWith pairGrowing pairs firstPair

@@ -6,19 +6,19 @@ use Prim.Native.Nat.{ℕ, _*_, _^_, _≤_, _<_}
 use native.Mathlib.Nat.{mul-le-mul-right, le-of-mul-le-mul-right, one-le-pow}
 use native.Mathlib.Omega.{arith}
 use lib.Dec.{lit<, lit≤}
-use lib.IntN.{pos, negsuc}
+use lib.IntN.{pos}
 use Rattle.pair.specs.declared.Pair.{Pair}
 use Rattle.pair.specs.Fraction.{Fraction, _≤ᶠ_}
-use Rattle.pair.specs.Number.{isNumber, isPair, atMost, value, depth}
+use Rattle.pair.specs.Number.{isPair, atMost, value, depth}
 use Rattle.pair.specs.Calls.{Outcome, is, refused, compared}
 use Rattle.pair.specs.Promises.{sums, products, quotients, call, exactResult}
-use Rattle.pair.proofs.Promises.{_<ᶠ_, joint, ordered, compared-right, compared-answered, number-written, sixty-four-entry}
+use Rattle.pair.proofs.Promises.{_<ᶠ_, joint, ordered, compared-right, compared-answered, sixty-four-entry}
 use Rattle.equations.specs.Formula.{pairs, fractions}
 use Rattle.equations.specs.Series.{Series, phi, psi, first, step, terms, pairSeries, exactSeries}
 use Rattle.equations.specs.Page.{Pace, Slow, Fast, gWith, growth}
 use Rattle.equations.specs.Ranges.{sixtyFour}
 use Rattle.equations.specs.Readings.{paceIf, paceOf, pairGrowing, exactGrowing}
-use Rattle.equations.proofs.Limits.{at-most-whole, at-least-whole}
+use Rattle.equations.proofs.Limits.{sixty-four-number, at-most-whole, at-least-whole}
 use Rattle.equations.proofs.Nearness.{Near, spread}
 use Rattle.equations.proofs.Profile.{Profile, profiles, ofNumber, positives, usable, joined, Good, answeredAs, good-op, good-more, good-number}
 use Rattle.equations.proofs.SeriesTerms.{cost}
@@ -44,10 +44,6 @@ fast-from p = go (compared (p .high) sixtyFour) refl
     go (is true) e h = unfold paceIf in slow-or-fast h
     go (is false) e h = compared-right (p .high) sixtyFour false e .1 refl
     go (refused n) e h = unfold paceIf in slow-or-fast h
-
-sixty-four-number : isNumber sixtyFour ≡ true
-unfolding sixtyFour
-sixty-four-number = number-written 640000000 (negsuc 6) (lit≤ tt) (lit≤ tt) (lit< tt)
 
 slow-from : (p : Pair) → isPair p ≡ true → paceOf (is p) ≡ Slow → value (p .high) ≤ᶠ value sixtyFour
 unfolding paceOf

@@ -3,16 +3,18 @@ use mathlib.Core.Logic.{_↔_}
 use Prim.Native.Nat.{ℕ, _≤_}
 use native.Mathlib.Nat.{add-zero}
 use mathlib.Core.Path.{_≡_, subst}
+use mathlib.Core.Bool.{true}
 use native.Mathlib.Omega.{arith}
-use lib.Dec.{lit<}
-use lib.IntN.{pos}
+use lib.Dec.{lit<, lit≤}
+use lib.IntN.{pos, negsuc}
 use Rattle.pair.specs.declared.Number.{Number}
 use Rattle.pair.specs.declared.Pair.{Pair}
 use Rattle.pair.specs.Fraction.{Fraction, Proper, _≤ᶠ_}
-use Rattle.pair.specs.Number.{value, place, depth}
+use Rattle.pair.specs.Number.{isNumber, value, place, depth}
 use Rattle.pair.specs.Calls.{is, entry}
 use Rattle.pair.specs.Promises.{scaled}
-use Rattle.pair.proofs.Promises.{through, value-proper, scaled-proper, entry-exact}
+use Rattle.pair.proofs.Promises.{through, value-proper, number-written, scaled-proper, entry-exact}
+use Rattle.equations.specs.Ranges.{sixtyFour}
 
 -- n as a fraction
 abbrev pub whole : ℕ → Fraction
@@ -37,3 +39,7 @@ at-most-whole n r few h w =
 
 pub at-least-whole : (n : ℕ) (r : Pair) → n ≤ 999999999 → entry n (pos 0) ≡ is r → whole n ≤ᶠ value (r .high)
 at-least-whole n r few h = through (scaled-proper n (pos 0)) (scaled-whole n .1) (entry-exact n (pos 0) r few h .1 .high)
+
+pub sixty-four-number : isNumber sixtyFour ≡ true
+unfolding sixtyFour
+sixty-four-number = number-written 640000000 (negsuc 6) (lit≤ tt) (lit≤ tt) (lit< tt)

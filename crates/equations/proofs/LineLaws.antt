@@ -27,7 +27,6 @@ use Rattle.slots.specs.declared.Owner.{Owner}
 use Rattle.slots.specs.declared.Owner.the-variants.{Site, Chemical, Receptor}
 use Rattle.slots.specs.Slots.{Slot, table, same, isIn, placeIn, entryRule, ownerOf, placeOf, ruleOf, neverZero, atMostOne}
 use Rattle.equations.specs.Formula.{Letter, slot, rest, later, g-at-x, h-at-x, g-at-x′, Formula, read, pairs, fractions}
-use Rattle.equations.specs.Letters.{tD, g}
 use Rattle.equations.specs.Page as page
 use Rattle.equations.specs.Page.{Growth, growth, x, x′}
 use Rattle.equations.specs.Readings.{Inputs, AtBoth, letters, noGrowth, plainWith, plain, exponents, grownAt, asAnswers, pacesOf, pairGrowing, worked, exactInputs, exactGrowing, exactly, byOwner}
@@ -151,20 +150,9 @@ unfolding page.line page.figureBy ofFormula profile read profiles
 intake-checked Hazard stay p = parts quotients (ofFormula stay (page.intake Hazard stay p)) (ofFormula stay (page.reference Hazard p)) (line-checked Hazard stay p .0) .first
 intake-checked Cancer stay p = parts products (ofFormula stay (page.intake Cancer stay p)) (ofFormula stay (page.reference Cancer p)) (line-checked Cancer stay p .0) .first
 
-factor-checked : (e : Effect) (stay : Stay) (p : Pathway) → ofFormula stay (page.factor e p) .answered ≡ true
-unfolding page.intake page.intakeBy ofFormula profile read profiles
-factor-checked e stay p = parts products (ofFormula stay (page.factor e p)) (ofFormula stay (page.medium e stay p)) (intake-checked e stay p) .first
-
 medium-checked : (e : Effect) (stay : Stay) (p : Pathway) → ofFormula stay (page.medium e stay p) .answered ≡ true
 unfolding page.intake page.intakeBy ofFormula profile read profiles
 medium-checked e stay p = parts products (ofFormula stay (page.factor e p)) (ofFormula stay (page.medium e stay p)) (intake-checked e stay p) .second
-
--- C is D × tD × g.
-D-checked : (stay : Stay) → ofFormula stay page.D .answered ≡ true
-unfolding page.medium page.byMedium page.soil page.C ofFormula profile read profiles
-D-checked stay =
-    let a = parts products (joined products (ofFormula stay page.D) (ofFormula stay tD)) (ofFormula stay g) (medium-checked Hazard stay SoilSummer) in
-    parts products (ofFormula stay page.D) (ofFormula stay tD) (a .first) .first
 
 -- The pair reading of f is r, which fits f's profile and holds the exact reading for every N from 256 up.
 pub record Works (stay : Stay) (env : Inputs Pair) (vals : Slot → Fraction) (f : Formula) (r : Pair) : Type 0 where
@@ -262,17 +250,8 @@ module _ (stay : Stay) (env : Inputs Pair) (vals : Slot → Fraction) (inputs : 
   pub line-works : (e : Effect) (w : Pathway) → (r : Pair) × Works stay env vals (page.line e stay w) r
   line-works e w = formula-works (page.line e stay w) (line-checked e stay w .0)
 
-  pub intake-works : (e : Effect) (w : Pathway) → (r : Pair) × Works stay env vals (page.intake e stay w) r
-  intake-works e w = formula-works (page.intake e stay w) (intake-checked e stay w)
-
-  pub factor-works : (e : Effect) (w : Pathway) → (r : Pair) × Works stay env vals (page.factor e w) r
-  factor-works e w = formula-works (page.factor e w) (factor-checked e stay w)
-
   pub medium-works : (e : Effect) (w : Pathway) → (r : Pair) × Works stay env vals (page.medium e stay w) r
   medium-works e w = formula-works (page.medium e stay w) (medium-checked e stay w)
-
-  pub D-works : (r : Pair) × Works stay env vals page.D r
-  D-works = formula-works page.D (D-checked stay)
 
   pub ground-works : ((r : Pair) × Works stay env vals page.k r) × ((r : Pair) × Works stay env vals page.gathered r)
   ground-works = (formula-works page.k (ground-checked stay .0), formula-works page.gathered (ground-checked stay .1))

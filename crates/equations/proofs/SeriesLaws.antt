@@ -13,10 +13,9 @@ use Rattle.pair.specs.Fraction.{Fraction, Proper, _≤ᶠ_, plus}
 use Rattle.pair.specs.Number as numbers
 use Rattle.pair.specs.Number.{isPair, value, depth}
 use Rattle.pair.specs.Calls.{Outcome, is, after, afterOne, zeroPair}
-use Rattle.pair.specs.Promises.{sums, call, exactResult, lowEnd, highEnd, withLow, withHigh, Holds, Sized}
+use Rattle.pair.specs.Promises.{sums, call, exactResult, lowEnd, highEnd, withLow, withHigh, Holds}
 use Rattle.pair.proofs.Promises as promises
 use Rattle.pair.proofs.Promises.{Within, Usable, joint, value-proper, through, ordered, pair-from, zero-pair, answered-within, rounds, ends-proper, pair-again, holds}
-use Rattle.equations.specs.Formula.{pairs, fractions}
 use Rattle.equations.specs.Series.{Series, terms, fromZero, pairSeries, exactSeries}
 use Rattle.equations.proofs.Nearness.{Near, near-from, near-through, near-down, near-up}
 use Rattle.equations.proofs.Profile.{Profile, profiles, Fits, Good, both}
@@ -73,7 +72,7 @@ small w x y p h l k =
     le-of-mul-le-mul-right {k = y .den} (omega (arith, near-half w x y l h, mul-le-mul-right (x .den) k)) (p .above-zero)
 
 -- a sum of at least 1/2 and at most half a part in 10^8 is one part more
-small-plus : (x y : Fraction) → x .den ≤ 2 * x .num → y .num * 200000000 ≤ y .den → Near 1 (plus x y) x
+pub small-plus : (x y : Fraction) → x .den ≤ 2 * x .num → y .num * 200000000 ≤ y .den → Near 1 (plus x y) x
 unfolding plus
 small-plus x y h k = record { across = omega (arith, mul-le-mul-right (x .den * x .den) k, mul-le-mul-right (x .den * y .den) h) }
 

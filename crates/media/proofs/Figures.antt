@@ -9,6 +9,7 @@ use Rattle.pair.proofs.Promises.{number-written, compared-level}
 use Rattle.equations.specs.Page.{Slow, Fast}
 use Rattle.equations.specs.Ranges.{sixtyFour}
 use Rattle.equations.specs.Readings.{paceIf, paceOf}
+use Rattle.equations.proofs.Limits.{sixty-four-number}
 
 -- a number of nine figures with 64's exponent
 abbrev atSeven : ℕ → Number
@@ -16,7 +17,7 @@ atSeven m = record { significand = m; exponent = negsuc 6 }
 
 compared-64 : (m : ℕ) → 100000000 ≤ m → m ≤ 999999999 → compared (atSeven m) sixtyFour ≡ is (leb m 640000000)
 unfolding sixtyFour
-compared-64 m l h = compared-level (atSeven m) (atSeven 640000000) (number-written m (negsuc 6) l h (lit< tt)) (number-written 640000000 (negsuc 6) (lit≤ tt) (lit≤ tt) (lit< tt)) refl
+compared-64 m l h = compared-level (atSeven m) (atSeven 640000000) (number-written m (negsuc 6) l h (lit< tt)) sixty-four-number refl
 
 -- the high end decides, whatever the low end is
 pub pace-at-64 : (low : Number) → (paceOf (is (record { low = low; high = atSeven 640000000 })) ≡ Slow) × (paceOf (is (record { low = low; high = atSeven 640000001 })) ≡ Fast)

@@ -1,14 +1,13 @@
--- The media of document 01 by the working rule: x, g and h there (document 02, P5), and the four concentrations; and those that cancer takes
+-- The media of document 01 by the working rule: g and h at x (document 02, P5), and the four concentrations; and those that cancer takes
 -- (P4), whose soil is the mean over the exposure. All that is refused is refused with 53.
 use Rattle.pair.specs.declared.Pair.{Pair}
 use Rattle.pair.specs.Calls.{Outcome, is, refused, zeroPair, onePair, product}
-use Rattle.slots.specs.Slots.{Slot}
 use Rattle.equations.specs.declared.Values.{Values}
 use Rattle.equations.specs.declared.Stay.{Stay}
 use Rattle.equations.specs.declared.Stay.the-variants.{Within, Beyond}
 use Rattle.equations.specs.Formula.{Formula, pairs}
 use Rattle.equations.specs.Letters.{Br, RCF, VG, Kds}
-use Rattle.equations.specs.Page.{k, x, Growth, growth, A, C, mean, gathered, aboveGround, belowGround}
+use Rattle.equations.specs.Page.{k, Growth, growth, A, C, mean, gathered, aboveGround, belowGround}
 use Rattle.equations.specs.Readings.{Inputs, plain, paceOf, pairGrowing, worked, inputs, noValues}
 use Rattle.media.specs.declared.Media.{Media}
 use Rattle.media.specs.declared.Found.{Found}
@@ -37,10 +36,6 @@ found Founds.Refused = refused 53
 unfoldable pub grounded : Grounded → Outcome Ground
 grounded (Grounds.Is g) = is g
 grounded Grounds.Refused = refused 53
-
--- x
-unfoldable pub exponentOf : (Slot → Pair) → Outcome Pair
-exponentOf env = plain pairs (λ s. is (env s)) x
 
 -- g and h at an exponent, on pairs
 unfoldable pub growthAt : Outcome Pair → Growth (Outcome Pair)

@@ -6,7 +6,7 @@ use crate::Grounded;
 use crate::Media;
 use crate::growth::g_at;
 use crate::growth::growth_at;
-use crate::loss::exponent_of;
+use crate::loss::exponent;
 use crate::loss::loss_rate;
 use equations::Values;
 use pair::Answer;
@@ -95,13 +95,14 @@ fn grown(s: Values, c: Values, air: Answer, soil: Answer) -> Found
     all(air, soil, leaves, roots)
 }
 
-// The highest year's media. particles is 1 − Fv.
-pub(crate) fn leave(s: Values, c: Values, particles: Pair) -> Found
-    ensures { λ r. ⌜ found r ≡ mediaOf (mediaInputs s c particles) ⌝ }
+// The concentrations that a chemical leaves in the media, in the highest year. particles is 1 − Fv, from the printed digits.
+pub fn concentrations(site: Values, chemical: Values, particles: Pair) -> Found
+    ensures { λ r. ⌜ found r ≡ mediaOf (mediaInputs site chemical particles) ⌝ }
 {
-    let g = g_at(exponent_of(s, c));
-    let soil = deposition(s, c, particles).times(s.at(TD)).times(g);
-    grown(s, c, air(s, c, particles), soil)
+    let g = g_at(exponent(site, chemical));
+    let laid = deposition(site, chemical, particles).times(site.at(TD));
+    let breathed = air(site, chemical, particles);
+    grown(site, chemical, breathed, laid.times(g))
 }
 
 // The ground, or the refusal among its parts.
@@ -128,19 +129,19 @@ fn ground_from(loss: Answer, gathered: Answer, highest: Found, within: Found) ->
     })
 }
 
-// particles is 1 − Fv. k is worked once, for x and for every receptor.
-pub(crate) fn lay(s: Values, c: Values, particles: Pair) -> Grounded
-    ensures { λ r. ⌜ grounded r ≡ groundOf (mediaInputs s c particles) ⌝ }
+// The ground that a chemical leaves, for every receptor. particles is 1 − Fv, from the printed digits. k is worked once, for x and for all of them.
+pub fn ground_of(site: Values, chemical: Values, particles: Pair) -> Grounded
+    ensures { λ r. ⌜ grounded r ≡ groundOf (mediaInputs site chemical particles) ⌝ }
 {
-    let loss = loss_rate(s, c);
-    let growth = growth_at(loss.times(s.at(TD)));
+    let loss = loss_rate(site, chemical);
+    let growth = growth_at(loss.times(site.at(TD)));
     let g = growth.g;
     let h = growth.h;
-    let laid = deposition(s, c, particles).times(s.at(TD));
-    let breathed = air(s, c, particles);
-    let highest = grown(s, c, breathed, laid.times(g));
-    let within = grown(s, c, breathed, laid.times(h));
-    ground_from(loss, laid.times(s.at(TD)).times(h), highest, within)
+    let laid = deposition(site, chemical, particles).times(site.at(TD));
+    let breathed = air(site, chemical, particles);
+    let highest = grown(site, chemical, breathed, laid.times(g));
+    let within = grown(site, chemical, breathed, laid.times(h));
+    ground_from(loss, laid.times(site.at(TD)).times(h), highest, within)
 }
 
 // The mean over an exposure that goes beyond the deposition.

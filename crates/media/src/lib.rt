@@ -5,9 +5,9 @@ mod loss;
 mod terms;
 
 use crate::compartments::beyond;
-use crate::compartments::lay;
-use crate::compartments::leave;
-use crate::loss::exponent_of;
+pub use crate::compartments::concentrations;
+pub use crate::compartments::ground_of;
+pub use crate::loss::exponent;
 use crate::terms::mean_of_terms;
 use crate::terms::sum_of_terms;
 use equations::Stay;
@@ -17,7 +17,6 @@ use pair::Pair;
 ghost use mathlib.Core.Path.{_≡_};
 ghost use Rattle.pair.specs.Calls as calls;
 ghost use Rattle.equations.specs.Series.{phi, psi, pairSeries};
-ghost use Rattle.equations.specs.Readings.{inputs, noValues};
 ghost use Rattle.media.specs.Media as specs;
 
 // A concentration: mg/m³ in air, mg/kg in soil and produce. Only this crate makes one.
@@ -74,13 +73,6 @@ pub enum Grounded {
     Refused,
 }
 
-// x = k × tD.
-pub fn exponent(site: Values, chemical: Values) -> Answer
-    ensures { λ r. ⌜ calls.answer r ≡ specs.exponentOf (inputs site chemical noValues) ⌝ }
-{
-    exponent_of(site, chemical)
-}
-
 // φ at x.
 pub fn series(x: Pair) -> Answer
     ensures { λ r. ⌜ calls.answer r ≡ pairSeries phi (calls.is x) ⌝ }
@@ -93,20 +85,6 @@ pub fn mean_series(x: Pair) -> Answer
     ensures { λ r. ⌜ calls.answer r ≡ pairSeries psi (calls.is x) ⌝ }
 {
     mean_of_terms(x)
-}
-
-// The concentrations that a chemical leaves in the media. particles is 1 − Fv, from the printed digits.
-pub fn concentrations(site: Values, chemical: Values, particles: Pair) -> Found
-    ensures { λ r. ⌜ specs.found r ≡ specs.mediaOf (specs.mediaInputs site chemical particles) ⌝ }
-{
-    leave(site, chemical, particles)
-}
-
-// The ground that a chemical leaves, for every receptor. particles is 1 − Fv, from the printed digits.
-pub fn ground_of(site: Values, chemical: Values, particles: Pair) -> Grounded
-    ensures { λ r. ⌜ specs.grounded r ≡ specs.groundOf (specs.mediaInputs site chemical particles) ⌝ }
-{
-    lay(site, chemical, particles)
 }
 
 // The media of a receptor's cancer: its soil is the mean over the exposure, T2. later is T2 − tD where T2 is above tD.

@@ -55,8 +55,9 @@ pub(crate) fn loss_rate(s: Values, c: Values) -> Answer
         .plus(c.at(KSV))
 }
 
-pub(crate) fn exponent_of(s: Values, c: Values) -> Answer
-    ensures { λ r. ⌜ answer r ≡ ofSlots s c x ⌝ }
+// x = k × tD.
+pub fn exponent(site: Values, chemical: Values) -> Answer
+    ensures { λ r. ⌜ answer r ≡ ofSlots site chemical x ⌝ }
 {
-    loss_rate(s, c).times(s.at(TD))
+    loss_rate(site, chemical).times(site.at(TD))
 }

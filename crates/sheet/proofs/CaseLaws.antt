@@ -36,9 +36,10 @@ use Rattle.totals.specs.declared.Columns.the-variants as Cols
 use Rattle.totals.specs.Totals.{_added_}
 use Rattle.sheet.specs.Values.{Scenario, restOf, valuesOf, particlesOf, chemicalIn, receptorIn, stayIn, printedIn, pairsAt}
 use Rattle.sheet.specs.Sheet.{pathwaysPerChemical, pathwayAt, hasReference, figureAt, unitOf, counted, countedIn, columnsAt, addedOver, totalAt, chained, highAbove, overCap, capOf, largeLines}
-use Rattle.sheet.specs.Counts.{tooMany, isRefused, groundFor, meanWith, meanFor, anyOf, stopsAt, noMediaAt, sheetConditions, Part, Mark, Low, High, cellOf, cellsOf, totalIn, CountsMost}
+use Rattle.sheet.specs.Counts.{tooMany, isRefused, groundFor, meanWith, meanFor, stopsAt, noMediaAt, sheetConditions, Part, Mark, Low, High, cellOf, cellsOf, totalIn, CountsMost}
 use Rattle.sheet.specs.DemandThree.{Exact}
 use Rattle.sheet.proofs.Sound.{Sound}
+use Rattle.sheet.proofs.AnyLaws.{none-any}
 use Rattle.sheet.proofs.Held.{columns-total}
 use Rattle.sheet.proofs.Clear.{not-large}
 use Rattle.sheet.proofs.LineTotals.{Figure, figure-counted, count-small}
@@ -85,11 +86,6 @@ module _ (scenario : Scenario) {exact : Exact} (sound : Sound scenario exact) (j
   mean-told ground laid =
       ap isRefused (mean-media (valuesOf (scenario .site)) (valuesOf (chemicalIn scenario i)) (receptorIn scenario j .values) (λ s. restOf (printedIn scenario i s)) (receptorIn scenario j .later) ground laid (receptorIn scenario j .stay))
       ∙ told-not _ _ (media-told (receptorIn scenario j .stay) (sound .later j i j-small i-small) Cancer .1)
-
-none-any : (f : ℕ → Bool) (n : ℕ) → ((j : ℕ) → j < n → f j ≡ false) → anyOf f n ≡ false
-unfolding anyOf
-none-any f zero h = refl
-none-any f (suc n) h = rw (none-any f n (λ j l. h j (omega arith)), h n (omega arith)) refl
 
 never-stops : (o : Outcome Ground) (means : ℕ → Ground → Outcome Media) (n : ℕ) → isRefused o ≡ false → ((ground : Ground) → o ≡ is ground → (j : ℕ) → j < n → isRefused (means j ground) ≡ false)
     → stopsAt o means n ≡ false

@@ -1,10 +1,8 @@
 -- A chemical's source: its receptors' means one after another, and 53 where its media are refused. Assumes nothing.
-use mathlib.Core.Path.{_≡_, refl, sym, ap, ap₂, subst, _∙_}
-use mathlib.Core.Logic.{_⊎_, ⊎-elim}
-use mathlib.Core.Bool.{Bool, true, false, not, Bool·not-not, or-true, false≢true}
+use mathlib.Core.Path.{_≡_, refl, sym, ap, ap₂, _∙_}
+use mathlib.Core.Bool.{Bool, true, false, not, Bool·not-not, false≢true}
 use mathlib.Core.List.{List}
-use Prim.Native.Nat.{ℕ, zero, suc, _+_, _-_, _≤_, _<_}
-use native.Mathlib.Nat.{eq-or-lt-of-le}
+use Prim.Native.Nat.{ℕ, _+_, _-_, _<_}
 use native.Mathlib.Numerals.{add-one}
 use native.Mathlib.Omega.{arith}
 use lib.ListN.{length, getD, replicate}
@@ -37,16 +35,8 @@ use Rattle.sheet.specs.Values.{valuesOf, particlesOf, noReceptor}
 use Rattle.sheet.specs.Sheet.{chained}
 use Rattle.sheet.specs.Counts.{isRefused, meanWith, anyOf, stopsAt}
 use Rattle.sheet.specs.Inner.{mediaFrom, groundWith, meansOf, referencesOf, sourceWith, sourceFrom, sourceOf, noSource, sourcesOf, sourceAt, stopsWith, refusedSource}
+use Rattle.sheet.proofs.AnyLaws.{any-of}
 use Rattle.sheet.proofs.Chains as chains
-
--- one of several
-pub any-of : (f : ℕ → Bool) (j n : ℕ) → f j ≡ true → j < n → anyOf f n ≡ true
-unfolding anyOf
-any-of f j zero h l = absurd (omega arith)
-any-of f j (suc n) h l = ⊎-elim (λ e. rw (subst (λ (k : ℕ). f k ≡ true) e h) (or-true (anyOf f n))) (λ m. rw (any-of f j n h m) refl) (order (omega arith))
-  where
-    order : j ≤ n → (j ≡ n) ⊎ (j < n)
-    order k = eq-or-lt-of-le k
 
 -- ---- a receptor's mean after another
 module _ (site′ chemical′ : Values) (list : List Receptor) (ground : Ground) (blank : Receptor) (j : ℕ) (here : j < length list) (r : Found)

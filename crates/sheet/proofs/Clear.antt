@@ -1,11 +1,8 @@
 -- Where 42 does not hold no line with a reference value is above its cap. Assumes nothing.
-use mathlib.Core.Path.{_≡_, sym, subst}
+use mathlib.Core.Path.{_≡_}
 use mathlib.Core.Bool.{Bool, false, _||_}
 use mathlib.Core.List.{[]}
-use mathlib.Core.Logic.{_⊎_, inl, inr, ⊎-elim}
-use Prim.Native.Nat.{ℕ, zero, suc, _+_, _*_, _≤_, _<_}
-use native.Mathlib.Nat.{eq-or-lt-of-le}
-use native.Mathlib.Omega.{arith}
+use Prim.Native.Nat.{ℕ, suc, _+_, _*_, _<_}
 use Rattle.equations.specs.declared.Effect.{Effect}
 use Rattle.equations.specs.declared.Effect.the-variants.{Hazard, Cancer}
 use Rattle.deck.specs.declared.Status.the-variants.{Read}
@@ -13,26 +10,11 @@ use Rattle.deck.specs.Conditions.{at, first}
 use Rattle.deck.proofs.Scan.{first-read, neither}
 use Rattle.sheet.specs.Values.{Scenario}
 use Rattle.sheet.specs.Sheet.{pathwayAt, pathwaysPerChemical, chained, linesPerReceptor, overCap, lineTooLarge, largeLines}
-use Rattle.sheet.specs.Counts.{anyOf}
 use Rattle.sheet.proofs.Chains.{chained-each}
 
 either : (e : Effect) (f : Effect → Bool) → (f Hazard || f Cancer) ≡ false → f e ≡ false
 either Hazard f h = neither (f Hazard) (f Cancer) h .0
 either Cancer f h = neither (f Hazard) (f Cancer) h .1
-
--- none of several
-pub none-of : (f : ℕ → Bool) (n : ℕ) → anyOf f n ≡ false → (j : ℕ) → j < n → f j ≡ false
-unfolding anyOf
-none-of f zero h j l = absurd (omega arith)
-none-of f (suc n) h j l =
-    let a = neither (anyOf f n) (f n) h in
-    ⊎-elim (λ e. subst (λ (k : ℕ). f k ≡ false) e (a .1)) (λ m. none-of f n (a .0) j (omega arith)) (last-or (omega arith))
-  where
-    order : j ≤ n → (j ≡ n) ⊎ (j < n)
-    order k = eq-or-lt-of-le k
-
-    last-or : j < suc n → (n ≡ j) ⊎ (j < n)
-    last-or k = ⊎-elim (λ e. inl (sym e)) (λ m. inr m) (order (omega arith))
 
 -- 42 does not hold
 pub not-large : (scenario : Scenario) → first (largeLines scenario) ≡ Read → (e : Effect) (j i p : ℕ) → j < scenario .receptors .count → i < scenario .chemicals .count → p < pathwaysPerChemical → overCap e scenario j i (pathwayAt p) ≡ false

@@ -6,6 +6,7 @@ pub mod WithoutLaws
 pub mod Sound
 pub mod Inputs
 pub mod ExposureLaws
+mod AnyLaws
 mod Clear
 mod SourceLaws
 mod ChemicalLaws

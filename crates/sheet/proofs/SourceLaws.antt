@@ -37,7 +37,7 @@ use Rattle.sheet.specs.Sheet.{isPrinted, hasReference, figureAt, unitOf,
 use Rattle.sheet.specs.Counts.{isRefused, groundFor, meanWith, meanFor, stopsAt}
 use Rattle.sheet.specs.Inner.{columnsOf, aboveCap, mediaFrom, groundWith, meansOf, rfdOf, csfOf, referencesOf, sourceWith, sourceFrom, sourceOf, meanAt, figuresFrom, figureFor}
 use Rattle.deck.proofs.Accepted.{filled-at}
-use Rattle.sheet.proofs.Clear.{none-of}
+use Rattle.sheet.proofs.AnyLaws.{none-of}
 use Rattle.sheet.proofs.Inputs.{OfSource, pair-printed}
 
 -- ---- the media: a chemical's ground and the means from it, where it does not stop the scenario

@@ -9,8 +9,8 @@ use Rattle.equations.specs.Readings.{letters, plain, plainWith, inputs, byOwner
 use Rattle.media.specs.Media.{mediaInputs, ofSlots, ofMedia, groundOf}
 use Rattle.media.proofs.Soils.{loss-is, highest-is, within-is, gathered-is, produce-is}
 use borrow.Author.Needs.{needs}
-use Rattle.media.proofs.compartments.lay.Statement.{statement}
-use Rattle.media.proofs.compartments.lay.Tie as tie
+use Rattle.media.proofs.compartments.ground_of.Statement.{statement}
+use Rattle.media.proofs.compartments.ground_of.Tie as tie
 
 loss-rate-requires : tie.Need-loss-rate-requires
 loss-rate-requires c κs = search needs
@@ -64,11 +64,11 @@ returns : tie.Need-returns
 unfolding groundOf ofMedia ofSlots mediaInputs inputs byOwner valueIn ownerOf placeOf table same isIn placeIn pairs plain plainWith read letters x
 returns c =
     let a = c .before .before .before .before .before .before .before .before .before .before .before .before .before .before .before .before .args in
-    let v = mediaInputs (a .s) (a .c) (a .particles) in
-    rw (c .ground-from .ensures, c .before .times6 .ensures, c .before .before .times5 .ensures, c .before .before .before .at3 .ensures, c .before .before .before .before .grown2 .ensures, c .before .before .before .before .before .times4 .ensures, c .before .before .before .before .before .before .grown .ensures, c .before .before .before .before .before .before .before .times3 .ensures, c .before .before .before .before .before .before .before .before .air .ensures, c .before .before .before .before .before .before .before .before .before .times2 .ensures, c .before .before .before .before .before .before .before .before .before .before .at2 .ensures, c .before .before .before .before .before .before .before .before .before .before .before .deposition .ensures, c .before .before .before .before .before .before .before .before .before .before .before .before .growth-at .ensures .0, c .before .before .before .before .before .before .before .before .before .before .before .before .growth-at .ensures .1, c .before .before .before .before .before .before .before .before .before .before .before .before .before .times .ensures, c .before .before .before .before .before .before .before .before .before .before .before .before .before .before .at .ensures, c .before .before .before .before .before .before .before .before .before .before .before .before .before .before .before .loss-rate .ensures, loss-is v, produce-is (a .s) (a .c) noValues (λ i. a .particles) onePair C, produce-is (a .s) (a .c) noValues (λ i. a .particles) onePair (mean Within), highest-is v, within-is v, gathered-is v) refl
+    let v = mediaInputs (a .site) (a .chemical) (a .particles) in
+    rw (c .ground-from .ensures, c .before .times6 .ensures, c .before .before .times5 .ensures, c .before .before .before .at3 .ensures, c .before .before .before .before .grown2 .ensures, c .before .before .before .before .before .times4 .ensures, c .before .before .before .before .before .before .grown .ensures, c .before .before .before .before .before .before .before .times3 .ensures, c .before .before .before .before .before .before .before .before .air .ensures, c .before .before .before .before .before .before .before .before .before .times2 .ensures, c .before .before .before .before .before .before .before .before .before .before .at2 .ensures, c .before .before .before .before .before .before .before .before .before .before .before .deposition .ensures, c .before .before .before .before .before .before .before .before .before .before .before .before .growth-at .ensures .0, c .before .before .before .before .before .before .before .before .before .before .before .before .growth-at .ensures .1, c .before .before .before .before .before .before .before .before .before .before .before .before .before .times .ensures, c .before .before .before .before .before .before .before .before .before .before .before .before .before .before .at .ensures, c .before .before .before .before .before .before .before .before .before .before .before .before .before .before .before .loss-rate .ensures, loss-is v, produce-is (a .site) (a .chemical) noValues (λ i. a .particles) onePair C, produce-is (a .site) (a .chemical) noValues (λ i. a .particles) onePair (mean Within), highest-is v, within-is v, gathered-is v) refl
 
-pub lay-spec : {M : Type 1} → statement M
-lay-spec =
+pub ground-of-spec : {M : Type 1} → statement M
+ground-of-spec =
     tie.close
     (tie.spec
     loss-rate-requires

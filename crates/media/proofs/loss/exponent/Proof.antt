@@ -6,8 +6,8 @@ use Rattle.equations.specs.Page.{x}
 use Rattle.equations.specs.Readings.{plain, plainWith, letters, inputs, byOwner, valueIn}
 use Rattle.media.specs.Media.{ofSlots}
 use Rattle.slots.specs.Slots.{table, same, isIn, placeIn, ownerOf, placeOf}
-use Rattle.media.proofs.loss.exponent_of.Statement.{statement}
-use Rattle.media.proofs.loss.exponent_of.Tie as tie
+use Rattle.media.proofs.loss.exponent.Statement.{statement}
+use Rattle.media.proofs.loss.exponent.Tie as tie
 
 loss-rate-requires : tie.Need-loss-rate-requires
 loss-rate-requires c κs = search needs
@@ -23,5 +23,5 @@ unfolding ofSlots plain plainWith read letters inputs byOwner valueIn ownerOf pl
 returns c = rw (c .times .ensures, c .before .at .ensures, c .before .before .loss-rate .ensures)
     refl
 
-pub exponent-of-spec : {M : Type 1} → statement M
-exponent-of-spec = tie.close (tie.spec loss-rate-requires at-requires times-requires returns)
+pub exponent-spec : {M : Type 1} → statement M
+exponent-spec = tie.close (tie.spec loss-rate-requires at-requires times-requires returns)

@@ -8,11 +8,11 @@ use Rattle.equations.specs.Readings.{inputs, byOwner, valueIn, noValues}
 use Rattle.media.specs.Media.{mediaInputs, ofSlots, ofMedia, mediaOf}
 use Rattle.media.proofs.Soils.{highest-is, produce-is}
 use borrow.Author.Needs.{needs}
-use Rattle.media.proofs.compartments.leave.Statement.{statement}
-use Rattle.media.proofs.compartments.leave.Tie as tie
+use Rattle.media.proofs.compartments.concentrations.Statement.{statement}
+use Rattle.media.proofs.compartments.concentrations.Tie as tie
 
-exponent-of-requires : tie.Need-exponent-of-requires
-exponent-of-requires c κs = search needs
+exponent-requires : tie.Need-exponent-requires
+exponent-requires c κs = search needs
 
 g-at-requires : tie.Need-g-at-requires
 g-at-requires c κs = search needs
@@ -26,11 +26,11 @@ at-requires c κs = search needs
 times-requires : tie.Need-times-requires
 times-requires c κs = search needs
 
-times-requires-2 : tie.Need-times-requires-2
-times-requires-2 c κs = search needs
-
 air-requires : tie.Need-air-requires
 air-requires c κs = search needs
+
+times-requires-2 : tie.Need-times-requires-2
+times-requires-2 c κs = search needs
 
 grown-requires : tie.Need-grown-requires
 grown-requires c κs = search needs
@@ -39,18 +39,18 @@ returns : tie.Need-returns
 unfolding ofMedia ofSlots mediaOf mediaInputs inputs byOwner valueIn ownerOf placeOf table same isIn placeIn pairs
 returns c =
     let a = c .before .before .before .before .before .before .before .before .args in
-    rw (c .grown .ensures, c .before .air .ensures, c .before .before .times2 .ensures, c .before .before .before .times .ensures, c .before .before .before .before .at .ensures, c .before .before .before .before .before .deposition .ensures, c .before .before .before .before .before .before .g-at .ensures, c .before .before .before .before .before .before .before .exponent-of .ensures, produce-is (a .s) (a .c) noValues (λ i. a .particles) onePair C, highest-is (mediaInputs (a .s) (a .c) (a .particles))) refl
+    rw (c .grown .ensures, c .before .times2 .ensures, c .before .before .air .ensures, c .before .before .before .times .ensures, c .before .before .before .before .at .ensures, c .before .before .before .before .before .deposition .ensures, c .before .before .before .before .before .before .g-at .ensures, c .before .before .before .before .before .before .before .exponent .ensures, produce-is (a .site) (a .chemical) noValues (λ i. a .particles) onePair C, highest-is (mediaInputs (a .site) (a .chemical) (a .particles))) refl
 
-pub leave-spec : {M : Type 1} → statement M
-leave-spec =
+pub concentrations-spec : {M : Type 1} → statement M
+concentrations-spec =
     tie.close
     (tie.spec
-    exponent-of-requires
+    exponent-requires
     g-at-requires
     deposition-requires
     at-requires
     times-requires
-    times-requires-2
     air-requires
+    times-requires-2
     grown-requires
     returns)
