@@ -1,0 +1,2 @@
+-- What follows from the definition. Assumes nothing.
+pub mod Laws

@@ -1,0 +1,2 @@
+-- What the crate `powers` promises.
+pub mod Powers
