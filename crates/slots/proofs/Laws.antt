@@ -1,5 +1,5 @@
--- Laws of the table of slots: past its end are later slots; a record's places are its lines' fields; a slot that is found lies in its record;
--- no rule allows more than 1E+9; a sort of deck has a slot with its rule as written, or not at all.
+-- Laws of the table of slots: past its end are later slots; a record's places are its lines' fields; a slot that is found lies in its record
+-- and is named as the entry there; no rule allows more than 1E+9; a sort of deck has a slot with its rule as written, or not at all.
 -- Assumes nothing.
 use Prim.Native.Nat.{ℕ, zero, suc, _+_, _*_, _/_, _%_, _≤_, _<_}
 use native.Mathlib.Nat.{le-refl, mod-lt, div-add-mod}
@@ -66,6 +66,25 @@ place-below [] s h = absurd (false≢true h)
 place-below ((name is rule) ∷ es) s h = below-of (same name s) (isIn es s) (placeIn es s) (length es) (place-below es s) h
 place-below ((name inOrdinary rule) ∷ es) s h = below-of (same name s) (isIn es s) (placeIn es s) (length es) (place-below es s) h
 place-below ((name inComposite rule) ∷ es) s h = below-of (same name s) (isIn es s) (placeIn es s) (length es) (place-below es s) h
+
+-- the name of an entry
+unfoldable pub nameOf : Entry → Slot
+nameOf (name is rule) = name
+nameOf (name inOrdinary rule) = name
+nameOf (name inComposite rule) = name
+
+-- a slot that is in a list is spelled as the entry at its place
+spelled-by : (name : Slot) (es : List Entry) (s : Slot) → (isIn es s ≡ true → same (getD (map nameOf es) (placeIn es s) "") s ≡ true) →
+    (t : Bool) → same name s ≡ t → cond t true (isIn es s) ≡ true → same (getD (name ∷ map nameOf es) (cond t 0 (suc (placeIn es s))) "") s ≡ true
+spelled-by name es s later true e h = e
+spelled-by name es s later false e h = later h
+
+pub spelled : (es : List Entry) (s : Slot) → isIn es s ≡ true → same (getD (map nameOf es) (placeIn es s) "") s ≡ true
+unfolding isIn placeIn nameOf
+spelled [] s h = absurd (false≢true h)
+spelled ((name is rule) ∷ es) s h = spelled-by name es s (spelled es s) (same name s) refl h
+spelled ((name inOrdinary rule) ∷ es) s h = spelled-by name es s (spelled es s) (same name s) refl h
+spelled ((name inComposite rule) ∷ es) s h = spelled-by name es s (spelled es s) (same name s) refl h
 
 -- a site's slot lies in its two lines, any other in its four
 unfoldable pub places : Owner → ℕ

@@ -4,12 +4,14 @@
 use Prim.Native.Nat.{ℕ, suc, _+_, _*_}
 use Prim.Native.Char.{code}
 use Prim.Native.String.{String, [] as ε, _∷_ as _◂_}
-use mathlib.Core.Bool.{Bool, true, false, cond, not, _&&_}
+use mathlib.Core.Bool.{Bool, true, false, cond, not}
 use mathlib.Core.List.{List, [], _∷_, map}
 use lib.Dec.{leb, eqb}
 use lib.ListN.{getD}
 use Rattle.slots.specs.declared.Owner.{Owner}
 use Rattle.slots.specs.declared.Owner.the-variants.{Site, Chemical, Receptor}
+use Rattle.slots.specs.declared.Guidance.{Guidance}
+use Rattle.slots.specs.declared.Guidance.the-variants.{Of2005, Of2009}
 use Rattle.slots.specs.declared.Rule.{Rule}
 use Rattle.slots.specs.declared.Sort.{Sort}
 use Rattle.slots.specs.declared.Sort.the-variants.{Ordinary, Composite}
@@ -18,33 +20,43 @@ use Rattle.slots.specs.declared.Sort.the-variants.{Ordinary, Composite}
 abbrev pub Slot : Type 0
 Slot = String
 
--- A slot's rule: used, or a later slot, which is blank; - allowed; 0 allowed; the largest value. 1E+9 is the largest anywhere.
+-- The guidance that a sheet follows, named by its year (document 02, P6): HHRAP of 2005, or for the air RAGS Part F of 2009.
+unfoldable pub yearOf : Guidance → ℕ
+yearOf Of2005 = 2005
+yearOf Of2009 = 2009
+
+-- A slot's rule: used, or a later slot; blank allowed; - allowed; 0 allowed; the largest value; one of the two years alone. 1E+9 is the largest
+-- anywhere.
 abbrev pub ordinary : Rule
-ordinary = record { used = true; dash = false; zero = true; most = 1000000000 }
+ordinary = record { used = true; blank = false; dash = false; zero = true; most = 1000000000; year = false }
 
 -- never 0
 abbrev pub positive : Rule
-positive = record { used = true; dash = false; zero = false; most = 1000000000 }
+positive = record { used = true; blank = false; dash = false; zero = false; most = 1000000000; year = false }
 
 -- at most 1
 abbrev pub share : Rule
-share = record { used = true; dash = false; zero = true; most = 1 }
+share = record { used = true; blank = false; dash = false; zero = true; most = 1; year = false }
 
 -- at most 366
 abbrev pub days : Rule
-days = record { used = true; dash = false; zero = true; most = 366 }
+days = record { used = true; blank = false; dash = false; zero = true; most = 366; year = false }
 
 -- never 0, or -
 abbrev pub referenceValue : Rule
-referenceValue = record { used = true; dash = true; zero = false; most = 1000000000 }
+referenceValue = record { used = true; blank = false; dash = true; zero = false; most = 1000000000; year = false }
 
 -- 0 too, or -
 abbrev pub slope : Rule
-slope = record { used = true; dash = true; zero = true; most = 1000000000 }
+slope = record { used = true; blank = false; dash = true; zero = true; most = 1000000000; year = false }
 
--- a later slot
+-- 2005 or 2009, or blank
+abbrev pub guidanceYear : Rule
+guidanceYear = record { used = true; blank = true; dash = false; zero = false; most = 1000000000; year = true }
+
+-- a later slot, which is blank
 abbrev pub unused : Rule
-unused = record { used = false; dash = false; zero = false; most = 0 }
+unused = record { used = false; blank = true; dash = false; zero = false; most = 0; year = false }
 
 -- a slot of every deck; one of an ordinary deck, in a composite's a later slot; one of a composite's deck, in an ordinary one a later slot
 infix 95 _is_
@@ -59,7 +71,7 @@ pub data Entry : Type 0 where
 unfoldable pub table : Owner → List Entry
 table Site =
     "Zs" is positive ∷ "BD" is positive ∷ "tD" is positive ∷ "θ" is positive ∷ "Xe" is ordinary ∷ "SD" is ordinary
-    ∷ "ER" is ordinary ∷ "RO" is ordinary ∷ "R" is ordinary ∷ "VG" is share ∷ "FRsnow" is share
+    ∷ "ER" is ordinary ∷ "RO" is ordinary ∷ "R" is ordinary ∷ "VG" is share ∷ "FRsnow" is share ∷ "year" is guidanceYear
     ∷ []
 table Chemical =
     "Q" is ordinary ∷ "HgA" is share ∷ "HgD" is share ∷ "Fv" is share ∷ "Cyv" is ordinary ∷ "Cyp" is ordinary

@@ -1,7 +1,7 @@
 //! The slots of a deck's records (document 01, "Deck"): for the code, each slot's place and rule. specs/Slots.antt is the table that both
 //! are held to.
 ghost use mathlib.Core.Path.{_≡_};
-ghost use Rattle.slots.specs.Slots.{lineRules};
+ghost use Rattle.slots.specs.Slots.{lineRules, yearOf};
 
 // The sort of a deck: an ordinary one, or a composite receptor's (document 02, P2).
 pub enum Sort {
@@ -16,12 +16,32 @@ pub enum Owner {
     Receptor,
 }
 
-// A slot's rule: used, or a later slot, which is blank; whether - and 0 are allowed; the largest value.
+// The guidance that a sheet follows, named by its year (document 02, P6): HHRAP of 2005, or for the air RAGS Part F of 2009.
+pub enum Guidance {
+    Of2005,
+    Of2009,
+}
+
+impl Guidance {
+    // Its year.
+    pub fn year(self) -> u32
+        ensures { λ r. ⌜ r ≡ yearOf self ⌝ }
+    {
+        match self {
+            Guidance::Of2005 => 2005,
+            Guidance::Of2009 => 2009,
+        }
+    }
+}
+
+// A slot's rule: used, or a later slot; whether blank, - and 0 are allowed; the largest value; whether it is a guidance's year alone.
 pub struct Rule {
     pub used: bool,
+    pub blank: bool,
     pub dash: bool,
     pub zero: bool,
     pub most: u32,
+    pub year: bool,
 }
 
 // Slots of a record, those that no record of its kind has included.
@@ -52,6 +72,8 @@ pub const R: usize = 8;
 pub const VG: usize = 9;
 
 pub const FR_SNOW: usize = 10;
+
+pub const YEAR: usize = 11;
 
 // A chemical's.
 pub const Q: usize = 0;
@@ -147,52 +169,75 @@ pub const YEARS: usize = 22;
 
 const PLAIN: Rule = Rule {
     used: true,
+    blank: false,
     dash: false,
     zero: true,
     most: 1000000000,
+    year: false,
 };
 
 const POSITIVE: Rule = Rule {
     used: true,
+    blank: false,
     dash: false,
     zero: false,
     most: 1000000000,
+    year: false,
 };
 
 const SHARE: Rule = Rule {
     used: true,
+    blank: false,
     dash: false,
     zero: true,
     most: 1,
+    year: false,
 };
 
 const DAYS: Rule = Rule {
     used: true,
+    blank: false,
     dash: false,
     zero: true,
     most: 366,
+    year: false,
 };
 
 const REFERENCE: Rule = Rule {
     used: true,
+    blank: false,
     dash: true,
     zero: false,
     most: 1000000000,
+    year: false,
 };
 
 const SLOPE: Rule = Rule {
     used: true,
+    blank: false,
     dash: true,
     zero: true,
     most: 1000000000,
+    year: false,
+};
+
+const GUIDANCE_YEAR: Rule = Rule {
+    used: true,
+    blank: true,
+    dash: false,
+    zero: false,
+    most: 1000000000,
+    year: true,
 };
 
 // A later slot.
 pub const UNUSED: Rule = Rule {
     used: false,
+    blank: true,
     dash: false,
     zero: false,
     most: 0,
+    year: false,
 };
 
 // The rules of the six fields of a record's line, counted from 0.
@@ -201,7 +246,7 @@ fn site_rules(line: usize) -> [Rule; FIELDS]
 {
     match line {
         0 => [POSITIVE, POSITIVE, POSITIVE, POSITIVE, PLAIN, PLAIN],
-        1 => [PLAIN, PLAIN, PLAIN, SHARE, SHARE, UNUSED],
+        1 => [PLAIN, PLAIN, PLAIN, SHARE, SHARE, GUIDANCE_YEAR],
         _ => [UNUSED, UNUSED, UNUSED, UNUSED, UNUSED, UNUSED],
     }
 }
