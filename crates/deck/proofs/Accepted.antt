@@ -15,14 +15,14 @@ use lib.Seq.{getD-at}
 use Rattle.deck.specs.Parts.{leading, fieldWidth, linesOf, lineOf, fieldIn, fieldOf}
 use Rattle.deck.specs.Numbers.{digitsValue, unspaced, exponentSpelled, powerOf, digitsRead, maxDigits, endedOf, pointedOf, spelledOf, loneDash, wordOf}
 use Rattle.deck.specs.Kinds.{kindOf, S1, C1, R1, kinds, rulesIn, rulesOf}
-use Rattle.deck.specs.Ranges.{above, below, inRange, valueAtLeast, valueAtMost}
+use Rattle.deck.specs.Ranges.{above, below, valueAtLeast, valueAtMost, withinBounds, isYear, inRange}
 use Rattle.slots.specs.Slots.{fieldsPerLine, unused, lineRules, ruleAt, ruleFor, ownerOf, placeOf}
 use Rattle.slots.specs.declared.Owner.{Owner}
 use Rattle.slots.specs.declared.Owner.the-variants.{Site, Chemical, Receptor}
 use Rattle.slots.specs.declared.Sort.{Sort}
 use Rattle.slots.proofs.Laws.{places, place-rule, inside}
 use Rattle.deck.specs.Conditions.{at, first, upTo, fieldConditions, fieldAt, misspelled, misplaced, outOfRange, countOf, conditions}
-use Rattle.deck.specs.Cases.{tabulate, valueOf, noSlot, slotSpelled, noRecord, recordOf, recordsOf, caseWith, caseOf, valueAt, chemicalAt, receptorAt, ownersRecord, printed}
+use Rattle.deck.specs.Cases.{tabulate, valueOf, noSlot, slotSpelled, noRecord, recordOf, recordsOf, caseWith, caseOf, valueAt, chemicalAt, receptorAt, ownersRecord, printed, isOtherYear}
 use Rattle.deck.specs.Ranged.{Spelled, Fits, Ranged}
 use Rattle.deck.specs.Inner.{Small}
 use Rattle.slots.specs.declared.Rule.{Rule}
@@ -42,9 +42,9 @@ use Rattle.deck.proofs.CaseLaws.{length-tabulate}
 use Rattle.deck.proofs.Places.{upTo-each, line-facts, counts, lines-are, kind-site, kind-chemical, kind-receptor}
 
 -- ---- every field that holds a number is as `Spelled` says
-choose : (t : Bool) (v w : Word) → (t ≡ true → Small v) → (t ≡ false → Small w) → Small (cond t v w)
-choose true v w p q = p refl
-choose false v w p q = q refl
+pub choose : (P : Word → Type 0) (t : Bool) (v w : Word) → (t ≡ true → P v) → (t ≡ false → P w) → P (cond t v w)
+choose P true v w p q = p refl
+choose P false v w p q = q refl
 
 sub-above : (t : Bool) (a b : ℕ) → ltb a b ≡ t → above (cond t (negsuc (b - suc a)) (pos (a - b))) ≤ a
 unfolding above
@@ -96,7 +96,7 @@ module _ (text : List ℕ) (whole places : ℕ) (before : leading 48 57 (take wh
     ended-small : Small (endedOf text whole places end)
     unfolding endedOf powerOf
     ended-small =
-        choose (leb (whole + places) maxDigits && exponentSpelled (drop end text)) _ Other
+        choose Small (leb (whole + places) maxDigits && exponentSpelled (drop end text)) _ Other
         (λ t.
         let b = both (leb (whole + places) maxDigits) (exponentSpelled (drop end text)) t in
         let few = leb-true (whole + places) maxDigits (b .0) in
@@ -110,7 +110,7 @@ module _ (text : List ℕ) (short : length text ≤ fieldWidth) where
   pointed-small whole b =
       let rest = drop (whole + 1) text in
       let places = leading 48 57 rest in
-      choose (eqb places 0) Other _ (λ t. tt)
+      choose Small (eqb places 0) Other _ (λ t. tt)
       (λ t.
       ended-small text whole places b (leading-take 48 57 rest) (whole + 1 + places) short (omega arith)
       (omega (arith, leading-le 48 57 rest, length-drop (whole + 1) text)))
@@ -120,26 +120,26 @@ module _ (text : List ℕ) (short : length text ≤ fieldWidth) where
   spelled-small =
       let whole = leading 48 57 text in
       let b = leading-take 48 57 text in
-      choose (eqb whole 0) Other _ (λ t. tt)
-      (λ t. choose (eqb (getD text whole 0) 46) _ _ (λ u. pointed-small whole b) (λ u. ended-small text whole 0 b refl whole short (omega arith) (omega arith)))
+      choose Small (eqb whole 0) Other _ (λ t. tt)
+      (λ t. choose Small (eqb (getD text whole 0) 46) _ _ (λ u. pointed-small whole b) (λ u. ended-small text whole 0 b refl whole short (omega arith) (omega arith)))
 
 word-small : (part : List ℕ) → length part ≤ fieldWidth → Small (wordOf part)
 unfolding wordOf
 word-small part h =
     let text = unspaced part in
-    choose (eqb (length text) 0) Blank _ (λ t. tt)
-    (λ t. choose (loneDash text) Dash _ (λ u. tt) (λ u. spelled-small text (omega (arith, length-drop (leading 32 32 part) part))))
+    choose Small (eqb (length text) 0) Blank _ (λ t. tt)
+    (λ t. choose Small (loneDash text) Dash _ (λ u. tt) (λ u. spelled-small text (omega (arith, length-drop (leading 32 32 part) part))))
 
 pub field-small : (line : List ℕ) (f : ℕ) → Small (wordOf (fieldIn line f))
 field-small line f = word-small (fieldIn line f) (field-short line f)
 
 -- ---- a field of which no condition holds
-blank-right : (d u : Bool) → u ≡ false → (d || not u) ≡ true
-blank-right true u e = refl
-blank-right false u e = ap not e
+blank-right : (d b : Bool) → not b ≡ false → (d || b) ≡ true
+blank-right true b e = refl
+blank-right false b e = not-false b e
 
-dash-right : (d u : Bool) → not d ≡ false → (d || not u) ≡ true
-dash-right d u e = ap (λ (t : Bool). t || not u) (not-false d e)
+dash-right : (d b : Bool) → not d ≡ false → (d || b) ≡ true
+dash-right d b e = ap (λ (t : Bool). t || b) (not-false d e)
 
 -- of the three conditions of a field, none holds
 three : (rule : Rule) (w : Word) (n f : ℕ) → first (fieldConditions rule w n f) ≡ Read
@@ -152,8 +152,8 @@ three rule w n f e =
 
 field-fits : (rule : Rule) (w : Word) (n f : ℕ) → Small w → first (fieldConditions rule w n f) ≡ Read → Fits rule (valueOf w)
 unfolding misspelled misplaced outOfRange valueOf
-field-fits rule Blank n f s e = blank-right (rule .dash) (rule .used) (three rule Blank n f e .1 .0)
-field-fits rule Dash n f s e = dash-right (rule .dash) (rule .used) (three rule Dash n f e .1 .0)
+field-fits rule Blank n f s e = blank-right (rule .dash) (rule .blank) (three rule Blank n f e .1 .0)
+field-fits rule Dash n f s e = dash-right (rule .dash) (rule .blank) (three rule Dash n f e .1 .0)
 field-fits rule (Number digits power) n f s e =
     let t = three rule (Number digits power) n f e in
     (not-false (rule .used) (t .1 .0), not-false (inRange rule digits power) (t .1 .1), s)
@@ -263,20 +263,25 @@ module _ (rule : Rule) (digits : ℕ) (power : ℤ) where
   positive-if true s e h z = absurd (true≢false (sym h ∙ z))
   positive-if false s e h z = ⊎-elim (λ q. absurd (eqb-false digits 0 e q)) (λ p. p) (eq-zero-or-pos digits)
 
+  -- both parts of a range: the bounds, and the year where one is asked
+  range-parts : inRange rule digits power ≡ true → (withinBounds rule digits power ≡ true) × (cond (rule .year) (isYear digits power) true ≡ true)
+  unfolding inRange
+  range-parts h = both (withinBounds rule digits power) (cond (rule .year) (isYear digits power) true) h
+
   -- a value that may not be 0 is above it
   pub range-positive : inRange rule digits power ≡ true → rule .zero ≡ false → 0 < digits
-  unfolding inRange
-  range-positive h z = positive-if (eqb digits 0) (valueAtLeast digits power && valueAtMost (rule .most) digits power) refl h z
+  unfolding withinBounds
+  range-positive h z = positive-if (eqb digits 0) (valueAtLeast digits power && valueAtMost (rule .most) digits power) refl (range-parts h .0) z
 
   tests-if : (t : Bool) (s : Bool) → eqb digits 0 ≡ t → cond t (rule .zero) s ≡ true → 0 < digits → s ≡ true
   tests-if true s e h p = absurd (let z = eqb-true digits 0 e in omega arith)
   tests-if false s e h p = h
 
   range-tests : inRange rule digits power ≡ true → 0 < digits → (valueAtLeast digits power ≡ true) × (valueAtMost (rule .most) digits power ≡ true)
-  unfolding inRange
+  unfolding withinBounds
   range-tests h p =
       both (valueAtLeast digits power) (valueAtMost (rule .most) digits power)
-      (tests-if (eqb digits 0) (valueAtLeast digits power && valueAtMost (rule .most) digits power) refl h p)
+      (tests-if (eqb digits 0) (valueAtLeast digits power && valueAtMost (rule .most) digits power) refl (range-parts h .0) p)
 
   module _ (ranged : inRange rule digits power ≡ true) where
     -- a value above 0 is at least 1E-20 and at most the rule's largest
@@ -310,7 +315,7 @@ module _ (rule : Rule) (digits : ℕ) (power : ℤ) where
             (lt-of-not-le (λ h. false≢true (above-all (rule .most) digits power some (omega arith) h ∙ range-tests ranged some .1))),
       )
 
--- a slot that is needed and allows no - has a value
+-- a slot that allows neither blank nor - has a value
 pub record Given (rule : Rule) (v : Value) : Type 0 where
   pub digits : ℕ
   pub power : ℤ
@@ -318,6 +323,13 @@ pub record Given (rule : Rule) (v : Value) : Type 0 where
   pub ranged : inRange rule digits power ≡ true
   pub spelled : Spelled digits power
 
-pub needed : (rule : Rule) (v : Value) → Fits rule v → rule .used ≡ true → rule .dash ≡ false → Given rule v
-needed rule Absent f u d = absurd (true≢false (sym f ∙ ap (λ (t : Bool). t || not (rule .used)) d ∙ ap not u))
-needed rule (Printed power digits) f u d = record { digits = digits; power = power; printed = refl; ranged = f .1; spelled = f .2 }
+pub needed : (rule : Rule) (v : Value) → Fits rule v → rule .blank ≡ false → rule .dash ≡ false → Given rule v
+needed rule Absent f b d = absurd (true≢false (sym f ∙ ap (λ (t : Bool). t || rule .blank) d ∙ b))
+needed rule (Printed power digits) f b d = record { digits = digits; power = power; printed = refl; ranged = f .1; spelled = f .2 }
+
+-- a value that fits a year's rule is no other year
+pub year-right : (rule : Rule) (v : Value) → Fits rule v → rule .year ≡ true → isOtherYear v ≡ false
+unfolding isOtherYear
+year-right rule Absent f y = refl
+year-right rule (Printed power digits) f y =
+    ap not (sym (ap (λ (t : Bool). cond t (isYear digits power) true) y) ∙ range-parts rule digits power (f .1) .1)

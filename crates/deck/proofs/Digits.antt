@@ -81,7 +81,7 @@ room-loop v d i n M h l r =
 pub room-start : (v : ℕ) (s : List ℕ) (M : ℕ) → (v + 1) * 10 ^ length s ≤ M → (v + 1) * 10 ^ (length s - 0) ≤ M
 room-start v s M r = let e : length s - 0 ≡ length s = omega arith in rw e r
 
-digit-first : (t : Bool) (n m : ℕ) → cond t (suc n) 0 ≡ suc m → (t ≡ true) × (n ≡ m)
+pub digit-first : (t : Bool) (n m : ℕ) → cond t (suc n) 0 ≡ suc m → (t ≡ true) × (n ≡ m)
 digit-first true n m e = (refl, omega arith)
 digit-first false n m e = absurd (let z : 0 ≡ suc m = e in omega arith)
 

@@ -8,11 +8,12 @@ use mathlib.Core.Path.{_≡_, refl, sym, ap, _∙_, subst}
 use mathlib.Core.Bool.{Bool, true, false, cond, not}
 use mathlib.Core.List.{List, [], _∷_, _++_}
 use lib.IntN.{ℤ}
-use lib.ListN.{getD}
+use lib.ListN.{length, getD}
+use lib.Seq.{drop-cons}
 use Rattle.deck.specs.Parts.{fieldIn}
 use Rattle.deck.specs.Numbers.{wordOf}
 use Rattle.deck.specs.Kinds.{rulesOf}
-use Rattle.deck.specs.Ranges.{inRange}
+use Rattle.deck.specs.Ranges.{withinBounds, inRange}
 use Rattle.slots.specs.Slots.{unused}
 use Rattle.deck.specs.Conditions.{Condition, first, upTo, fieldConditions, misspelled, misplaced, outOfRange, fieldAt}
 use Rattle.slots.specs.declared.Rule.{Rule}
@@ -68,11 +69,11 @@ module _ (rule : Rule) (w : Word) (n f : ℕ) where
   unfolding first fieldConditions misspelled misplaced outOfRange
   field-other e = rw e
 
-  pub field-missing : w ≡ Blank → rule .used ≡ true → Stopped 32 n f ≡ first (fieldConditions rule w n f)
+  pub field-missing : w ≡ Blank → rule .blank ≡ false → Stopped 32 n f ≡ first (fieldConditions rule w n f)
   unfolding first fieldConditions misspelled misplaced outOfRange
   field-missing e u = rw (e, u)
 
-  pub field-blank : w ≡ Blank → rule .used ≡ false → Read ≡ first (fieldConditions rule w n f)
+  pub field-blank : w ≡ Blank → rule .blank ≡ true → Read ≡ first (fieldConditions rule w n f)
   unfolding first fieldConditions misspelled misplaced outOfRange
   field-blank e u = rw (e, u)
 
@@ -90,7 +91,7 @@ module _ (rule : Rule) (w : Word) (n f : ℕ) where
 
   pub field-number : (d : ℕ) (p q : ℤ) → w ≡ Number d p → rule .used ≡ true → q ≡ p → (s : Status)
       → s ≡ cond (inRange rule d q) Read (Stopped 33 n f) → s ≡ first (fieldConditions rule w n f)
-  unfolding first fieldConditions misspelled misplaced outOfRange inRange
+  unfolding first fieldConditions misspelled misplaced outOfRange inRange withinBounds
   field-number d p q e u g s h =
       rw (e, u) (h ∙ ap (λ (z : ℤ). cond (inRange rule d z) Read (Stopped 33 n f)) g ∙ ranged (inRange rule d p))
 
@@ -102,11 +103,15 @@ module _ (rule : Rule) (w : Word) (n f : ℕ) where
 unfoldable pub fieldBy : List Rule → List ℕ → ℕ → ℕ → List Condition
 fieldBy rules line n f = fieldConditions (getD rules (f - 1) unused) (wordOf (fieldIn line f)) n f
 
--- the word that the code reads is the one that the list has
-pub field-turn : (n f : ℕ) (line : List ℕ) (w : Word) (rules : List Rule) (s : Status) → w ≡ wordOf (fieldIn line (f + 1))
-    → s ≡ first (fieldConditions (getD rules f unused) w n (f + 1)) → s ≡ first (fieldBy rules line n (f + 1))
+-- the word that the code reads is the one that the list has, and so is the rule, whichever stands for a place past the rules' end
+pub field-turn : (n f : ℕ) (line : List ℕ) (w : Word) (rules : List Rule) (past : Rule) (s : Status) → f < length rules → w ≡ wordOf (fieldIn line (f + 1))
+    → s ≡ first (fieldConditions (getD rules f past) w n (f + 1)) → s ≡ first (fieldBy rules line n (f + 1))
 unfolding fieldBy
-field-turn n f line w rules s p e = rw (← p, add-sub-cancel f 1) e
+field-turn n f line w rules past s h p e =
+    let a = drop-cons rules f unused h in
+    let b = drop-cons rules f past h in
+    let same : getD rules f unused ≡ getD rules f past = cc in
+    rw (← p, add-sub-cancel f 1, same) e
 
 pub fields-by : (sort : Sort) (kind n : ℕ) (line : List ℕ) (rules : List Rule) → rules ≡ rulesOf sort kind
     → (k : ℕ) → first (upTo (fieldBy rules line n) k) ≡ first (upTo (fieldAt sort kind line n) k)

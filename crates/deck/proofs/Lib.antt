@@ -14,4 +14,5 @@ pub mod ReadLaws
 pub mod Scan
 pub mod Signed
 pub mod Without
+pub mod WithoutYear
 pub mod Words

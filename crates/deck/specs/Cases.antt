@@ -1,13 +1,17 @@
 -- The case that a deck spells: its records, read off the bytes by position (document 01, "Deck").
 -- Assumes nothing.
 use Prim.Native.Nat.{ℕ, zero, suc, _+_, _*_, _-_, _/_, _%_}
+use mathlib.Core.Bool.{Bool, false, cond, not}
 use mathlib.Core.List.{List, [], _∷_, _++_}
 use lib.ListN.{getD, replicate}
 use Rattle.deck.specs.Parts.{linesOf, lineOf, fieldOf}
 use Rattle.deck.specs.Numbers.{wordOf}
 use Rattle.deck.specs.Kinds.{C1, R1, maxChemicals, mostReceptors, siteLines, recordLines}
+use Rattle.deck.specs.Ranges.{isYearOf, isYear}
 use Rattle.deck.specs.Conditions.{first, conditions, countOf, idOf}
 use Rattle.slots.specs.Slots.{Slot, fieldsPerLine, ownerOf, placeOf}
+use Rattle.slots.specs.declared.Guidance.{Guidance}
+use Rattle.slots.specs.declared.Guidance.the-variants.{Of2005, Of2009}
 use Rattle.slots.specs.declared.Owner.{Owner}
 use Rattle.slots.specs.declared.Owner.the-variants.{Site, Chemical, Receptor}
 use Rattle.slots.specs.declared.Sort.{Sort}
@@ -38,7 +42,7 @@ valueOf Dash = Absent
 valueOf (Number digits power) = Printed power digits
 valueOf Other = Absent
 
--- a later slot of the site, or of a place that has no record
+-- a slot past those of the site's two lines, or of a place that has no record
 abbrev pub noSlot : Filled
 noSlot = record { value = Absent }
 
@@ -106,6 +110,16 @@ ownersRecord Receptor case j i = receptorAt case j
 
 unfoldable pub printed : Case → ℕ → ℕ → Slot → Value
 printed case j i s = valueAt (ownersRecord (ownerOf s) case j i) (placeOf s)
+
+-- ---- the guidance that a site names by its year (document 02, P6); blank means 2005
+unfoldable pub guidanceOf : Value → Guidance
+guidanceOf Absent = Of2005
+guidanceOf (Printed power digits) = cond (isYearOf Of2009 digits power) Of2009 Of2005
+
+-- a number that is the year of neither, which no deck that is read has
+unfoldable pub isOtherYear : Value → Bool
+isOtherYear Absent = false
+isOtherYear (Printed power digits) = not (isYear digits power)
 
 -- ---- the reading
 unfoldable pub caseFor : Status → List ℕ → Case

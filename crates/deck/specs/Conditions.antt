@@ -59,7 +59,7 @@ misspelled Other = true
 
 -- blank in a needed slot, - not allowed, or a later slot not blank
 unfoldable pub misplaced : Rule → Word → Bool
-misplaced rule Blank = rule .used
+misplaced rule Blank = not (rule .blank)
 misplaced rule Dash = not (rule .dash)
 misplaced rule (Number digits power) = not (rule .used)
 misplaced rule Other = false

@@ -5,4 +5,5 @@ pub mod Ranges
 pub mod Conditions
 pub mod Cases
 pub mod Ranged
+pub mod Guidance
 pub mod Inner

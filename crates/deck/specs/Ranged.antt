@@ -4,7 +4,7 @@
 use mathlib.Core.Path.{_≡_}
 use Prim.Native.Nat.{ℕ, _≤_, _<_}
 use mathlib.Core.Logic.{_⊎_}
-use mathlib.Core.Bool.{true, not, _||_}
+use mathlib.Core.Bool.{true, _||_}
 use lib.IntN.{ℤ}
 use Rattle.slots.specs.Slots.{Slot, ruleFor}
 use Rattle.slots.specs.declared.Rule.{Rule}
@@ -23,9 +23,9 @@ pub record Spelled (digits : ℕ) (power : ℤ) : Type 0 where
   pub low : below power ≤ 111
   pub fine : (below power ≤ 11) ⊎ (digits < 100000000)
 
--- what a slot's rule asks of its value; no value is right where - is allowed, and in a later slot
+-- what a slot's rule asks of its value; no value is right where - or blank is allowed
 abbrev pub Fits : Rule → Value → Type 0
-Fits rule Absent = (rule .dash || not (rule .used)) ≡ true
+Fits rule Absent = (rule .dash || rule .blank) ≡ true
 Fits rule (Printed power digits) = (rule .used ≡ true) × (inRange rule digits power ≡ true) × Spelled digits power
 
 -- for each receptor j and chemical i, from 0

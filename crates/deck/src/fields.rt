@@ -5,7 +5,7 @@ ghost use Prim.Native.Nat.{_+_, _*_, _-_, _^_, _<_, _≤_};
 ghost use lib.ListN.{length};
 ghost use Rattle.deck.specs.Parts.{fieldIn};
 ghost use Rattle.deck.specs.Kinds.{rulesOf};
-ghost use Rattle.deck.specs.Ranges.{valueAtMost, valueAtLeast, inRange};
+ghost use Rattle.deck.specs.Ranges.{valueAtMost, valueAtLeast, withinBounds, isYearOf, isYear, inRange};
 ghost use Rattle.slots.specs.Slots.{fieldsPerLine};
 ghost use Rattle.deck.specs.Conditions.{first, upTo, fieldConditions, fieldAt};
 ghost use Rattle.deck.specs.Cases.{tabulate};
@@ -29,6 +29,7 @@ use crate::spelling::lowered;
 use crate::spelling::raised;
 use crate::spelling::word;
 use slots::FIELDS;
+use slots::Guidance;
 use slots::Owner;
 use slots::Rule;
 use slots::Sort;
@@ -100,8 +101,8 @@ fn at_least(digits: u64, power: i32) -> bool
     ten_to(short) <= digits
 }
 
-fn in_range(rule: Rule, digits: u64, power: i32) -> bool
-    ensures { λ r. ⌜ r ≡ inRange rule digits power ⌝ }
+fn within_bounds(rule: Rule, digits: u64, power: i32) -> bool
+    ensures { λ r. ⌜ r ≡ withinBounds rule digits power ⌝ }
 {
     if digits == 0 {
         return rule.zero;
@@ -110,6 +111,42 @@ fn in_range(rule: Rule, digits: u64, power: i32) -> bool
         return false;
     }
     at_most(rule.most, digits, power)
+}
+
+// digits × 10 ^ power is the year of this guidance. Neither year ends in 0, and a year × 10 ^ 16 is more than the digits can be.
+pub(crate) fn is_year_of(guidance: Guidance, digits: u64, power: i32) -> bool
+    ensures { λ r. ⌜ r ≡ isYearOf guidance digits power ⌝ }
+{
+    if 0 < raised(power) {
+        return false;
+    }
+    let down = lowered(power);
+    if 15 < down {
+        return false;
+    }
+    digits == guidance.year() as u64 * ten_to(down)
+}
+
+// The year of either.
+pub(crate) fn is_year(digits: u64, power: i32) -> bool
+    ensures { λ r. ⌜ r ≡ isYear digits power ⌝ }
+{
+    if is_year_of(Guidance::Of2005, digits, power) {
+        return true;
+    }
+    is_year_of(Guidance::Of2009, digits, power)
+}
+
+fn in_range(rule: Rule, digits: u64, power: i32) -> bool
+    ensures { λ r. ⌜ r ≡ inRange rule digits power ⌝ }
+{
+    if !within_bounds(rule, digits, power) {
+        return false;
+    }
+    if rule.year {
+        return is_year(digits, power);
+    }
+    true
 }
 
 // Field f of a full line.
@@ -134,10 +171,10 @@ fn field_status(rule: Rule, w: Word, n: usize, f: usize) -> Status
     match w {
         Word::Other => Status::Stopped(31, n, f),
         Word::Blank => {
-            if rule.used {
-                Status::Stopped(32, n, f)
-            } else {
+            if rule.blank {
                 Status::Read
+            } else {
+                Status::Stopped(32, n, f)
             }
         }
         Word::Dash => {

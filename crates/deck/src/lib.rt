@@ -1,6 +1,7 @@
 // A deck, as document 01 calls the input: lines of 80 bytes and a line feed that hold one site, chemicals and receptors.
 // `read` answers the case that a deck spells, or the first condition that stops it.
 mod fields;
+mod guidance;
 mod lines;
 mod packing;
 mod records;
@@ -8,6 +9,8 @@ mod scanning;
 mod spelling;
 
 use fields::field_part;
+pub use guidance::guidance_of;
+pub use guidance::is_other_year;
 use records::case_with;
 use scanning::bad_length;
 use scanning::scan_lines;

@@ -4,6 +4,8 @@ use borrow.Author.Needs.{needs}
 use native.Mathlib.Omega.{arith}
 use mathlib.Core.Path.{ap, _∙_}
 use Prim.Native.Nat.{ℕ, _^_}
+use native.Mathlib.Nat.{le-of-lt}
+use lib.Dec.{lit<}
 use mir.Facts.{toZ-ofZ}
 use Rattle.deck.specs.Ranges.{above, below}
 use Rattle.deck.proofs.Ranges.{ten-some, product-fits, above-all, above-near, below-all, below-few, below-near}
@@ -41,7 +43,7 @@ ten-to-requires-2 c κs = search needs
 mul-result : tie.Need-mul-result
 mul-result c =
     let s = c .before .before .before .before .before .before in
-    product-fits (s .args .most) (c .before .before .lowered .result) _ (s .fits .most .fits) (c .before .if3 .taken) (c .ten-to2 .ensures)
+    product-fits 4294967296 9 (lit< tt) (s .args .most) (c .before .before .lowered .result) _ (le-of-lt (s .fits .most .fits)) (c .before .if3 .taken) (c .ten-to2 .ensures)
 
 returns-3 : tie.Need-returns-3
 returns-3 c =

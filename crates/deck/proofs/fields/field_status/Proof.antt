@@ -25,10 +25,10 @@ returns : tie.Need-returns
 returns c = field-other (c .before .before .args .rule) (c .before .before .args .w) (c .before .before .args .n) (c .before .before .args .f) (c .enum-told .given .1)
 
 returns-2 : tie.Need-returns-2
-returns-2 c = field-missing (c .before .before .before .args .rule) (c .before .before .before .args .w) (c .before .before .before .args .n) (c .before .before .before .args .f) (c .before .enum-told2 .given .1) (c .if1 .taken)
+returns-2 c = field-blank (c .before .before .before .args .rule) (c .before .before .before .args .w) (c .before .before .before .args .n) (c .before .before .before .args .f) (c .before .enum-told2 .given .1) (c .if1 .taken)
 
 returns-3 : tie.Need-returns-3
-returns-3 c = field-blank (c .before .before .before .args .rule) (c .before .before .before .args .w) (c .before .before .before .args .n) (c .before .before .before .args .f) (c .before .enum-told2 .given .1) (c .if1 .left)
+returns-3 c = field-missing (c .before .before .before .args .rule) (c .before .before .before .args .w) (c .before .before .before .args .n) (c .before .before .before .args .f) (c .before .enum-told2 .given .1) (c .if1 .left)
 
 returns-4 : tie.Need-returns-4
 returns-4 c = field-dash (c .before .before .before .args .rule) (c .before .before .before .args .w) (c .before .before .before .args .n) (c .before .before .before .args .f) (c .before .enum-told3 .given .1) (c .if2 .taken)

@@ -66,7 +66,7 @@ returns c =
     let l = c .before .before .before .before .before .before .before .loop in
     let rules = c .before .before .before .before .before .before .before .before .rules in
     let w = c .before .before .before .word .ensures ∙ ap wordOf (c .before .before .before .before .field-part .ensures) in
-    let turn = field-turn (a .n) (l .f) (now (a .line)) _ (rules .result) _ w (c .before .before .field-status .ensures) in (
+    let turn = field-turn (a .n) (l .f) (now (a .line)) _ (rules .result) _ _ (omega arith) w (c .before .before .field-status .ensures) in (
       turn-out (fieldBy (rules .result) (now (a .line)) (a .n)) (l .f) 6 (c .before .before .before .before .before .before .loop-test .taken) (l .inv .1) _ turn _ _ _ (c .enum-told2 .given .1)
           ∙ fields-by (a .sort) (a .kind) (a .n) (now (a .line)) _ (rules .ensures) 6,
       λ q. absurd (never _ _ _ _ (c .enum-told2 .given .1) q),
@@ -91,7 +91,7 @@ loop-again c =
     let l = c .before .before .before .before .before .before .before .before .loop in
     let rules = c .before .before .before .before .before .before .before .before .before .rules in
     let w = c .before .before .before .before .word .ensures ∙ ap wordOf (c .before .before .before .before .before .field-part .ensures) in
-    let turn = field-turn (a .n) (l .f) (now (a .line)) _ (rules .result) _ w (c .before .before .before .field-status .ensures) in (
+    let turn = field-turn (a .n) (l .f) (now (a .line)) _ (rules .result) _ _ (omega arith) w (c .before .before .before .field-status .ensures) in (
       omega arith,
       turn-on (fieldBy (rules .result) (now (a .line)) (a .n)) (l .f) (l .inv .1) _ turn (c .before .enum-told .given .1),
       length-set (l .values) (l .f) _ ∙ l .inv .2,

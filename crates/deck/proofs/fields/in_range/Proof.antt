@@ -1,29 +1,40 @@
--- `deck::fields::in_range` meets its contract: one law for each way out.
+-- `deck::fields::in_range` meets its contract: by the tests, first of the bounds and then of the rule.
 -- Assumes nothing.
 use borrow.Author.Needs.{needs}
-use mathlib.Core.Path.{ap, _∙_}
+use borrow.Author.Tests.{not-true, not-false}
+use mathlib.Core.Path.{ap, sym, _∙_}
 use mir.Facts.{toZ-ofZ}
-use Rattle.deck.specs.Ranges.{valueAtLeast, valueAtMost}
-use Rattle.deck.proofs.Ranges.{range-zero, range-low, range-high}
+use Rattle.deck.specs.Ranges.{withinBounds, isYear, inRange}
 use Rattle.deck.proofs.fields.in_range.Statement.{statement}
 use Rattle.deck.proofs.fields.in_range.Tie as tie
 
-returns : tie.Need-returns
-returns c = range-zero (c .before .args .rule) _ _ (c .if1 .taken)
+within-bounds-requires : tie.Need-within-bounds-requires
+within-bounds-requires c κs = search needs
 
-at-least-requires : tie.Need-at-least-requires
-at-least-requires c κs = search needs
+returns : tie.Need-returns
+unfolding inRange
+returns c =
+    let s = c .before .before in
+    let bounds = c .before .within-bounds .ensures ∙ ap (withinBounds (s .args .rule) (s .args .digits)) (toZ-ofZ (s .fits .power)) in
+    simp (sym bounds ∙ not-true _ (c .if1 .taken))
+
+is-year-requires : tie.Need-is-year-requires
+is-year-requires c κs = search needs
 
 returns-2 : tie.Need-returns-2
-returns-2 c = range-low (c .before .before .before .args .rule) _ _ (c .before .before .if1 .left) _ (c .before .at-least .ensures ∙ ap (valueAtLeast (c .before .before .before .args .digits)) (toZ-ofZ (c .before .before .before .fits .power))) (c .if2 .taken)
-
-at-most-requires : tie.Need-at-most-requires
-at-most-requires c κs = search needs
+unfolding inRange
+returns-2 c =
+    let s = c .before .before .before .before in
+    let bounds = c .before .before .before .within-bounds .ensures ∙ ap (withinBounds (s .args .rule) (s .args .digits)) (toZ-ofZ (s .fits .power)) in
+    simp (sym bounds ∙ not-false _ (c .before .before .if1 .left), c .before .if2 .taken)
+    (c .is-year .ensures ∙ ap (isYear (s .args .digits)) (toZ-ofZ (s .fits .power)))
 
 returns-3 : tie.Need-returns-3
+unfolding inRange
 returns-3 c =
-    range-high (c .before .before .before .before .args .rule) _ _ (c .before .before .before .if1 .left) _ (c .before .before .at-least .ensures ∙ ap (valueAtLeast (c .before .before .before .before .args .digits)) (toZ-ofZ (c .before .before .before .before .fits .power))) (c .before .if2 .left) _
-    (c .at-most .ensures ∙ ap (valueAtMost (c .before .before .before .before .args .rule .most) (c .before .before .before .before .args .digits)) (toZ-ofZ (c .before .before .before .before .fits .power)))
+    let s = c .before .before .before in
+    let bounds = c .before .before .within-bounds .ensures ∙ ap (withinBounds (s .args .rule) (s .args .digits)) (toZ-ofZ (s .fits .power)) in
+    simp (sym bounds ∙ not-false _ (c .before .if1 .left), c .if2 .left)
 
 pub in-range-spec : {M : Type 1} → statement M
-in-range-spec = tie.close (tie.spec returns at-least-requires returns-2 at-most-requires returns-3)
+in-range-spec = tie.close (tie.spec within-bounds-requires returns is-year-requires returns-2 returns-3)

@@ -1,0 +1,601 @@
+-- A deck with its year blanked out (document 02, P6): its case is the deck's with slot 12 cleared, and where the year was blank or 2005 the
+-- same condition stops it, or none does; and its guidance is that of 2005.
+-- Assumes nothing.
+use Prim.Native.Nat.{ℕ, zero, suc, _+_, _*_, _-_, _/_, _%_, _^_, _≤_, _<_}
+use native.Mathlib.Nat.{zero-add, suc-add, one-le-pow, mul-le-mul-left, pow-le-pow-right, eq-or-lt-of-le, le-of-suc-le-suc}
+use native.Mathlib.Numerals.{add-one}
+use native.Mathlib.Omega.{arith}
+use mathlib.Core.Path.{_≡_, refl, sym, ap, _∙_, subst}
+use mathlib.Core.Logic.{⊎-elim}
+use mathlib.Core.Bool.{Bool, true, false, cond, not, _&&_, _||_, false≢true}
+use mathlib.Core.List.{List, [], _∷_, _++_}
+use borrow.Author.Tests.{ne-eqb, eqb-true, eqb-false, le-leb}
+use lib.Dec.{leb, ltb, eqb, lit≤, lit<}
+use lib.IntN.{ℤ}
+use lib.ListN.{length, getD, take, drop, set, replicate, length-append, length-drop, take-append-drop}
+use lib.Seq.{length-take-le, take-nil, take-at, drop-at, take-take, take-add, take-suc, drop-drop, getD-take, getD-drop, set-at, append-snoc}
+use Rattle.slots.specs.Slots.{unused, guidanceYear, yearOf, table, same, isIn, placeIn, ownerOf, placeOf, ruleIn, ruleAt, lineRules}
+use Rattle.slots.specs.declared.Guidance.the-variants.{Of2005, Of2009}
+use Rattle.slots.specs.declared.Sort.{Sort}
+use Rattle.deck.specs.Parts.{within, leading, linesOf, lineOf, fieldIn, fieldOf}
+use Rattle.deck.specs.Numbers.{digitsOf, unspaced, signSpelled, exponentSpelled, endedOf, pointedOf, spelledOf, loneDash, wordOf, idIn}
+use Rattle.deck.specs.Kinds.{Follows, _after_, kindOf, start, S1, S2, C1, R1, EN, kindOrder, befores, among, kinds, rulesIn, rulesOf}
+use Rattle.deck.specs.Ranges.{above, below, valueAtMost, valueAtLeast, withinBounds, isYearOf, isYear, inRange}
+use Rattle.deck.specs.Conditions.{Condition, at, first, upTo, misspelled, misplaced, outOfRange, fieldConditions, fieldAt, badBytes, badKind, idOf, wrongId, badId, lineConditionsAfter, countOf, lineConditions, maxLength, badLength, noEnd, conditions}
+use Rattle.deck.specs.Cases.{tabulate, valueOf, noSlot, slotSpelled, noRecord, recordOf, recordsOf, caseWith, caseOf, valueAt, guidanceOf}
+use Rattle.deck.specs.Guidance.{yearWord, is2005, withoutYear, clearYear, caseWithoutYear}
+use Rattle.deck.specs.declared.Word.{Word}
+use Rattle.deck.specs.declared.Word.the-variants.{Blank, Dash, Number, Other}
+use Rattle.deck.specs.declared.Filled.{Filled}
+use Rattle.deck.specs.declared.Record.{Record}
+use Rattle.deck.specs.declared.Status.{Status}
+use Rattle.deck.specs.declared.Status.the-variants.{Read, Stopped}
+use Rattle.deck.proofs.Leading.{within-yes}
+use Rattle.deck.proofs.Digits.{both, within-bounds, digit-first, leading-le, leading-take}
+use Rattle.deck.proofs.Words.{exponent-four}
+use Rattle.deck.proofs.Parts.{line-is}
+use Rattle.deck.proofs.CaseLaws.{length-tabulate}
+use Rattle.deck.proofs.Accepted.{choose, filled-at}
+use Rattle.deck.proofs.First.{orElse, first-append}
+use Rattle.deck.proofs.Scan.{line-read}
+use Rattle.deck.proofs.Places.{upTo-each, may-follow}
+
+-- ---- parts of two lists whose first elements agree
+drop-take : (k m : ℕ) (s : List ℕ) → drop k (take (k + m) s) ≡ take m (drop k s)
+drop-take zero m s = ap (λ (n : ℕ). take n s) (zero-add m)
+drop-take (suc k) m [] = ap (drop (suc k)) (take-nil (suc k + m)) ∙ sym (take-nil m)
+drop-take (suc k) m (x ∷ xs) = ap (λ (n : ℕ). drop (suc k) (take n (x ∷ xs))) (suc-add k m) ∙ drop-take k m xs
+
+module _ (n : ℕ) (s t : List ℕ) (e : take n s ≡ take n t) where
+  same-front : (m : ℕ) → m ≤ n → take m s ≡ take m t
+  same-front m h = sym (take-take m n s h) ∙ ap (take m) e ∙ take-take m n t h
+
+  same-part : (k m : ℕ) → k + m ≤ n → take m (drop k s) ≡ take m (drop k t)
+  same-part k m h = sym (drop-take k m s) ∙ ap (drop k) (same-front (k + m) h) ∙ drop-take k m t
+
+  same-byte : (i : ℕ) → i < n → getD s i 0 ≡ getD t i 0
+  same-byte i h = sym (getD-take n s i 0 h) ∙ ap (λ (l : List ℕ). getD l i 0) e ∙ getD-take n t i 0 h
+
+-- ---- bytes that all count
+leads-append : (lo hi : ℕ) (xs ys : List ℕ) → leading lo hi xs ≡ length xs → leading lo hi (xs ++ ys) ≡ length xs + leading lo hi ys
+unfolding leading
+leads-append lo hi [] ys h = omega arith
+leads-append lo hi (x ∷ xs) ys h =
+    let f = digit-first (within lo hi x) (leading lo hi xs) (length xs) h in
+    simp (f .0) (omega (arith, leads-append lo hi xs ys (f .1)))
+
+leads-same : (lo hi : ℕ) (xs ys zs : List ℕ) → leading lo hi ys ≡ leading lo hi zs → leading lo hi (xs ++ ys) ≡ leading lo hi (xs ++ zs)
+unfolding leading
+leads-same lo hi [] ys zs h = h
+leads-same lo hi (x ∷ xs) ys zs h = ap (λ (n : ℕ). cond (within lo hi x) (suc n) 0) (leads-same lo hi xs ys zs h)
+
+-- every byte from 32 to 126
+abbrev Plain : List ℕ → Type 0
+Plain s = leading 32 126 s ≡ length s
+
+plain-append : (xs ys : List ℕ) → Plain xs → Plain ys → Plain (xs ++ ys)
+plain-append xs ys p q = omega (arith, leads-append 32 126 xs ys p, length-append xs ys)
+
+plain-split : (n : ℕ) (s : List ℕ) → Plain (take n s) → Plain (drop n s) → Plain s
+plain-split n s p q = subst (λ (l : List ℕ). Plain l) (take-append-drop n s) (plain-append (take n s) (drop n s) p q)
+
+plain-one : (b : ℕ) → 32 ≤ b → b ≤ 126 → Plain (b ∷ [])
+unfolding leading
+plain-one b p q = simp (within-yes 32 126 b p q)
+
+plain-range : (lo hi : ℕ) → 32 ≤ lo → hi ≤ 126 → (s : List ℕ) → leading lo hi s ≡ length s → Plain s
+unfolding leading
+plain-range lo hi p q [] h = refl
+plain-range lo hi p q (x ∷ xs) h =
+    let f = digit-first (within lo hi x) (leading lo hi xs) (length xs) h in
+    let b = within-bounds lo hi x (f .0) in
+    plain-append (x ∷ []) xs (plain-one x (omega arith) (omega arith)) (plain-range lo hi p q xs (f .1))
+
+plain-digits : (s : List ℕ) → Plain (take (digitsOf s) s)
+plain-digits s = plain-range 48 57 (lit≤ tt) (lit≤ tt) (take (digitsOf s) s) (leading-take 48 57 s)
+
+-- ---- the bytes of a number
+plain-sign : (b : ℕ) (t u : Bool) → eqb b 43 ≡ t → eqb b 45 ≡ u → (t || u) ≡ true → Plain (b ∷ [])
+plain-sign b true u e f h = plain-one b (omega (arith, eqb-true b 43 e)) (omega (arith, eqb-true b 43 e))
+plain-sign b false true e f h = plain-one b (omega (arith, eqb-true b 45 f)) (omega (arith, eqb-true b 45 f))
+plain-sign b false false e f h = absurd (false≢true h)
+
+plain-exponent : (tail : List ℕ) → exponentSpelled tail ≡ true → Plain tail
+unfolding leading exponentSpelled signSpelled
+plain-exponent [] s = refl
+plain-exponent (a ∷ b ∷ x ∷ y ∷ []) s =
+    let p = both (eqb a 69 && (eqb b 43 || eqb b 45)) (eqb (leading 48 57 (x ∷ y ∷ [])) 2) s in
+    let q = both (eqb a 69) (eqb b 43 || eqb b 45) (p .0) in
+    let e = eqb-true a 69 (q .0) in
+    plain-append (a ∷ []) (b ∷ x ∷ y ∷ []) (plain-one a (omega arith) (omega arith))
+    (plain-append (b ∷ []) (x ∷ y ∷ []) (plain-sign b (eqb b 43) (eqb b 45) refl refl (q .1))
+    (plain-range 48 57 (lit≤ tt) (lit≤ tt) (x ∷ y ∷ []) (eqb-true (leading 48 57 (x ∷ y ∷ [])) 2 (p .1))))
+plain-exponent (a ∷ []) s = absurd (omega (arith, exponent-four (a ∷ []) s (λ z. omega arith)))
+plain-exponent (a ∷ b ∷ []) s = absurd (omega (arith, exponent-four (a ∷ b ∷ []) s (λ z. omega arith)))
+plain-exponent (a ∷ b ∷ x ∷ []) s = absurd (omega (arith, exponent-four (a ∷ b ∷ x ∷ []) s (λ z. omega arith)))
+plain-exponent (a ∷ b ∷ x ∷ y ∷ z ∷ zs) s = absurd (omega (arith, exponent-four (a ∷ b ∷ x ∷ y ∷ z ∷ zs) s (λ z. omega arith)))
+
+-- a part that holds this word, if it is blank or 2005, has such bytes alone
+abbrev Named : List ℕ → Word → Type 0
+Named s w = is2005 w ≡ true → Plain s
+
+module _ (text : List ℕ) where
+  other-named : Named text Other
+  unfolding is2005
+  other-named h = absurd (false≢true h)
+
+  ended-named : (whole places end : ℕ) → Plain (take end text) → Named text (endedOf text whole places end)
+  unfolding endedOf
+  ended-named whole places end p =
+      choose (Named text) (leb (whole + places) 12 && exponentSpelled (drop end text)) _ Other
+      (λ t h. plain-split end text p (plain-exponent (drop end text) (both (leb (whole + places) 12) (exponentSpelled (drop end text)) t .1)))
+      (λ t. other-named)
+
+  pointed-named : (whole : ℕ) → Plain (take whole text) → getD text whole 0 ≡ 46 → Named text (pointedOf text whole)
+  unfolding pointedOf
+  pointed-named whole p e =
+      let rest = drop (whole + 1) text in
+      choose (Named text) (eqb (digitsOf rest) 0) Other _ (λ t. other-named)
+      (λ t.
+      ended-named whole (digitsOf rest) (whole + 1 + digitsOf rest)
+      (let some = eqb-false (digitsOf rest) 0 t in
+      let h : whole < length text = omega (arith, leading-le 48 57 rest, length-drop (whole + 1) text) in
+      let b : Plain (getD text whole 0 ∷ []) = plain-one (getD text whole 0) (omega arith) (omega arith) in
+      let f : Plain (take (whole + 1) text) = rw (add-one, take-suc text whole 0 h) (plain-append (take whole text) (getD text whole 0 ∷ []) p b) in
+      subst (λ (l : List ℕ). Plain l) (sym (take-add (whole + 1) (digitsOf rest) text)) (plain-append (take (whole + 1) text) (take (digitsOf rest) rest) f (plain-digits rest))))
+
+  spelled-named : Named text (spelledOf text)
+  unfolding spelledOf
+  spelled-named =
+      let whole = digitsOf text in
+      choose (Named text) (eqb whole 0) Other _ (λ t. other-named)
+      (λ t.
+      choose (Named text) (eqb (getD text whole 0) 46) _ _
+      (λ u. pointed-named whole (plain-digits text) (eqb-true (getD text whole 0) 46 u))
+      (λ u. ended-named whole 0 whole (plain-digits text)))
+
+-- the bytes of a part that is blank or 2005 can all stand in a deck
+plain-2005 : (part : List ℕ) → is2005 (wordOf part) ≡ true → Plain part
+unfolding wordOf is2005
+plain-2005 part h =
+    let text = unspaced part in
+    plain-split (leading 32 32 part) part (plain-range 32 32 (lit≤ tt) (lit≤ tt) (take (leading 32 32 part) part) (leading-take 32 32 part))
+    (choose (Named text) (eqb (length text) 0) Blank _
+    (λ t k. omega (arith, eqb-true (length text) 0 t, leading-le 32 126 text))
+    (λ t. choose (Named text) (loneDash text) Dash _ (λ u k. absurd (false≢true k)) (λ u. spelled-named text))
+    h)
+
+-- ---- a line, and the same with its sixth field blanked out
+-- 68 columns, the twelve of the field, and the line feed
+record Blanked (l m : List ℕ) : Type 0 where
+  front : take 68 m ≡ take 68 l
+  field : take 12 (drop 68 m) ≡ replicate 12 32
+  end : drop 80 m ≡ drop 80 l
+
+in-three : (l : List ℕ) → take 68 l ++ (take 12 (drop 68 l) ++ drop 80 l) ≡ l
+in-three l =
+    ap (λ (r : List ℕ). take 68 l ++ (take 12 (drop 68 l) ++ r)) (sym (drop-drop 12 68 l))
+    ∙ ap (λ (r : List ℕ). take 68 l ++ r) (take-append-drop 12 (drop 68 l))
+    ∙ take-append-drop 68 l
+
+module _ (l m : List ℕ) (b : Blanked l m) where
+  kind-same : kindOf m ≡ kindOf l
+  unfolding kindOf
+  kind-same =
+      let p = same-byte 68 m l (b .front) 0 (lit≤ tt) in
+      let q = same-byte 68 m l (b .front) 1 (lit≤ tt) in
+      λ i. 256 * p i + q i
+
+  id-same : idOf m ≡ idOf l
+  unfolding idOf
+  id-same = ap idIn (same-part 68 m l (b .front) 2 6 (lit≤ tt))
+
+  field-same : (f : ℕ) → f ≤ 5 → fieldIn m f ≡ fieldIn l f
+  unfolding fieldIn
+  field-same f h = ap (λ (r : List ℕ). cond (within 1 6 f) r []) (same-part 68 m l (b .front) (8 + 12 * (f - 1)) 12 (omega arith))
+
+  sixth-blank : wordOf (fieldIn m 6) ≡ Blank
+  unfolding fieldIn within wordOf leading
+  sixth-blank = ap wordOf (b .field)
+
+  -- where the field's bytes were right, the line's are as right as before
+  bytes-same : length l ≡ 81 → Plain (fieldIn l 6) → badBytes m ≡ badBytes l
+  unfolding badBytes fieldIn within leading
+  bytes-same long p =
+      let r = drop 80 l in
+      let w : length (take 12 (drop 68 l)) ≡ 12 = length-take-le 12 (drop 68 l) (omega (arith, length-drop 68 l)) in
+      let u : leading 32 126 (replicate 12 32 ++ r) ≡ leading 32 126 (take 12 (drop 68 l) ++ r) =
+      leads-append 32 126 (replicate 12 32) r refl ∙ omega (arith, leads-append 32 126 (take 12 (drop 68 l)) r p) in
+      let v : m ≡ take 68 l ++ (replicate 12 32 ++ r) = sym (in-three m) ∙ (λ i. b .front i ++ (b .field i ++ b .end i)) in
+      let c : leading 32 126 m ≡ leading 32 126 l =
+      ap (leading 32 126) v ∙ leads-same 32 126 (take 68 l) (replicate 12 32 ++ r) (take 12 (drop 68 l) ++ r) u ∙ ap (leading 32 126) (in-three l) in
+      let d : getD m 80 0 ≡ getD l 80 0 = sym (getD-drop 80 m 0 0) ∙ ap (λ (s : List ℕ). getD s 0 0) (b .end) ∙ getD-drop 80 l 0 0 in
+      λ i. not (eqb (c i) 80 && eqb (d i) 10)
+
+-- ---- a fact of each line, shown for the second apart
+by-line : (P : ℕ → Type 0) → P 2 → ((n : ℕ) → (n ≡ 2 → ⊥) → P n) → (n : ℕ) → P n
+by-line P p q zero = q 0 (λ e. omega arith)
+by-line P p q (suc zero) = q 1 (λ e. omega arith)
+by-line P p q (suc (suc zero)) = p
+by-line P p q (suc (suc (suc n))) = q (suc (suc (suc n))) (λ e. omega arith)
+
+-- ---- the deck without its year
+-- a part of the second line
+part-of : (s : List ℕ) (k m : ℕ) → k + m ≤ 81 → take m (drop k (take 81 (drop 81 s))) ≡ take m (drop (81 + k) s)
+part-of s k m h =
+    sym (drop-take k m (take 81 (drop 81 s))) ∙ ap (drop k) (take-take (k + m) 81 (drop 81 s) h) ∙ drop-take k m (drop 81 s) ∙ ap (take m) (drop-drop k 81 s)
+
+module _ (deck : List ℕ) (long : 162 ≤ length deck) where
+  taken : length (take 149 deck) ≡ 149
+  taken = length-take-le 149 deck (omega arith)
+
+  before-same : take 149 (withoutYear deck) ≡ take 149 deck
+  unfolding withoutYear
+  before-same = take-at (take 149 deck) (replicate 12 32 ++ drop 161 deck) 149 taken
+
+  from-year : drop 149 (withoutYear deck) ≡ replicate 12 32 ++ drop 161 deck
+  unfolding withoutYear
+  from-year = drop-at (take 149 deck) (replicate 12 32 ++ drop 161 deck) 149 taken
+
+  after-same : drop 161 (withoutYear deck) ≡ drop 161 deck
+  after-same = sym (drop-drop 12 149 (withoutYear deck)) ∙ ap (drop 12) from-year
+
+  length-same : length (withoutYear deck) ≡ length deck
+  unfolding withoutYear
+  length-same = length-append (take 149 deck) (replicate 12 32 ++ drop 161 deck) ∙ omega (arith, taken, length-drop 161 deck)
+
+  lines-same : linesOf (withoutYear deck) ≡ linesOf deck
+  unfolding linesOf
+  lines-same = ap (λ (n : ℕ). n / 81) length-same
+
+  later-same : (k : ℕ) → 161 ≤ k → drop k (withoutYear deck) ≡ drop k deck
+  later-same k h =
+      let e : 161 + (k - 161) ≡ k = omega arith in
+      subst (λ (n : ℕ). drop n (withoutYear deck) ≡ drop n deck) e
+      (sym (drop-drop (k - 161) 161 (withoutYear deck)) ∙ ap (drop (k - 161)) after-same ∙ drop-drop (k - 161) 161 deck)
+
+  columns-same : (n : ℕ) → (n ≡ 2 → ⊥) → take 81 (drop (81 * (n - 1)) (withoutYear deck)) ≡ take 81 (drop (81 * (n - 1)) deck)
+  columns-same zero h = same-front 149 (withoutYear deck) deck before-same 81 (lit≤ tt)
+  columns-same (suc zero) h = same-front 149 (withoutYear deck) deck before-same 81 (lit≤ tt)
+  columns-same (suc (suc zero)) h = absurd (h refl)
+  columns-same (suc (suc (suc n))) h = ap (take 81) (later-same (81 * (suc (suc (suc n)) - 1)) (omega arith))
+
+  -- every line but the second
+  line-same : (n : ℕ) → (n ≡ 2 → ⊥) → lineOf (withoutYear deck) n ≡ lineOf deck n
+  unfolding lineOf
+  line-same n h = let c = columns-same n h in λ i. cond (within 1 (lines-same i) n) (c i) []
+
+  second-is : lineOf deck 2 ≡ take 81 (drop 81 deck)
+  second-is = line-is deck 2 (lit≤ tt) (omega arith)
+
+  second-without : lineOf (withoutYear deck) 2 ≡ take 81 (drop 81 (withoutYear deck))
+  second-without = line-is (withoutYear deck) 2 (lit≤ tt) (omega (arith, length-same))
+
+  second-length : length (lineOf deck 2) ≡ 81
+  second-length = ap length second-is ∙ length-take-le 81 (drop 81 deck) (omega (arith, length-drop 81 deck))
+
+  second-blanked : Blanked (lineOf deck 2) (lineOf (withoutYear deck) 2)
+  second-blanked = record {
+    front = rw (second-is, second-without)
+        (part-of (withoutYear deck) 0 68 (lit≤ tt)
+        ∙ same-part 149 (withoutYear deck) deck before-same 81 68 (lit≤ tt)
+        ∙ sym (part-of deck 0 68 (lit≤ tt)));
+    field = rw second-without (part-of (withoutYear deck) 68 12 (lit≤ tt) ∙ ap (take 12) from-year);
+    end = rw (second-is, second-without)
+        (drop-take 80 1 (drop 81 (withoutYear deck))
+        ∙ ap (take 1) (drop-drop 80 81 (withoutYear deck) ∙ after-same ∙ sym (drop-drop 80 81 deck))
+        ∙ sym (drop-take 80 1 (drop 81 deck)));
+  }
+
+  -- each line's kind and id, and so the counts
+  kinds-same : (n : ℕ) → kindOf (lineOf (withoutYear deck) n) ≡ kindOf (lineOf deck n)
+  kinds-same =
+      by-line (λ n. kindOf (lineOf (withoutYear deck) n) ≡ kindOf (lineOf deck n))
+      (kind-same (lineOf deck 2) (lineOf (withoutYear deck) 2) second-blanked) (λ n h. ap kindOf (line-same n h))
+
+  ids-same : (n : ℕ) → idOf (lineOf (withoutYear deck) n) ≡ idOf (lineOf deck n)
+  ids-same =
+      by-line (λ n. idOf (lineOf (withoutYear deck) n) ≡ idOf (lineOf deck n))
+      (id-same (lineOf deck 2) (lineOf (withoutYear deck) 2) second-blanked) (λ n h. ap idOf (line-same n h))
+
+  counts-same : (kind n : ℕ) → countOf (withoutYear deck) kind n ≡ countOf deck kind n
+  unfolding countOf
+  counts-same kind zero = refl
+  counts-same kind (suc n) =
+      let k = kinds-same (suc n) in
+      let c = counts-same kind n in
+      λ i. cond (eqb (k i) kind) (suc (c i)) (c i)
+
+-- ---- the case
+tabulate-same : {A : Type 0} (f g : ℕ → A) (n : ℕ) → ((k : ℕ) → k < n → f k ≡ g k) → tabulate n f ≡ tabulate n g
+unfolding tabulate
+tabulate-same f g zero h = refl
+tabulate-same f g (suc n) h =
+    let t = tabulate-same f g n (λ k l. h k (omega arith)) in
+    let e = h n (omega arith) in
+    λ i. t i ++ (e i ∷ [])
+
+module _ {A : Type 0} (f : ℕ → A) (n : ℕ) (rest : List A) where
+  tabulate-last : tabulate (suc n) f ++ rest ≡ tabulate n f ++ (f n ∷ rest)
+  unfolding tabulate
+  tabulate-last = append-snoc (tabulate n f) (f n) rest
+
+  tabulate-set : (a : A) → set (tabulate (suc n) f ++ rest) n a ≡ tabulate n f ++ (a ∷ rest)
+  tabulate-set a = ap (λ (l : List A). set l n a) tabulate-last ∙ set-at (tabulate n f) (f n) rest a n (length-tabulate f a 0 n)
+
+module _ (deck : List ℕ) (long : 162 ≤ length deck) where
+  slot-same : (n k : ℕ) → (n + k / 6 ≡ 2 → k % 6 + 1 ≤ 5) → slotSpelled (withoutYear deck) n k ≡ slotSpelled deck n k
+  unfolding slotSpelled fieldOf
+  slot-same n k =
+      let f = k % 6 + 1 in
+      by-line
+      (λ m. (m ≡ 2 → f ≤ 5) → _≡_ {A = Filled} (record { value = valueOf (wordOf (fieldIn (lineOf (withoutYear deck) m) f)) }) (record { value = valueOf (wordOf (fieldIn (lineOf deck m) f)) }))
+      (λ h i. record { value = valueOf (wordOf (field-same (lineOf deck 2) (lineOf (withoutYear deck) 2) (second-blanked deck long) f (h refl) i)) })
+      (λ m q h i. record { value = valueOf (wordOf (fieldIn (line-same deck long m q i) f)) })
+      (n + k / 6)
+
+  year-cleared : slotSpelled (withoutYear deck) 1 11 ≡ noSlot
+  unfolding slotSpelled fieldOf valueOf
+  year-cleared = λ i. record { value = valueOf (sixth-blank (lineOf deck 2) (lineOf (withoutYear deck) 2) (second-blanked deck long) i) }
+
+  site-cleared : recordOf (withoutYear deck) 1 2 ≡ clearYear (recordOf deck 1 2)
+  unfolding recordOf clearYear placeOf ownerOf isIn placeIn same table
+  site-cleared =
+      let none = replicate 12 noSlot in
+      let e = ids-same deck long 1 in
+      let t = tabulate-same (slotSpelled (withoutYear deck) 1) (slotSpelled deck 1) 11 (λ k h. slot-same 1 k (λ q. omega arith)) in
+      let s : tabulate 12 (slotSpelled (withoutYear deck) 1) ++ none ≡ set (tabulate 12 (slotSpelled deck 1) ++ none) 11 noSlot =
+      tabulate-last (slotSpelled (withoutYear deck) 1) 11 none ∙ (λ i. t i ++ (year-cleared i ∷ none)) ∙ sym (tabulate-set (slotSpelled deck 1) 11 none noSlot) in
+      λ i. record { id = e i; slots = s i }
+
+  record-same : (n : ℕ) → 3 ≤ n → recordOf (withoutYear deck) n 4 ≡ recordOf deck n 4
+  unfolding recordOf
+  record-same n h =
+      let e = ids-same deck long n in
+      let s = tabulate-same (slotSpelled (withoutYear deck) n) (slotSpelled deck n) 24 (λ k l. slot-same n k (λ q. absurd (omega arith))) in
+      λ i. record { id = e i; slots = s i ++ replicate 0 noSlot }
+
+  records-same : (n count room : ℕ) → 3 ≤ n → recordsOf (withoutYear deck) n count room ≡ recordsOf deck n count room
+  unfolding recordsOf
+  records-same n count room h =
+      let s = tabulate-same (λ j. recordOf (withoutYear deck) (n + 4 * j) 4) (λ j. recordOf deck (n + 4 * j) 4) count (λ j l. record-same (n + 4 * j) (omega arith)) in
+      ap (λ (l : List Record). l ++ replicate (room - count) noRecord) s
+
+  case-with : (c r : ℕ) → caseWith (withoutYear deck) c r ≡ caseWithoutYear (caseWith deck c r)
+  unfolding caseWith caseWithoutYear
+  case-with c r =
+      let cs = records-same 3 c 16 (lit≤ tt) in
+      let rs = records-same (3 + 4 * c) r 8 (omega arith) in
+      λ i. record { site = site-cleared i; chemicals = record { count = c; records = cs i }; receptors = record { count = r; records = rs i } }
+
+  all-counted : (kind : ℕ) → countOf (withoutYear deck) kind (linesOf (withoutYear deck)) ≡ countOf deck kind (linesOf deck)
+  all-counted kind = ap (countOf (withoutYear deck) kind) (lines-same deck long) ∙ counts-same deck long kind (linesOf deck)
+
+-- the case of a deck without its year is the deck's case without its year
+pub case-without : (deck : List ℕ) → 162 ≤ length deck → caseOf (withoutYear deck) ≡ caseWithoutYear (caseOf deck)
+unfolding caseOf
+case-without deck long =
+    let c = all-counted deck long C1 in
+    let r = all-counted deck long R1 in
+    (λ i. caseWith (withoutYear deck) (c i) (r i)) ∙ case-with deck long (countOf deck C1 (linesOf deck)) (countOf deck R1 (linesOf deck))
+
+-- ---- the first condition of two lists, where those before it agree
+same-next : (s t u : Status) → (s ≡ Read → t ≡ u) → orElse s t ≡ orElse s u
+unfolding orElse
+same-next Read t u h = h refl
+same-next (Stopped number line field) t u h = refl
+
+same-upTo : (f g : ℕ → List Condition) (m : ℕ) → ((k : ℕ) → k < m → first (upTo g k) ≡ Read → first (f (suc k)) ≡ first (g (suc k)))
+    → first (upTo f m) ≡ first (upTo g m)
+unfolding upTo
+same-upTo f g zero h = refl
+same-upTo f g (suc m) h =
+    first-append (upTo f m) (f (suc m))
+    ∙ ap (λ (s : Status). orElse s (first (f (suc m)))) (same-upTo f g m (λ k l. h k (omega arith)))
+    ∙ same-next (first (upTo g m)) (first (f (suc m))) (first (g (suc m))) (h m (omega arith))
+    ∙ sym (first-append (upTo g m) (g (suc m)))
+
+same-else : (b : Bool) (s t u : Status) → (b ≡ false → t ≡ u) → cond b s t ≡ cond b s u
+same-else true s t u h = refl
+same-else false s t u h = h refl
+
+-- ---- the one kind that may follow another: in every row that names a, the kind is k
+only : ℕ → ℕ → List Follows → Bool
+only a k [] = true
+only a k ((j after js) ∷ rest) = cond (among a js) (eqb j k) true && only a k rest
+
+only-row : (a k c j : ℕ) (js ks : List ℕ) (t u : Bool) → eqb c j ≡ t → among a js ≡ u → cond u (eqb j k) true ≡ true → (among a ks ≡ true → c ≡ k)
+    → among a (cond t js ks) ≡ true → c ≡ k
+only-row a k c j js ks true true e f g q h = eqb-true c j e ∙ eqb-true j k g
+only-row a k c j js ks true false e f g q h = absurd (false≢true (sym f ∙ h))
+only-row a k c j js ks false u e f g q h = q h
+
+only-kind : (a k c : ℕ) (rows : List Follows) → only a k rows ≡ true → among a (befores rows c) ≡ true → c ≡ k
+unfolding only befores among
+only-kind a k c [] o h = absurd (false≢true h)
+only-kind a k c ((j after js) ∷ rest) o h =
+    let p = both (cond (among a js) (eqb j k) true) (only a k rest) o in
+    only-row a k c j js (befores rest c) (eqb c j) (among a js) refl refl (p .0) (only-kind a k c rest (p .1)) h
+
+after-start : (c : ℕ) → among start (befores kindOrder c) ≡ true → c ≡ S1
+unfolding only kindOrder among
+after-start c h = only-kind start S1 c kindOrder refl h
+
+after-first : (c : ℕ) → among S1 (befores kindOrder c) ≡ true → c ≡ S2
+unfolding only kindOrder among
+after-first c h = only-kind S1 S2 c kindOrder refl h
+
+-- ---- no condition of the year's field holds
+year-rule : (sort : Sort) → getD (rulesOf sort S2) 5 unused ≡ guidanceYear
+unfolding rulesOf rulesIn kinds lineRules ruleAt ruleIn table
+year-rule sort = refl
+
+module _ (digits : ℕ) (z : ℤ) (e : digits * 10 ^ above z ≡ 2005 * 10 ^ below z) where
+  some-below : 1 ≤ 10 ^ below z
+  some-below = one-le-pow (below z) 10 (lit≤ tt)
+
+  year-some : digits ≡ 0 → ⊥
+  year-some q = let w : digits * 10 ^ above z ≡ 0 = rw q (omega arith) in omega (arith, some-below)
+
+  year-least : valueAtLeast digits z ≡ true
+  unfolding valueAtLeast
+  year-least =
+      let m : digits * 10 ^ above z ≤ digits * 10 ^ (above z + 20) = mul-le-mul-left digits (pow-le-pow-right (lit≤ tt) (omega arith)) in
+      le-leb (10 ^ below z) (digits * 10 ^ (above z + 20)) (omega arith)
+
+  year-most : valueAtMost 1000000000 digits z ≡ true
+  unfolding valueAtMost
+  year-most = le-leb (digits * 10 ^ above z) (1000000000 * 10 ^ below z) (omega arith)
+
+  year-bounds : withinBounds guidanceYear digits z ≡ true
+  unfolding withinBounds
+  year-bounds = simp (ne-eqb digits 0 year-some, year-least, year-most)
+
+year-in : (digits : ℕ) (z : ℤ) → isYearOf Of2005 digits z ≡ true → inRange guidanceYear digits z ≡ true
+unfolding inRange isYear isYearOf yearOf
+year-in digits z h = simp (year-bounds digits z (eqb-true (digits * 10 ^ above z) (2005 * 10 ^ below z) h), h)
+
+year-read : (w : Word) (n f : ℕ) → is2005 w ≡ true → first (fieldConditions guidanceYear w n f) ≡ Read
+unfolding is2005 first fieldConditions misspelled misplaced outOfRange
+year-read Blank n f h = refl
+year-read Dash n f h = absurd (false≢true h)
+year-read (Number digits power) n f h = simp (year-in digits power h)
+year-read Other n f h = absurd (false≢true h)
+
+-- ---- the second line, after a line of kind S1: past 21 it is of kind S2, so it is no EN and its sixth field is the year's
+module _ (sort : Sort) (idBefore chemicals receptors : ℕ) (l m : List ℕ) (b : Blanked l m) (y : is2005 (wordOf (fieldIn l 6)) ≡ true) where
+  sixth-read : (s : List ℕ) → is2005 (wordOf (fieldIn s 6)) ≡ true → first (fieldAt sort S2 s 2 6) ≡ Read
+  unfolding fieldAt
+  sixth-read s h = rw (year-rule sort) (year-read (wordOf (fieldIn s 6)) 2 6 h)
+
+  field-agrees : (k : ℕ) → k < 6 → first (fieldAt sort S2 m 2 (suc k)) ≡ first (fieldAt sort S2 l 2 (suc k))
+  unfolding fieldAt is2005
+  field-agrees k h =
+      ⊎-elim
+      (λ q.
+      subst (λ (n : ℕ). first (fieldAt sort S2 m 2 (suc n)) ≡ first (fieldAt sort S2 l 2 (suc n))) (sym q)
+      (sixth-read m (ap is2005 (sixth-blank l m b)) ∙ sym (sixth-read l y)))
+      (λ g. ap (λ (s : List ℕ). first (fieldConditions (getD (rulesOf sort S2) (suc k - 1) unused) (wordOf s) 2 (suc k))) (field-same l m b (suc k) g))
+      (eq-or-lt-of-le (le-of-suc-le-suc h))
+
+  id-agrees : badId S1 idBefore S2 m ≡ badId S1 idBefore S2 l
+  unfolding badId
+  id-agrees = ap (wrongId S1 idBefore S2) (id-same l m b)
+
+  kind-agrees : (k : ℕ) → k ≡ S2
+      → cond (badId S1 idBefore k m) (Stopped 22 2 0) (first (upTo (fieldAt sort k m 2) 6))
+      ≡ cond (badId S1 idBefore k l) (Stopped 22 2 0) (first (upTo (fieldAt sort k l 2) 6))
+  kind-agrees k e =
+      let f = same-upTo (fieldAt sort S2 m 2) (fieldAt sort S2 l 2) 6 (λ j h r. field-agrees j h) in
+      subst
+      (λ (n : ℕ).
+      cond (badId S1 idBefore n m) (Stopped 22 2 0) (first (upTo (fieldAt sort n m 2) 6))
+      ≡ cond (badId S1 idBefore n l) (Stopped 22 2 0) (first (upTo (fieldAt sort n l 2) 6)))
+      (sym e) (λ i. cond (id-agrees i) (Stopped 22 2 0) (f i))
+
+  second-agrees : length l ≡ 81
+      → first (lineConditionsAfter sort S1 idBefore chemicals receptors m 2) ≡ first (lineConditionsAfter sort S1 idBefore chemicals receptors l 2)
+  unfolding first lineConditionsAfter
+  second-agrees long =
+      let p = bytes-same l m b long (plain-2005 (fieldIn l 6) y) in
+      let k = kind-same l m b in
+      (λ i.
+      cond (p i) (Stopped 12 2 0)
+      (cond (badKind sort S1 (k i) chemicals receptors) (Stopped 21 2 0)
+      (cond (badId S1 idBefore (k i) m) (Stopped 22 2 0) (first (upTo (fieldAt sort (k i) m 2) 6)))))
+      ∙ same-else (badBytes l) (Stopped 12 2 0) _ _
+      (λ u.
+      same-else (badKind sort S1 (kindOf l) chemicals receptors) (Stopped 21 2 0) _ _
+      (λ v. kind-agrees (kindOf l) (after-first (kindOf l) (may-follow sort S1 (kindOf l) chemicals receptors v))))
+
+-- ---- the deck's conditions
+in-order : (sort : Sort) (s : List ℕ) → first (conditions sort s)
+    ≡ cond (badLength sort s) (Stopped 11 0 0) (orElse (first (upTo (lineConditions sort s) (linesOf s))) (cond (noEnd s) (Stopped 21 (linesOf s + 1) 0) Read))
+unfolding first conditions
+in-order sort s = ap (λ (t : Status). cond (badLength sort s) (Stopped 11 0 0) t) (first-append (upTo (lineConditions sort s) (linesOf s)) (at 21 (linesOf s + 1) 0 (noEnd s) ∷ []))
+
+module _ (sort : Sort) (deck : List ℕ) (long : 162 ≤ length deck) (y : is2005 (yearWord deck) ≡ true) where
+  no-line : kindOf (lineOf deck 0) ≡ start
+  unfolding kindOf lineOf within
+  no-line = refl
+
+  first-kind : first (upTo (lineConditions sort deck) 1) ≡ Read → kindOf (lineOf deck 1) ≡ S1
+  unfolding lineConditions
+  first-kind e =
+      let r = line-read sort (kindOf (lineOf deck 0)) (idOf (lineOf deck 0)) (countOf deck C1 0) (countOf deck R1 0) 1 (lineOf deck 1) (upTo-each (lineConditions sort deck) 1 e 0 (lit≤ tt)) in
+      after-start (kindOf (lineOf deck 1))
+      (subst (λ (k : ℕ). among k (befores kindOrder (kindOf (lineOf deck 1))) ≡ true) no-line (may-follow sort _ _ _ _ (r .kind)))
+
+  sixth-2005 : is2005 (wordOf (fieldIn (lineOf deck 2) 6)) ≡ true
+  unfolding yearWord fieldOf
+  sixth-2005 = y
+
+  -- line n as it stands in the deck without its year, after the lines of the deck
+  carried : (n : ℕ) → lineConditions sort (withoutYear deck) n
+      ≡ lineConditionsAfter sort (kindOf (lineOf deck (n - 1))) (idOf (lineOf deck (n - 1))) (countOf deck C1 (n - 1)) (countOf deck R1 (n - 1)) (lineOf (withoutYear deck) n) n
+  unfolding lineConditions
+  carried n =
+      let k = kinds-same deck long (n - 1) in
+      let d = ids-same deck long (n - 1) in
+      let c = counts-same deck long C1 (n - 1) in
+      let r = counts-same deck long R1 (n - 1) in
+      λ i. lineConditionsAfter sort (k i) (d i) (c i) (r i) (lineOf (withoutYear deck) n) n
+
+  line-agrees : (n : ℕ) → first (upTo (lineConditions sort deck) (n - 1)) ≡ Read → first (lineConditions sort (withoutYear deck) n) ≡ first (lineConditions sort deck n)
+  unfolding lineConditions
+  line-agrees =
+      by-line (λ n. first (upTo (lineConditions sort deck) (n - 1)) ≡ Read → first (lineConditions sort (withoutYear deck) n) ≡ first (lineConditions sort deck n))
+      (λ e.
+      ap first (carried 2)
+      ∙ subst
+      (λ (k : ℕ).
+      first (lineConditionsAfter sort k (idOf (lineOf deck 1)) (countOf deck C1 1) (countOf deck R1 1) (lineOf (withoutYear deck) 2) 2)
+      ≡ first (lineConditionsAfter sort k (idOf (lineOf deck 1)) (countOf deck C1 1) (countOf deck R1 1) (lineOf deck 2) 2))
+      (sym (first-kind e))
+      (second-agrees sort (idOf (lineOf deck 1)) (countOf deck C1 1) (countOf deck R1 1) (lineOf deck 2) (lineOf (withoutYear deck) 2) (second-blanked deck long) sixth-2005 (second-length deck long)))
+      (λ n h e.
+      ap first (carried n)
+      ∙ ap (λ (l : List ℕ). first (lineConditionsAfter sort (kindOf (lineOf deck (n - 1))) (idOf (lineOf deck (n - 1))) (countOf deck C1 (n - 1)) (countOf deck R1 (n - 1)) l n)) (line-same deck long n h))
+
+  lines-agree : (m : ℕ) → first (upTo (lineConditions sort (withoutYear deck)) m) ≡ first (upTo (lineConditions sort deck) m)
+  lines-agree m =
+      same-upTo (lineConditions sort (withoutYear deck)) (lineConditions sort deck) m
+      (λ k h e. line-agrees (suc k) (subst (λ (n : ℕ). first (upTo (lineConditions sort deck) n) ≡ Read) (omega arith) e))
+
+  end-agrees : noEnd (withoutYear deck) ≡ noEnd deck
+  unfolding noEnd
+  end-agrees = ap (λ (k : ℕ). not (eqb k EN)) (ap (λ (n : ℕ). kindOf (lineOf (withoutYear deck) n)) (lines-same deck long) ∙ kinds-same deck long (linesOf deck))
+
+  length-agrees : badLength sort (withoutYear deck) ≡ badLength sort deck
+  unfolding badLength
+  length-agrees = ap (λ (n : ℕ). eqb n 0 || ltb (maxLength sort) n || not (eqb (n % 81) 0)) (length-same deck long)
+
+-- blank in place of 2005 changes nothing of where a deck stops
+pub status-without : (sort : Sort) (deck : List ℕ) → 162 ≤ length deck → is2005 (yearWord deck) ≡ true
+    → first (conditions sort (withoutYear deck)) ≡ first (conditions sort deck)
+status-without sort deck long y =
+    let n = length-agrees sort deck long y in
+    let b = lines-same deck long in
+    let l = ap (λ (m : ℕ). first (upTo (lineConditions sort (withoutYear deck)) m)) b ∙ lines-agree sort deck long y (linesOf deck) in
+    let e = end-agrees sort deck long y in
+    in-order sort (withoutYear deck)
+    ∙ (λ i. cond (n i) (Stopped 11 0 0) (orElse (l i) (cond (e i) (Stopped 21 (b i + 1) 0) Read)))
+    ∙ sym (in-order sort deck)
+
+-- ---- the guidance of such a deck
+pub year-printed : (deck : List ℕ) → valueAt (caseOf deck .site) (placeOf "year") ≡ valueOf (yearWord deck)
+unfolding valueAt caseOf caseWith recordOf yearWord slotSpelled placeOf placeIn ownerOf isIn same table
+year-printed deck = ap (λ (x : Filled). x .value) (filled-at (slotSpelled deck 1) noSlot 12 (replicate 12 noSlot) 11 (lit< tt))
+
+one-year : (digits : ℕ) (z : ℤ) → isYearOf Of2005 digits z ≡ true → isYearOf Of2009 digits z ≡ false
+unfolding isYearOf yearOf
+one-year digits z h =
+    ne-eqb (digits * 10 ^ above z) (2009 * 10 ^ below z)
+    (λ e. let p = eqb-true (digits * 10 ^ above z) (2005 * 10 ^ below z) h in let t = one-le-pow (below z) 10 (lit≤ tt) in omega arith)
+
+pub guidance-2005 : (w : Word) → is2005 w ≡ true → guidanceOf (valueOf w) ≡ Of2005
+unfolding is2005 valueOf guidanceOf
+guidance-2005 Blank h = refl
+guidance-2005 Dash h = absurd (false≢true h)
+guidance-2005 (Number digits power) h = rw (one-year digits power h) refl
+guidance-2005 Other h = absurd (false≢true h)
