@@ -1,9 +1,10 @@
 -- The crate's laws: every formula's pair reading is answered, holds the exact reading and is narrow. `LineLaws` is what the crates above
--- may count on, with `Profile`, by which inputs are judged, `Limits`, `Plain`, `Rising`, `Refusals` and `Tail`'s `term-is`. Assumes nothing.
+-- may count on, with `Profile`, by which inputs are judged, `Guided`, `Limits`, `Plain`, `Rising`, `Refusals` and `Tail`'s `term-is`. Assumes nothing.
 pub mod Nearness
 pub mod Profile
 mod FormulaLaws
 pub mod Plain
+pub mod Guided
 pub mod Tail
 mod Sharper
 mod SeriesTerms

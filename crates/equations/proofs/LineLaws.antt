@@ -23,6 +23,7 @@ use Rattle.equations.specs.declared.Effect.{Effect}
 use Rattle.equations.specs.declared.Effect.the-variants.{Hazard, Cancer}
 use Rattle.equations.specs.declared.Stay.{Stay}
 use Rattle.equations.specs.declared.Stay.the-variants.{Within, Beyond}
+use Rattle.slots.specs.declared.Guidance.{Guidance}
 use Rattle.slots.specs.declared.Owner.{Owner}
 use Rattle.slots.specs.declared.Owner.the-variants.{Site, Chemical, Receptor}
 use Rattle.slots.specs.Slots.{Slot, table, same, isIn, placeIn, entryRule, ownerOf, placeOf, ruleOf, neverZero, atMostOne}
@@ -33,6 +34,7 @@ use Rattle.equations.specs.Readings.{Inputs, AtBoth, letters, noGrowth, 
 use Rattle.equations.proofs.Nearness.{Near, near-more, spread}
 use Rattle.equations.proofs.Profile.{Profile, profiles, ofNumber, positives, usable, joined, Fits, Good, answeredAs, both, parts, good-more, good-number}
 use Rattle.equations.proofs.FormulaLaws.{profile, reads-good}
+use Rattle.equations.proofs.Guided.{guided}
 use Rattle.equations.proofs.Plain.{x-plain, x′-plain}
 use Rattle.equations.proofs.FastLaws.{ofExponent}
 use Rattle.equations.proofs.GrowthLaws.{ofG, ofH, grown}
@@ -110,45 +112,56 @@ ofFormula stay f = profile (letters (ofSlots stay) (ofGrown stay)) f
 narrow : Profile → Bool
 narrow f = f .answered && leb (f .width) 11600
 
--- The profiles of the lines, and with them of all that stands in a line.
-line-computed : (e : Effect) (stay : Stay) (p : Pathway) → narrow (ofFormula stay (page.line e stay p)) ≡ true
-unfolding narrow ofFormula ofGrown ofLaterGrowth profile read profiles letters page.line page.figureBy page.intake page.intakeBy page.factor page.medium page.byMedium page.soil page.mean page.gathered page.exposure page.B page.AT page.reference page.referenceSlot page.byRoute page.A page.C page.D page.aboveGround page.belowGround x x′ page.k page.u page.kse page.ksr page.ksl ofNumber joined joint spread positives usable ofSlots ofSlot ofRest ofLater byOwner table same isIn placeIn entryRule ownerOf placeOf ruleOf neverZero atMostOne
-line-computed Hazard Within Air = refl
-line-computed Hazard Within SoilSummer = refl
-line-computed Hazard Within SoilWinter = refl
-line-computed Hazard Within Skin = refl
-line-computed Hazard Within AboveGround = refl
-line-computed Hazard Within BelowGround = refl
-line-computed Hazard Beyond Air = refl
-line-computed Hazard Beyond SoilSummer = refl
-line-computed Hazard Beyond SoilWinter = refl
-line-computed Hazard Beyond Skin = refl
-line-computed Hazard Beyond AboveGround = refl
-line-computed Hazard Beyond BelowGround = refl
-line-computed Cancer Within Air = refl
-line-computed Cancer Within SoilSummer = refl
-line-computed Cancer Within SoilWinter = refl
-line-computed Cancer Within Skin = refl
-line-computed Cancer Within AboveGround = refl
-line-computed Cancer Within BelowGround = refl
-line-computed Cancer Beyond Air = refl
-line-computed Cancer Beyond SoilSummer = refl
-line-computed Cancer Beyond SoilWinter = refl
-line-computed Cancer Beyond Skin = refl
-line-computed Cancer Beyond AboveGround = refl
-line-computed Cancer Beyond BelowGround = refl
+-- The profiles of the lines of an intake, and with them of all that stands in such a line; and of a line of a concentration in air.
+intake-line-computed : (e : Effect) (stay : Stay) (p : Pathway) → narrow (ofFormula stay (page.intakeLine e stay p)) ≡ true
+unfolding narrow ofFormula ofGrown ofLaterGrowth profile read profiles letters page.intakeLine page.figureBy page.intake page.intakeBy page.factor page.medium page.byMedium page.soil page.mean page.gathered page.exposure page.B page.AT page.reference page.referenceSlot page.byRoute page.A page.C page.D page.aboveGround page.belowGround x x′ page.k page.u page.kse page.ksr page.ksl ofNumber joined joint spread positives usable ofSlots ofSlot ofRest ofLater byOwner table same isIn placeIn entryRule ownerOf placeOf ruleOf neverZero atMostOne
+intake-line-computed Hazard Within Air = refl
+intake-line-computed Hazard Within SoilSummer = refl
+intake-line-computed Hazard Within SoilWinter = refl
+intake-line-computed Hazard Within Skin = refl
+intake-line-computed Hazard Within AboveGround = refl
+intake-line-computed Hazard Within BelowGround = refl
+intake-line-computed Hazard Beyond Air = refl
+intake-line-computed Hazard Beyond SoilSummer = refl
+intake-line-computed Hazard Beyond SoilWinter = refl
+intake-line-computed Hazard Beyond Skin = refl
+intake-line-computed Hazard Beyond AboveGround = refl
+intake-line-computed Hazard Beyond BelowGround = refl
+intake-line-computed Cancer Within Air = refl
+intake-line-computed Cancer Within SoilSummer = refl
+intake-line-computed Cancer Within SoilWinter = refl
+intake-line-computed Cancer Within Skin = refl
+intake-line-computed Cancer Within AboveGround = refl
+intake-line-computed Cancer Within BelowGround = refl
+intake-line-computed Cancer Beyond Air = refl
+intake-line-computed Cancer Beyond SoilSummer = refl
+intake-line-computed Cancer Beyond SoilWinter = refl
+intake-line-computed Cancer Beyond Skin = refl
+intake-line-computed Cancer Beyond AboveGround = refl
+intake-line-computed Cancer Beyond BelowGround = refl
 
-line-checked : (e : Effect) (stay : Stay) (p : Pathway) → (ofFormula stay (page.line e stay p) .answered ≡ true) × (ofFormula stay (page.line e stay p) .width ≤ 11600)
+air-line-computed : (e : Effect) (stay : Stay) → narrow (ofFormula stay (page.airLine e)) ≡ true
+unfolding narrow ofFormula profile read profiles letters page.airLine page.airFigureBy page.timeShare page.timeInAir page.AT page.reference page.referenceSlot page.byRoute page.A ofNumber joined joint spread positives usable ofSlots ofSlot ofRest byOwner table same isIn placeIn entryRule ownerOf placeOf ruleOf neverZero atMostOne
+air-line-computed Hazard stay = refl
+air-line-computed Cancer stay = refl
+
+line-computed : (y : Guidance) (e : Effect) (stay : Stay) (p : Pathway) → narrow (ofFormula stay (page.line y e stay p)) ≡ true
+unfolding page.line
+line-computed y e stay p = guided (λ (f : Formula). narrow (ofFormula stay f) ≡ true) y p (page.airLine e) (page.intakeLine e stay p) (air-line-computed e stay) (intake-line-computed e stay p)
+
+checked : (f : Profile) → narrow f ≡ true → (f .answered ≡ true) × (f .width ≤ 11600)
 unfolding narrow
-line-checked e stay p =
-    let f : Profile = ofFormula stay (page.line e stay p) in
-    let t = both (f .answered) (leb (f .width) 11600) (line-computed e stay p) in
+checked f h =
+    let t = both (f .answered) (leb (f .width) 11600) h in
     (t .0, leb-true (f .width) 11600 (t .1))
 
+line-checked : (y : Guidance) (e : Effect) (stay : Stay) (p : Pathway) → (ofFormula stay (page.line y e stay p) .answered ≡ true) × (ofFormula stay (page.line y e stay p) .width ≤ 11600)
+line-checked y e stay p = checked (ofFormula stay (page.line y e stay p)) (line-computed y e stay p)
+
 intake-checked : (e : Effect) (stay : Stay) (p : Pathway) → ofFormula stay (page.intake e stay p) .answered ≡ true
-unfolding page.line page.figureBy ofFormula profile read profiles
-intake-checked Hazard stay p = parts quotients (ofFormula stay (page.intake Hazard stay p)) (ofFormula stay (page.reference Hazard p)) (line-checked Hazard stay p .0) .first
-intake-checked Cancer stay p = parts products (ofFormula stay (page.intake Cancer stay p)) (ofFormula stay (page.reference Cancer p)) (line-checked Cancer stay p .0) .first
+unfolding page.intakeLine page.figureBy ofFormula profile read profiles
+intake-checked Hazard stay p = parts quotients (ofFormula stay (page.intake Hazard stay p)) (ofFormula stay (page.reference Hazard p)) (checked _ (intake-line-computed Hazard stay p) .0) .first
+intake-checked Cancer stay p = parts products (ofFormula stay (page.intake Cancer stay p)) (ofFormula stay (page.reference Cancer p)) (checked _ (intake-line-computed Cancer stay p) .0) .first
 
 medium-checked : (e : Effect) (stay : Stay) (p : Pathway) → ofFormula stay (page.medium e stay p) .answered ≡ true
 unfolding page.intake page.intakeBy ofFormula profile read profiles
@@ -247,8 +260,8 @@ module _ (stay : Stay) (env : Inputs Pair) (vals : Slot → Fraction) (inputs : 
         },
       )
 
-  pub line-works : (e : Effect) (w : Pathway) → (r : Pair) × Works stay env vals (page.line e stay w) r
-  line-works e w = formula-works (page.line e stay w) (line-checked e stay w .0)
+  pub line-works : (y : Guidance) (e : Effect) (w : Pathway) → (r : Pair) × Works stay env vals (page.line y e stay w) r
+  line-works y e w = formula-works (page.line y e stay w) (line-checked y e stay w .0)
 
   pub medium-works : (e : Effect) (w : Pathway) → (r : Pair) × Works stay env vals (page.medium e stay w) r
   medium-works e w = formula-works (page.medium e stay w) (medium-checked e stay w)
@@ -267,5 +280,5 @@ few-parts u v w l h =
         let c : a * m ≤ b * n = le-of-mul-le-mul-right {k = d} (omega arith) s in
         le-of-mul-le-mul-right {k = m} (omega (arith, mul-le-mul-right b q)) t
 
-pub line-narrow : (stay : Stay) (env : Inputs Pair) (vals : Slot → Fraction) (e : Effect) (p : Pathway) (r : Pair) → Works stay env vals (page.line e stay p) r → 5000 * value (r .high) .num ≤ 5001 * value (r .low) .num
-line-narrow stay env vals e p r h = few-parts (r .high) (r .low) (ofFormula stay (page.line e stay p) .width) (line-checked e stay p .1) (h .fits .wide)
+pub line-narrow : (stay : Stay) (env : Inputs Pair) (vals : Slot → Fraction) (y : Guidance) (e : Effect) (p : Pathway) (r : Pair) → Works stay env vals (page.line y e stay p) r → 5000 * value (r .high) .num ≤ 5001 * value (r .low) .num
+line-narrow stay env vals y e p r h = few-parts (r .high) (r .low) (ofFormula stay (page.line y e stay p) .width) (line-checked y e stay p .1) (h .fits .wide)

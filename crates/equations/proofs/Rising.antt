@@ -1,5 +1,6 @@
 -- Where a formula rises with some letters: the marked letters stand neither in a divisor nor in a difference. Then each end of its pair
--- reading rises with them. Assumes nothing.
+-- reading rises with them. Where they do not stand in it at all, it reads the same, as every line does whatever the year's slot holds.
+-- Assumes nothing.
 use mathlib.Core.Path.{_≡_, refl, sym, _∙_, ap, ap₂}
 use mathlib.Core.Bool.{Bool, true, false, _&&_, not}
 use Prim.Native.Nat.{ℕ}
@@ -17,11 +18,13 @@ use Rattle.equations.specs.declared.Effect.{Effect}
 use Rattle.equations.specs.declared.Effect.the-variants.{Hazard, Cancer}
 use Rattle.equations.specs.declared.Stay.{Stay}
 use Rattle.equations.specs.declared.Stay.the-variants.{Within, Beyond}
+use Rattle.slots.specs.declared.Guidance.{Guidance}
 use Rattle.slots.specs.Slots.{Slot, same}
 use Rattle.equations.specs.Formula.{Letter, slot, rest, later, g-at-x, h-at-x, g-at-x′, Formula, letter, constant, _⊕_, _⊗_, _⊘_, read, pairs}
 use Rattle.equations.specs.Page as page
 use Rattle.equations.specs.Page.{Growth, x, x′}
 use Rattle.equations.specs.Readings.{Inputs, AtBoth, letters, noGrowth, plainWith, plain, exponents, grownAt, asAnswers, paceOf, pacesOf, pairGrowing, worked}
+use Rattle.equations.proofs.Guided.{guided}
 use Rattle.equations.proofs.Profile.{both}
 use Rattle.equations.proofs.Plain.{x-plain, x′-plain}
 
@@ -72,7 +75,7 @@ operands f (refused n) y r h = absurd (never h)
 same-pair : {o : Outcome Pair} (p q : Pair) → o ≡ is p → o ≡ is q → p ≡ q
 same-pair p q h k = cc
 
-module _ (mark : Letter → Bool) (env env' : Letter → Outcome Pair) (alike : (l : Letter) → mark l ≡ false → env l ≡ env' l) (risen : (l : Letter) → risingLetter mark l ≡ true → (p p' : Pair) → env l ≡ is p → env' l ≡ is p' → _≤ₑ_ p p') where
+module _ (mark : Letter → Bool) (env env' : Letter → Outcome Pair) (alike : (l : Letter) → mark l ≡ false → env l ≡ env' l) where
   pub steady-same : (f : Formula) → steady mark f ≡ true → read pairs env f ≡ read pairs env' f
   unfolding steady read pairs
   steady-same (letter l) h = alike l (not-true (mark l) h)
@@ -81,32 +84,33 @@ module _ (mark : Letter → Bool) (env env' : Letter → Outcome Pair) (alike : 
   steady-same (f ⊗ g) h = let t = both (steady mark f) (steady mark g) h in ap₂ (after product) (steady-same f (t .0)) (steady-same g (t .1))
   steady-same (f ⊘ g) h = let t = both (steady mark f) (steady mark g) h in ap₂ (after quotient) (steady-same f (t .0)) (steady-same g (t .1))
 
-  pub formula-rises : (f : Formula) → rising mark f ≡ true → (r r' : Pair) → read pairs env f ≡ is r → read pairs env' f ≡ is r' → _≤ₑ_ r r'
-  unfolding rising read pairs call Toward
-  formula-rises (letter l) h r r' a b = risen l h r r' a b
-  formula-rises (constant m e) h r r' a b = rw (same-pair r r' a b) (ends-itself r')
-  formula-rises (f ⊕ g) h r r' a b =
-      let t = both (rising mark f) (rising mark g) h in
-      let c = operands sum (read pairs env f) (read pairs env g) r a in
-      let d = operands sum (read pairs env' f) (read pairs env' g) r' b in
-      rises sums (c .first) (d .first) (c .second) (d .second) r r' (c .told) (d .told)
-      (formula-rises f (t .0) (c .first) (d .first) (c .first-is) (d .first-is))
-      (formula-rises g (t .1) (c .second) (d .second) (c .second-is) (d .second-is))
-  formula-rises (f ⊗ g) h r r' a b =
-      let t = both (rising mark f) (rising mark g) h in
-      let c = operands product (read pairs env f) (read pairs env g) r a in
-      let d = operands product (read pairs env' f) (read pairs env' g) r' b in
-      rises products (c .first) (d .first) (c .second) (d .second) r r' (c .told) (d .told)
-      (formula-rises f (t .0) (c .first) (d .first) (c .first-is) (d .first-is))
-      (formula-rises g (t .1) (c .second) (d .second) (c .second-is) (d .second-is))
-  formula-rises (f ⊘ g) h r r' a b =
-      let t = both (rising mark f) (steady mark g) h in
-      let c = operands quotient (read pairs env f) (read pairs env g) r a in
-      let d = operands quotient (read pairs env' f) (read pairs env' g) r' b in
-      let e : d .second ≡ c .second = same-pair (d .second) (c .second) (d .second-is) (sym (steady-same g (t .1)) ∙ c .second-is) in
-      rises quotients (c .first) (d .first) (c .second) (d .second) r r' (c .told) (d .told)
-      (formula-rises f (t .0) (c .first) (d .first) (c .first-is) (d .first-is))
-      (rw e (ends-itself (c .second)))
+  module _ (risen : (l : Letter) → risingLetter mark l ≡ true → (p p' : Pair) → env l ≡ is p → env' l ≡ is p' → _≤ₑ_ p p') where
+    pub formula-rises : (f : Formula) → rising mark f ≡ true → (r r' : Pair) → read pairs env f ≡ is r → read pairs env' f ≡ is r' → _≤ₑ_ r r'
+    unfolding rising read pairs call Toward
+    formula-rises (letter l) h r r' a b = risen l h r r' a b
+    formula-rises (constant m e) h r r' a b = rw (same-pair r r' a b) (ends-itself r')
+    formula-rises (f ⊕ g) h r r' a b =
+        let t = both (rising mark f) (rising mark g) h in
+        let c = operands sum (read pairs env f) (read pairs env g) r a in
+        let d = operands sum (read pairs env' f) (read pairs env' g) r' b in
+        rises sums (c .first) (d .first) (c .second) (d .second) r r' (c .told) (d .told)
+        (formula-rises f (t .0) (c .first) (d .first) (c .first-is) (d .first-is))
+        (formula-rises g (t .1) (c .second) (d .second) (c .second-is) (d .second-is))
+    formula-rises (f ⊗ g) h r r' a b =
+        let t = both (rising mark f) (rising mark g) h in
+        let c = operands product (read pairs env f) (read pairs env g) r a in
+        let d = operands product (read pairs env' f) (read pairs env' g) r' b in
+        rises products (c .first) (d .first) (c .second) (d .second) r r' (c .told) (d .told)
+        (formula-rises f (t .0) (c .first) (d .first) (c .first-is) (d .first-is))
+        (formula-rises g (t .1) (c .second) (d .second) (c .second-is) (d .second-is))
+    formula-rises (f ⊘ g) h r r' a b =
+        let t = both (rising mark f) (steady mark g) h in
+        let c = operands quotient (read pairs env f) (read pairs env g) r a in
+        let d = operands quotient (read pairs env' f) (read pairs env' g) r' b in
+        let e : d .second ≡ c .second = same-pair (d .second) (c .second) (d .second-is) (sym (steady-same g (t .1)) ∙ c .second-is) in
+        rises quotients (c .first) (d .first) (c .second) (d .second) r r' (c .told) (d .told)
+        (formula-rises f (t .0) (c .first) (d .first) (c .first-is) (d .first-is))
+        (rw e (ends-itself (c .second)))
 
 -- marked slots, and with them 1 less their values; neither T2 − tD nor g or h
 unfoldable pub marked : (Slot → Bool) → Letter → Bool
@@ -119,8 +123,12 @@ pub record Alike (mark : Slot → Bool) (env env' : Inputs Pair) : Type 0 where
   pub rest : (s : Slot) → mark s ≡ false → env .rest s ≡ env' .rest s
   pub later : env .later ≡ env' .later
 
--- Where the marked slots stand neither in x nor in x′, a formula rises with them as it is worked.
-module _ (mark : Slot → Bool) (free : (steady (marked mark) x ≡ true) × (steady (marked mark) x′ ≡ true)) (env env' : Inputs Pair) (alike : Alike mark env env') (risen : (s : Slot) → _≤ₑ_ (env .value s) (env' .value s)) where
+-- g and h at these exponents
+grownFrom : AtBoth (Outcome Pair) → AtBoth (Growth (Outcome Pair))
+grownFrom e = grownAt pairGrowing (record { at-x = paceOf (e .at-x); at-x′ = paceOf (e .at-x′) }) e
+
+-- Where the marked slots stand neither in x nor in x′, a formula that they do not stand in is worked the same, and one may rise with them.
+module _ (mark : Slot → Bool) (free : (steady (marked mark) x ≡ true) × (steady (marked mark) x′ ≡ true)) (env env' : Inputs Pair) (alike : Alike mark env env') where
   letter-same : (o o' : AtBoth (Growth (Outcome Pair))) → o ≡ o' → (l : Letter) → marked mark l ≡ false → letters (asAnswers env) o l ≡ letters (asAnswers env') o' l
   unfolding letters marked asAnswers
   letter-same o o' e (slot s) h = ap (λ (p : Pair). is p) (alike .value s h)
@@ -130,22 +138,9 @@ module _ (mark : Slot → Bool) (free : (steady (marked mark) x ≡ true) × (st
   letter-same o o' e h-at-x h = ap (λ (v : AtBoth (Growth (Outcome Pair))). v .at-x .h) e
   letter-same o o' e g-at-x′ h = ap (λ (v : AtBoth (Growth (Outcome Pair))). v .at-x′ .g) e
 
-  letter-risen : (o o' : AtBoth (Growth (Outcome Pair))) → o ≡ o' → (l : Letter) → risingLetter (marked mark) l ≡ true → (p p' : Pair) → letters (asAnswers env) o l ≡ is p → letters (asAnswers env') o' l ≡ is p' → _≤ₑ_ p p'
-  unfolding letters marked asAnswers risingLetter
-  letter-risen o o' e (slot s) t p p' h h' =
-      let i : env .value s ≡ p = cc in
-      let j : env' .value s ≡ p' = cc in
-      rw (← i, ← j) (risen s)
-  letter-risen o o' e (rest s) t p p' h h' =
-      rw (same-pair p p' (sym (ap (λ (q : Pair). is q) (alike .rest s (not-true (mark s) t))) ∙ h) h') (ends-itself p')
-  letter-risen o o' e later t p p' h h' = rw (same-pair p p' (sym (ap (λ (q : Pair). is q) (alike .later)) ∙ h) h') (ends-itself p')
-  letter-risen o o' e g-at-x t p p' h h' = rw (same-pair p p' (sym (ap (λ (v : AtBoth (Growth (Outcome Pair))). v .at-x .g) e) ∙ h) h') (ends-itself p')
-  letter-risen o o' e h-at-x t p p' h h' = rw (same-pair p p' (sym (ap (λ (v : AtBoth (Growth (Outcome Pair))). v .at-x .h) e) ∙ h) h') (ends-itself p')
-  letter-risen o o' e g-at-x′ t p p' h h' = rw (same-pair p p' (sym (ap (λ (v : AtBoth (Growth (Outcome Pair))). v .at-x′ .g) e) ∙ h) h') (ends-itself p')
-
   same-plain : (f : Formula) → steady (marked mark) f ≡ true → read pairs (letters (asAnswers env) (noGrowth pairs)) f ≡ read pairs (letters (asAnswers env') (noGrowth pairs)) f
   same-plain f h =
-      steady-same (marked mark) (letters (asAnswers env) (noGrowth pairs)) (letters (asAnswers env') (noGrowth pairs)) (letter-same (noGrowth pairs) (noGrowth pairs) refl) (letter-risen (noGrowth pairs) (noGrowth pairs) refl) f h
+      steady-same (marked mark) (letters (asAnswers env) (noGrowth pairs)) (letters (asAnswers env') (noGrowth pairs)) (letter-same (noGrowth pairs) (noGrowth pairs) refl) f h
 
   x-same : plain pairs (asAnswers env .value) x ≡ plain pairs (asAnswers env' .value) x
   x-same = sym (x-plain pairs (asAnswers env) (noGrowth pairs)) ∙ same-plain x (free .0) ∙ x-plain pairs (asAnswers env') (noGrowth pairs)
@@ -157,14 +152,56 @@ module _ (mark : Slot → Bool) (free : (steady (marked mark) x ≡ true) × (st
   unfolding exponents
   exponents-same = ap₂ (λ (a b : Outcome Pair). record { at-x = a; at-x′ = b }) x-same x′-same
 
-  pub worked-rises : (f : Formula) → rising (marked mark) f ≡ true → (r r' : Pair) → worked env f ≡ is r → worked env' f ≡ is r' → _≤ₑ_ r r'
-  unfolding worked pacesOf
-  worked-rises f h r r' a b =
-      let grown : AtBoth (Outcome Pair) → AtBoth (Growth (Outcome Pair)) = λ e. grownAt pairGrowing (record { at-x = paceOf (e .at-x); at-x′ = paceOf (e .at-x′) }) e in
-      let o : AtBoth (Growth (Outcome Pair)) = grown (exponents pairs (asAnswers env)) in
-      let o' : AtBoth (Growth (Outcome Pair)) = grown (exponents pairs (asAnswers env')) in
-      let e : o ≡ o' = ap grown exponents-same in
-      formula-rises (marked mark) (letters (asAnswers env) o) (letters (asAnswers env') o') (letter-same o o' e) (letter-risen o o' e) f h r r' a b
+  grown-same : grownFrom (exponents pairs (asAnswers env)) ≡ grownFrom (exponents pairs (asAnswers env'))
+  grown-same = ap grownFrom exponents-same
+
+  pub worked-same : (f : Formula) → steady (marked mark) f ≡ true → worked env f ≡ worked env' f
+  unfolding worked pacesOf grownFrom
+  worked-same f h =
+      let o : AtBoth (Growth (Outcome Pair)) = grownFrom (exponents pairs (asAnswers env)) in
+      let o' : AtBoth (Growth (Outcome Pair)) = grownFrom (exponents pairs (asAnswers env')) in
+      steady-same (marked mark) (letters (asAnswers env) o) (letters (asAnswers env') o') (letter-same o o' grown-same) f h
+
+  module _ (risen : (s : Slot) → _≤ₑ_ (env .value s) (env' .value s)) where
+    letter-risen : (o o' : AtBoth (Growth (Outcome Pair))) → o ≡ o' → (l : Letter) → risingLetter (marked mark) l ≡ true → (p p' : Pair) → letters (asAnswers env) o l ≡ is p → letters (asAnswers env') o' l ≡ is p' → _≤ₑ_ p p'
+    unfolding letters marked asAnswers risingLetter
+    letter-risen o o' e (slot s) t p p' h h' =
+        let i : env .value s ≡ p = cc in
+        let j : env' .value s ≡ p' = cc in
+        rw (← i, ← j) (risen s)
+    letter-risen o o' e (rest s) t p p' h h' =
+        rw (same-pair p p' (sym (ap (λ (q : Pair). is q) (alike .rest s (not-true (mark s) t))) ∙ h) h') (ends-itself p')
+    letter-risen o o' e later t p p' h h' = rw (same-pair p p' (sym (ap (λ (q : Pair). is q) (alike .later)) ∙ h) h') (ends-itself p')
+    letter-risen o o' e g-at-x t p p' h h' = rw (same-pair p p' (sym (ap (λ (v : AtBoth (Growth (Outcome Pair))). v .at-x .g) e) ∙ h) h') (ends-itself p')
+    letter-risen o o' e h-at-x t p p' h h' = rw (same-pair p p' (sym (ap (λ (v : AtBoth (Growth (Outcome Pair))). v .at-x .h) e) ∙ h) h') (ends-itself p')
+    letter-risen o o' e g-at-x′ t p p' h h' = rw (same-pair p p' (sym (ap (λ (v : AtBoth (Growth (Outcome Pair))). v .at-x′ .g) e) ∙ h) h') (ends-itself p')
+
+    pub worked-rises : (f : Formula) → rising (marked mark) f ≡ true → (r r' : Pair) → worked env f ≡ is r → worked env' f ≡ is r' → _≤ₑ_ r r'
+    unfolding worked pacesOf grownFrom
+    worked-rises f h r r' a b =
+        let o : AtBoth (Growth (Outcome Pair)) = grownFrom (exponents pairs (asAnswers env)) in
+        let o' : AtBoth (Growth (Outcome Pair)) = grownFrom (exponents pairs (asAnswers env')) in
+        formula-rises (marked mark) (letters (asAnswers env) o) (letters (asAnswers env') o') (letter-same o o' grown-same) (letter-risen o o' grown-same) f h r r' a b
+
+-- a test that passes on every line by intake
+onPathways : (Pathway → Bool) → Bool
+onPathways t = t Air && (t SoilSummer && (t SoilWinter && (t Skin && (t AboveGround && t BelowGround))))
+
+on-pathway : (t : Pathway → Bool) → onPathways t ≡ true → (p : Pathway) → t p ≡ true
+unfolding onPathways
+on-pathway t h Air = both (t Air) _ h .0
+on-pathway t h SoilSummer = both (t SoilSummer) _ (both (t Air) _ h .1) .0
+on-pathway t h SoilWinter = both (t SoilWinter) _ (both (t SoilSummer) _ (both (t Air) _ h .1) .1) .0
+on-pathway t h Skin = both (t Skin) _ (both (t SoilWinter) _ (both (t SoilSummer) _ (both (t Air) _ h .1) .1) .1) .0
+on-pathway t h AboveGround = both (t AboveGround) _ (both (t Skin) _ (both (t SoilWinter) _ (both (t SoilSummer) _ (both (t Air) _ h .1) .1) .1) .1) .0
+on-pathway t h BelowGround = both (t AboveGround) _ (both (t Skin) _ (both (t SoilWinter) _ (both (t SoilSummer) _ (both (t Air) _ h .1) .1) .1) .1) .1
+
+on-line : (t : Effect → Stay → Pathway → Bool) → onPathways (t Hazard Within) ≡ true → onPathways (t Hazard Beyond) ≡ true →
+    onPathways (t Cancer Within) ≡ true → onPathways (t Cancer Beyond) ≡ true → (e : Effect) (stay : Stay) (p : Pathway) → t e stay p ≡ true
+on-line t a b c d Hazard Within = on-pathway (t Hazard Within) a
+on-line t a b c d Hazard Beyond = on-pathway (t Hazard Beyond) b
+on-line t a b c d Cancer Within = on-pathway (t Cancer Within) c
+on-line t a b c d Cancer Beyond = on-pathway (t Cancer Beyond) d
 
 -- The emission rate Q
 unfoldable pub emission : Slot → Bool
@@ -174,39 +211,25 @@ x-steady : (steady (marked emission) x ≡ true) × (steady (marked emission) x�
 unfolding steady marked letters emission same x x′ page.k page.u page.kse page.ksr page.ksl
 x-steady = (refl, refl)
 
-line-rising : (e : Effect) (stay : Stay) (p : Pathway) → rising (marked emission) (page.line e stay p) ≡ true
-unfolding rising risingLetter steady marked letters emission same page.line page.figureBy page.intake page.intakeBy page.factor page.medium page.byMedium page.soil page.mean page.gathered page.exposure page.B page.AT page.reference page.referenceSlot page.byRoute page.A page.C page.D page.aboveGround page.belowGround x x′ page.k page.u page.kse page.ksr page.ksl
-line-rising Hazard Within Air = refl
-line-rising Hazard Within SoilSummer = refl
-line-rising Hazard Within SoilWinter = refl
-line-rising Hazard Within Skin = refl
-line-rising Hazard Within AboveGround = refl
-line-rising Hazard Within BelowGround = refl
-line-rising Hazard Beyond Air = refl
-line-rising Hazard Beyond SoilSummer = refl
-line-rising Hazard Beyond SoilWinter = refl
-line-rising Hazard Beyond Skin = refl
-line-rising Hazard Beyond AboveGround = refl
-line-rising Hazard Beyond BelowGround = refl
-line-rising Cancer Within Air = refl
-line-rising Cancer Within SoilSummer = refl
-line-rising Cancer Within SoilWinter = refl
-line-rising Cancer Within Skin = refl
-line-rising Cancer Within AboveGround = refl
-line-rising Cancer Within BelowGround = refl
-line-rising Cancer Beyond Air = refl
-line-rising Cancer Beyond SoilSummer = refl
-line-rising Cancer Beyond SoilWinter = refl
-line-rising Cancer Beyond Skin = refl
-line-rising Cancer Beyond AboveGround = refl
-line-rising Cancer Beyond BelowGround = refl
+intake-line-rising : (e : Effect) (stay : Stay) (p : Pathway) → rising (marked emission) (page.intakeLine e stay p) ≡ true
+unfolding onPathways rising risingLetter steady marked letters emission same page.intakeLine page.figureBy page.intake page.intakeBy page.factor page.medium page.byMedium page.soil page.mean page.gathered page.exposure page.B page.AT page.reference page.referenceSlot page.byRoute page.A page.C page.D page.aboveGround page.belowGround x x′ page.k page.u page.kse page.ksr page.ksl
+intake-line-rising = on-line (λ e stay p. rising (marked emission) (page.intakeLine e stay p)) refl refl refl refl
+
+air-line-rising : (e : Effect) → rising (marked emission) (page.airLine e) ≡ true
+unfolding rising risingLetter steady marked letters emission same page.airLine page.airFigureBy page.timeShare page.timeInAir page.AT page.reference page.referenceSlot page.byRoute page.A
+air-line-rising Hazard = refl
+air-line-rising Cancer = refl
+
+line-rising : (y : Guidance) (e : Effect) (stay : Stay) (p : Pathway) → rising (marked emission) (page.line y e stay p) ≡ true
+unfolding page.line
+line-rising y e stay p = guided (λ (f : Formula). rising (marked emission) f ≡ true) y p (page.airLine e) (page.intakeLine e stay p) (air-line-rising e) (intake-line-rising e stay p)
 
 -- Each end of every line rises with the printed Q, where all else is alike.
 pub line-rises : (env env' : Inputs Pair) → Alike emission env env' → (m m' : ℕ) (power power' : ℤ) → scaled m power ≤ᶠ scaled m' power' →
     ((s : Slot) → emission s ≡ true → (entry m power ≡ is (env .value s)) × (entry m' power' ≡ is (env' .value s))) →
-    (e : Effect) (stay : Stay) (p : Pathway) (r r' : Pair) → worked env (page.line e stay p) ≡ is r → worked env' (page.line e stay p) ≡ is r' → _≤ₑ_ r r'
-line-rises env env' alike m m' power power' more entered e stay p =
-    worked-rises emission x-steady env env' alike risen (page.line e stay p) (line-rising e stay p)
+    (y : Guidance) (e : Effect) (stay : Stay) (p : Pathway) (r r' : Pair) → worked env (page.line y e stay p) ≡ is r → worked env' (page.line y e stay p) ≡ is r' → _≤ₑ_ r r'
+line-rises env env' alike m m' power power' more entered y e stay p =
+    worked-rises emission x-steady env env' alike risen (page.line y e stay p) (line-rising y e stay p)
   where
     at : (s : Slot) (t : Bool) → emission s ≡ t → _≤ₑ_ (env .value s) (env' .value s)
     at s true h = entry-rises m m' power power' (env .value s) (env' .value s) (entered s h .0) (entered s h .1) more
@@ -214,3 +237,24 @@ line-rises env env' alike m m' power power' more entered e stay p =
 
     risen : (s : Slot) → _≤ₑ_ (env .value s) (env' .value s)
     risen s = at s (emission s) refl
+
+-- The year's slot stands in no formula, by either guidance.
+unfoldable pub theYear : Slot → Bool
+theYear s = same "year" s
+
+pub year-free : (steady (marked theYear) x ≡ true) × (steady (marked theYear) x′ ≡ true)
+unfolding steady marked letters theYear same x x′ page.k page.u page.kse page.ksr page.ksl
+year-free = (refl, refl)
+
+intake-line-steady : (e : Effect) (stay : Stay) (p : Pathway) → steady (marked theYear) (page.intakeLine e stay p) ≡ true
+unfolding onPathways steady marked letters theYear same page.intakeLine page.figureBy page.intake page.intakeBy page.factor page.medium page.byMedium page.soil page.mean page.gathered page.exposure page.B page.AT page.reference page.referenceSlot page.byRoute page.A page.C page.D page.aboveGround page.belowGround x x′ page.k page.u page.kse page.ksr page.ksl
+intake-line-steady = on-line (λ e stay p. steady (marked theYear) (page.intakeLine e stay p)) refl refl refl refl
+
+air-line-steady : (e : Effect) → steady (marked theYear) (page.airLine e) ≡ true
+unfolding steady marked letters theYear same page.airLine page.airFigureBy page.timeShare page.timeInAir page.AT page.reference page.referenceSlot page.byRoute page.A
+air-line-steady Hazard = refl
+air-line-steady Cancer = refl
+
+pub year-steady : (y : Guidance) (e : Effect) (stay : Stay) (p : Pathway) → steady (marked theYear) (page.line y e stay p) ≡ true
+unfolding page.line
+year-steady y e stay p = guided (λ (f : Formula). steady (marked theYear) f ≡ true) y p (page.airLine e) (page.intakeLine e stay p) (air-line-steady e) (intake-line-steady e stay p)

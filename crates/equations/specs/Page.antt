@@ -1,4 +1,4 @@
--- Document 01, "Loss and series", "Media" and "Six pathways", with document 02's P4 and P5: every formula, once, in its order and with its letters.
+-- Document 01, "Loss and series", "Media" and "Six pathways", with document 02's P4 to P6: every formula, once, in its order and with its letters.
 -- ⊗ and ⊘ bind alike and from the left, then ⊕ from the left.
 use lib.IntN.{pos, negsuc}
 use Rattle.equations.specs.declared.Pathway.{Pathway}
@@ -7,6 +7,8 @@ use Rattle.equations.specs.declared.Effect.{Effect}
 use Rattle.equations.specs.declared.Effect.the-variants.{Hazard, Cancer}
 use Rattle.equations.specs.declared.Stay.{Stay}
 use Rattle.equations.specs.declared.Stay.the-variants.{Within, Beyond}
+use Rattle.slots.specs.declared.Guidance.{Guidance}
+use Rattle.slots.specs.declared.Guidance.the-variants.{Of2005, Of2009}
 use Rattle.slots.specs.Slots.{Slot}
 use Rattle.equations.specs.Formula.{Formula, Algebra, letter, slot, constant, 1−, T2−tD, _⊕_, _⊗_, _⊘_}
 use Rattle.equations.specs.Series.{Series, phi, psi}
@@ -180,5 +182,31 @@ unfoldable pub figureBy : {A : Type 0} → (A → A → A) → (A → A → A) �
 figureBy times over Hazard intake rfd = over intake rfd
 figureBy times over Cancer intake csf = times intake csf
 
-unfoldable pub line : Effect → Stay → Pathway → Formula
-line e stay p = figureBy _⊗_ _⊘_ e (intake e stay p) (reference e p)
+unfoldable pub intakeLine : Effect → Stay → Pathway → Formula
+intakeLine e stay p = figureBy _⊗_ _⊘_ e (intake e stay p) (reference e p)
+
+-- Pathway 1 by the guidance of 2009 (P6) has no intake. Side by side, with their reference values:
+--   2005   IRinh × AFinh × ETinh × EFinh × ED / B × A   / RfDi, an RfD             × CSFi, a CSF
+--   2009                   ETinh × EFinh × ED / AT × A  / RfDi, an RfC in mg/m³    × 1000 × CSFi, a unit risk per µg/m³
+-- The factor of 2009 is the share of time that is spent in the air, and its product with A is a concentration.
+unfoldable pub timeInAir : Formula
+timeInAir = ETinh ⊗ EFinh ⊗ ED
+
+unfoldable pub timeShare : Effect → Formula
+timeShare e = timeInAir ⊘ AT e
+
+-- quotient = product / reference; risk = product × 1000 × unit risk, in any reading of ×, / and 1000
+unfoldable pub airFigureBy : {A : Type 0} → (A → A → A) → (A → A → A) → A → Effect → A → A → A
+airFigureBy times over thousand Hazard product reference = over product reference
+airFigureBy times over thousand Cancer product unitRisk = times (times product thousand) unitRisk
+
+unfoldable pub airLine : Effect → Formula
+airLine e = airFigureBy _⊗_ _⊘_ thousand e (timeShare e ⊗ A) (reference e Air)
+
+-- A line by the year's guidance: by 2005 pathway 1 is of an intake, by 2009 of a concentration in air; every other line is the same in both.
+unfoldable pub byGuidance : {A : Type 0} → Guidance → Pathway → A → A → A
+byGuidance Of2005 p inAir intake = intake
+byGuidance Of2009 p inAir intake = byRoute p inAir intake
+
+unfoldable pub line : Guidance → Effect → Stay → Pathway → Formula
+line guidance e stay p = byGuidance guidance p (airLine e) (intakeLine e stay p)
