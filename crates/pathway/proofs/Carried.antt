@@ -1,15 +1,27 @@
--- A refused dose is refused as a figure, with a reference value or without. Assumes nothing.
+-- A refused dose or exposure concentration is refused as a figure, with a reference value or without; and a quantity made of a pair has that pair.
+-- Assumes nothing.
 use Prim.Native.Nat.{ℕ}
-use mathlib.Core.Path.{_≡_, refl}
+use mathlib.Core.Path.{_≡_, refl, ap}
 use Rattle.pair.specs.declared.Pair.{Pair}
-use Rattle.pair.specs.Calls.{refused, mapped, after, afterOne}
+use Rattle.pair.specs.Calls.{Outcome, is, refused, mapped, after, afterOne}
 use Rattle.equations.specs.declared.Effect.{Effect}
 use Rattle.equations.specs.declared.Effect.the-variants.{Hazard, Cancer}
-use Rattle.equations.specs.Page.{figureBy}
-use Rattle.pathway.specs.Lines.{Optional, some, none, figureOf}
+use Rattle.equations.specs.Page.{figureBy, airFigureBy}
+use Rattle.pathway.specs.Lines.{Optional, some, none, figureOf, airFigureOf}
 
 pub refused-carried : (e : Effect) (n : ℕ) (reference : Optional Pair) → figureOf e (refused n) reference ≡ refused n
 unfolding figureOf figureBy mapped after afterOne
 refused-carried Hazard n (some v) = refl
 refused-carried Cancer n (some v) = refl
 refused-carried e n none = refl
+
+pub refused-in-air : (e : Effect) (n : ℕ) (reference : Optional Pair) → airFigureOf e (refused n) reference ≡ refused n
+unfolding airFigureOf airFigureBy mapped after afterOne
+refused-in-air Hazard n (some v) = refl
+refused-in-air Cancer n (some v) = refl
+refused-in-air e n none = refl
+
+pub pair-back : {A : Type 0} (pair : A → Pair) (quantity : Pair → A) → ((q : Pair) → pair (quantity q) ≡ q) → (o : Outcome Pair) → mapped pair (mapped quantity o) ≡ o
+unfolding mapped
+pair-back pair quantity same (is p) = ap (λ (q : Pair). is q) (same p)
+pair-back pair quantity same (refused n) = refl

@@ -14,10 +14,12 @@ use Rattle.equations.specs.Formula.{read, pairs}
 use Rattle.equations.specs.Page.{AT, B, exposure, factor, intakeBy, figureBy}
 use Rattle.equations.specs.Readings.{plain, plainWith, letters, inputs, byOwner, valueIn, noValues}
 use Rattle.media.specs.declared.Conc.{Conc}
+use Rattle.slots.specs.declared.Guidance.{Guidance}
 use Rattle.slots.specs.Slots.{table, same, isIn, placeIn, ownerOf, placeOf}
 use Rattle.pathway.specs.declared.Factor.{Factor}
 use Rattle.pathway.specs.declared.Dose.{Dose}
 use Rattle.pathway.specs.Lines.{some, workedFor, factorOf, doseOf, figureOf, workedOf, begins, onward, absorbedOf, shareOf, habitsOf, baseIn, begunIn, exposureWith, factorWith, figureIfGiven}
+use Rattle.pathway.proofs.Carried.{pair-back}
 
 -- a receptor's letters are read alike with any site and chemical
 pub base-alike : (s c r : Values) (e : Effect) → workedOf r (B e) ≡ workedFor s c r (B e)
@@ -36,50 +38,40 @@ begun-exposure s c r AboveGround = refl
 begun-exposure s c r BelowGround = refl
 
 -- ---- a receptor's own habits
-own-begun : (r : Values) (p : Pathway) → begunIn (habitsOf r) r p ≡ workedOf r (begins p)
+own-begun : (y : Guidance) (r : Values) (p : Pathway) → begunIn (habitsOf y r) r p ≡ workedOf r (begins p)
 unfolding begunIn habitsOf
-own-begun r Air = refl
-own-begun r SoilSummer = refl
-own-begun r SoilWinter = refl
-own-begun r Skin = refl
-own-begun r AboveGround = refl
-own-begun r BelowGround = refl
+own-begun y r Air = refl
+own-begun y r SoilSummer = refl
+own-begun y r SoilWinter = refl
+own-begun y r Skin = refl
+own-begun y r AboveGround = refl
+own-begun y r BelowGround = refl
 
-own-base : (r : Values) (e : Effect) → baseIn (habitsOf r) e ≡ workedOf r (B e)
+own-base : (y : Guidance) (r : Values) (e : Effect) → baseIn (habitsOf y r) e ≡ workedOf r (B e)
 unfolding baseIn habitsOf
-own-base r Hazard = refl
-own-base r Cancer = refl
+own-base y r Hazard = refl
+own-base y r Cancer = refl
 
 divided : (s c r : Values) (e : Effect) (p : Pathway) → after quotient (workedFor s c r (exposure p)) (workedFor s c r (B e)) ≡ workedFor s c r (factor e p)
 unfolding workedFor plain plainWith read pairs factor
 divided s c r e p = refl
 
-pub own-factor : (e : Effect) (p : Pathway) (s c r : Values) → factorWith (exposureWith (habitsOf r) p s (absorbedOf c) r) (baseIn (habitsOf r) e) ≡ factorOf e p s c r
+pub own-factor : (y : Guidance) (e : Effect) (p : Pathway) (s c r : Values) → factorWith (exposureWith (habitsOf y r) p s (absorbedOf c) r) (baseIn (habitsOf y r) e) ≡ factorOf e p s c r
 unfolding factorWith exposureWith factorOf
-own-factor e p s c r =
-    let x : exposureWith (habitsOf r) p s (absorbedOf c) r ≡ workedFor s c r (exposure p) = ap (onward (after product) (workedFor s noValues r) p (is (shareOf p (absorbedOf c)))) (own-begun r p) ∙ begun-exposure s c r p in
-    let b : baseIn (habitsOf r) e ≡ workedFor s c r (B e) = own-base r e ∙ base-alike s c r e in
+own-factor y e p s c r =
+    let x : exposureWith (habitsOf y r) p s (absorbedOf c) r ≡ workedFor s c r (exposure p) = ap (onward (after product) (workedFor s noValues r) p (is (shareOf p (absorbedOf c)))) (own-begun y r p) ∙ begun-exposure s c r p in
+    let b : baseIn (habitsOf y r) e ≡ workedFor s c r (B e) = own-base y r e ∙ base-alike s c r e in
     ap (λ (o : Outcome Pair). mapped (λ (q : Pair). record { 0 = q }) o) (ap₂ (after quotient) x b ∙ divided s c r e p)
 
 -- ---- a figure in one chain
-factor-back : (o : Outcome Pair) → mapped (λ (g : Factor). g .0) (mapped (λ (q : Pair). record { 0 = q }) o) ≡ o
-unfolding mapped
-factor-back (is p) = refl
-factor-back (refused n) = refl
-
-dose-back : (o : Outcome Pair) → mapped (λ (g : Dose). g .0) (mapped (λ (q : Pair). record { 0 = q }) o) ≡ o
-unfolding mapped
-dose-back (is p) = refl
-dose-back (refused n) = refl
-
 pub in-one-chain : (e : Effect) (x b : Outcome Pair) (m : Conc) (v : Pair) →
     mapped (λ (q : Pair). some q) (figureBy (after product) (after quotient) e (after product (after quotient x b) (is (m .0))) (is v)) ≡ figureIfGiven e (doseOf (factorWith x b) m) (some v)
 unfolding figureIfGiven figureOf doseOf factorWith intakeBy
 in-one-chain e x b m v =
     ap (λ (o : Outcome Pair). mapped (λ (q : Pair). some q) (figureBy (after product) (after quotient) e o (is v)))
     (sym
-    (dose-back (after product (mapped (λ (g : Factor). g .0) (mapped (λ (q : Pair). record { 0 = q }) (after quotient x b))) (is (m .0)))
-    ∙ ap (λ (o : Outcome Pair). after product o (is (m .0))) (factor-back (after quotient x b))))
+    (pair-back (λ (g : Dose). g .0) (λ (q : Pair). record { 0 = q }) (λ q. refl) (after product (mapped (λ (g : Factor). g .0) (mapped (λ (q : Pair). record { 0 = q }) (after quotient x b))) (is (m .0)))
+    ∙ ap (λ (o : Outcome Pair). after product o (is (m .0))) (pair-back (λ (g : Factor). g .0) (λ (q : Pair). record { 0 = q }) (λ q. refl) (after quotient x b))))
 
 -- without B there is no figure
 pub without-base : (e : Effect) (x : Answer) (m : Conc) (v : Pair) → refused 53 ≡ figureIfGiven e (doseOf (factorWith (answer x) (refused 53)) m) (some v)

@@ -1,9 +1,27 @@
 -- For the contracts of this crate's inner functions only.
 use Rattle.pair.specs.declared.Pair.{Pair}
-use Rattle.pair.specs.Calls.{Outcome, mapped, checked}
-use Rattle.pathway.specs.declared.Dose.{Dose}
-use Rattle.pathway.specs.Lines.{Optional, none}
+use mathlib.Core.Bool.{Bool, true, false}
+use Rattle.pair.specs.Calls.{Outcome, is, mapped, checked, after, quotient}
+use Rattle.equations.specs.declared.Pathway.{Pathway}
+use Rattle.equations.specs.Page.{byRoute}
+use Rattle.media.specs.declared.Conc.{Conc}
+use Rattle.pathway.specs.declared.References.{References}
+use Rattle.pathway.specs.declared.TimeShare.{TimeShare}
+use Rattle.pathway.specs.Lines.{Optional, none, Figured, airFiguresWith, airReferencesOf, Breathed, byDose, byTime}
 
--- a dose without a reference value
-unfoldable pub absentFor : Dose → Outcome (Optional Pair)
-absentFor d = mapped (λ (q : Pair). none) (checked (d .0))
+-- a dose, or an exposure concentration, without a reference value
+unfoldable pub absentFor : Pair → Outcome (Optional Pair)
+absentFor d = mapped (λ (q : Pair). none) (checked d)
+
+-- the time spent in the air / AT
+unfoldable pub shareWith : Outcome Pair → Outcome Pair → Outcome TimeShare
+shareWith spent averaging = mapped (λ (q : Pair). record { 0 = q }) (after quotient spent averaging)
+
+-- a pathway that is taken over a share of time, and its figures; none where the air is taken as a dose
+unfoldable pub isTimed : Breathed → Pathway → Bool
+isTimed byDose p = false
+isTimed (byTime t) p = byRoute p true false
+
+unfoldable pub timedFigures : Breathed → Conc → References → Figured
+timedFigures byDose air refs = record { hazard = is none; cancer = is none }
+timedFigures (byTime t) air refs = airFiguresWith t air (airReferencesOf refs)

@@ -1,7 +1,10 @@
 -- The six pathways of document 01 by the working rule. A concentration, an intake factor, a dose and a reference value are quantities of
--- their own: factor × concentration is a dose, a dose by an RfD is a quotient, and a dose times a CSF is a risk.
+-- their own: factor × concentration is a dose, a dose by an RfD is a quotient, and a dose times a CSF is a risk. By the guidance of 2009 (document
+-- 02, P6) the air is no dose: a share of time × the air's concentration is an exposure concentration, which goes by a reference concentration and a
+-- unit risk.
 use Rattle.pair.specs.declared.Pair.{Pair}
-use Rattle.pair.specs.Calls.{Outcome, is, refused, answer, mapped, checked, after, afterOne, product, quotient}
+use lib.IntN.{pos}
+use Rattle.pair.specs.Calls.{Outcome, is, refused, answer, mapped, checked, after, afterOne, entry, product, quotient}
 use Rattle.equations.specs.declared.Pathway.{Pathway}
 use Rattle.equations.specs.declared.Pathway.the-variants.{Air, SoilSummer, SoilWinter, Skin, AboveGround, BelowGround}
 use Rattle.equations.specs.declared.Effect.{Effect}
@@ -9,8 +12,10 @@ use Rattle.equations.specs.declared.Effect.the-variants.{Hazard, Cancer}
 use Rattle.equations.specs.declared.Values.{Values}
 use Rattle.equations.specs.Formula.{Formula, _⊕_, _⊗_, pairs}
 use Rattle.equations.specs.Letters.{FRsnow, ED, IRinh, ETinh, EFinh, IRsoil, ETsoil, EFs, EFw, SAb, SAFb, SAh, SAFh, ETderm, IRag, Fag, IRbg, Fbg, WP, EFp}
-use Rattle.equations.specs.Page.{perMillion, B, factor, byMedium, intakeBy, byRoute, figureBy}
+use Rattle.equations.specs.Page.{perMillion, B, factor, byMedium, intakeBy, byRoute, figureBy, timeShare, airFigureBy}
 use Rattle.equations.specs.Readings.{plain, inputs, valueIn, noValues}
+use Rattle.slots.specs.declared.Guidance.{Guidance}
+use Rattle.slots.specs.declared.Guidance.the-variants.{Of2005, Of2009}
 use Rattle.slots.specs.Slots.{placeOf}
 use Rattle.media.specs.declared.Conc.{Conc}
 use Rattle.media.specs.declared.Media.{Media}
@@ -32,6 +37,22 @@ use Rattle.pathway.specs.declared.Figure.the-variants as Figures
 use Rattle.pathway.specs.declared.Line.{Line}
 use Rattle.pathway.specs.declared.Absorbed.{Absorbed}
 use Rattle.pathway.specs.declared.Habits.{Habits}
+use Rattle.pathway.specs.declared.TimeShare.{TimeShare}
+use Rattle.pathway.specs.declared.AirExposure.{AirExposure}
+use Rattle.pathway.specs.declared.Rfc.{Rfc}
+use Rattle.pathway.specs.declared.UnitRisk.{UnitRisk}
+use Rattle.pathway.specs.declared.GivenRfc.{GivenRfc}
+use Rattle.pathway.specs.declared.GivenRfc.the-variants as Rfcs
+use Rattle.pathway.specs.declared.GivenUnitRisk.{GivenUnitRisk}
+use Rattle.pathway.specs.declared.GivenUnitRisk.the-variants as UnitRisks
+use Rattle.pathway.specs.declared.AirReferences.{AirReferences}
+use Rattle.pathway.specs.declared.Timed.{Timed}
+use Rattle.pathway.specs.declared.Timed.the-variants as Times
+use Rattle.pathway.specs.declared.Exposed.{Exposed}
+use Rattle.pathway.specs.declared.Exposed.the-variants as Exposures
+use Rattle.pathway.specs.declared.InAir.{InAir}
+use Rattle.pathway.specs.declared.Breathing.{Breathing}
+use Rattle.pathway.specs.declared.Breathing.the-variants as Breathings
 
 -- a value, or none where the reference value is missing
 pub data Optional (A : Type 0) : Type 0 where
@@ -63,6 +84,10 @@ csfGiven Csfs.Absent = none
 -- a formula read from the values of a site, a chemical and a receptor; no factor has a series or a difference in it
 unfoldable pub workedFor : Values → Values → Values → Formula → Outcome Pair
 workedFor s c r f = plain pairs (λ n. is (inputs s c r n)) f
+
+-- a formula with a receptor's letters alone
+unfoldable pub workedOf : Values → Formula → Outcome Pair
+workedOf r f = workedFor noValues noValues r f
 
 -- the intake factor, as the page writes it
 unfoldable pub factorOf : Effect → Pathway → Values → Values → Values → Outcome Factor
@@ -113,11 +138,102 @@ figuresOf p s c r highest mean refs =
       cancer = riskOf (doseOf (factorOf Cancer p s c r) (concentrationFor p mean)) (byRoute p (refs .«csf_i») (refs .«csf_o»));
     }
 
--- ---- what a receptor's lines share
--- a formula with a receptor's letters alone
-unfoldable pub workedOf : Values → Formula → Outcome Pair
-workedOf r f = workedFor noValues noValues r f
+-- ---- pathway 1 by the guidance of 2009
+unfoldable pub timed : Timed → Outcome TimeShare
+timed (Times.Is t) = is t
+timed Times.Refused = refused 53
 
+unfoldable pub exposed : Exposed → Outcome AirExposure
+exposed (Exposures.Is x) = is x
+exposed Exposures.Refused = refused 53
+
+unfoldable pub rfcGiven : GivenRfc → Optional Rfc
+rfcGiven (Rfcs.Is r) = some r
+rfcGiven Rfcs.Absent = none
+
+unfoldable pub unitRiskGiven : GivenUnitRisk → Optional UnitRisk
+unitRiskGiven (UnitRisks.Is r) = some r
+unitRiskGiven UnitRisks.Absent = none
+
+unfoldable pub rfcValue : Optional Rfc → Optional Pair
+rfcValue (some r) = some (r .0)
+rfcValue none = none
+
+unfoldable pub unitRiskValue : Optional UnitRisk → Optional Pair
+unitRiskValue (some r) = some (r .0)
+unitRiskValue none = none
+
+unfoldable pub asRfc : GivenRfd → GivenRfc
+asRfc (Rfds.Is r) = Rfcs.Is (record { 0 = r .0 })
+asRfc Rfds.Absent = Rfcs.Absent
+
+unfoldable pub asUnitRisk : GivenCsf → GivenUnitRisk
+asUnitRisk (Csfs.Is f) = UnitRisks.Is (record { 0 = f .0 })
+asUnitRisk Csfs.Absent = UnitRisks.Absent
+
+-- the share of the averaging time that a receptor spends in the air, as the page writes it
+unfoldable pub timeShareOf : Effect → Values → Outcome TimeShare
+timeShareOf e r = mapped (λ (q : Pair). record { 0 = q }) (workedOf r (timeShare e))
+
+-- the exposure concentration: share of time × the air's concentration
+unfoldable pub exposureOf : Outcome TimeShare → Conc → Outcome AirExposure
+exposureOf t c = mapped (λ (q : Pair). record { 0 = q }) (after product (mapped (λ (g : TimeShare). g .0) t) (is (c .0)))
+
+-- its figure with a reference value; none without one, if it is a pair
+unfoldable pub airFigureOf : Effect → Outcome AirExposure → Optional Pair → Outcome (Optional Pair)
+airFigureOf e x (some v) = mapped (λ (q : Pair). some q) (airFigureBy (after product) (after quotient) (entry 1000 (pos 0)) e (mapped (λ (g : AirExposure). g .0) x) (is v))
+airFigureOf e x none = mapped (λ (q : Pair). none) (afterOne checked (mapped (λ (g : AirExposure). g .0) x))
+
+-- quotient = exposure concentration / reference concentration
+unfoldable pub airQuotientOf : Outcome AirExposure → GivenRfc → Outcome (Optional Pair)
+airQuotientOf x rfc = airFigureOf Hazard x (rfcValue (rfcGiven rfc))
+
+-- risk = exposure concentration × 1000 × unit risk
+unfoldable pub airRiskOf : Outcome AirExposure → GivenUnitRisk → Outcome (Optional Pair)
+airRiskOf x unitRisk = airFigureOf Cancer x (unitRiskValue (unitRiskGiven unitRisk))
+
+-- the shares of time of a receptor's lines, hazard's and cancer's
+pub record SharesOfTime : Type 0 where
+  pub hazard : Outcome TimeShare
+  pub cancer : Outcome TimeShare
+
+unfoldable pub sharesOfTime : InAir → SharesOfTime
+sharesOfTime t = record { hazard = timed (t .hazard); cancer = timed (t .cancer) }
+
+unfoldable pub inAirOf : Values → SharesOfTime
+inAirOf r = record { hazard = timeShareOf Hazard r; cancer = timeShareOf Cancer r }
+
+-- an exposure concentration that is worked only where it has a reference value: none without one, whatever the share of time
+unfoldable pub airFigureIfGiven : Effect → Outcome AirExposure → Optional Pair → Outcome (Optional Pair)
+airFigureIfGiven e x (some v) = airFigureOf e x (some v)
+airFigureIfGiven e x none = is none
+
+-- the two figures of the line, from the receptor's shares of time
+unfoldable pub airFiguresWith : SharesOfTime → Conc → AirReferences → Figured
+airFiguresWith t air refs =
+    record {
+      hazard = airFigureIfGiven Hazard (exposureOf (t .hazard) air) (rfcValue (rfcGiven (refs .rfc)));
+      cancer = airFigureIfGiven Cancer (exposureOf (t .cancer) air) (unitRiskValue (unitRiskGiven (refs .«unit_risk»)));
+    }
+
+-- the slots RfDi and CSFi hold a reference concentration and a unit risk then
+unfoldable pub airReferencesOf : References → AirReferences
+airReferencesOf refs = record { rfc = asRfc (refs .«rfd_i»); «unit_risk» = asUnitRisk (refs .«csf_i») }
+
+-- how the air is taken: as a dose, by the guidance of 2005, or by that of 2009 over a share of time
+pub data Breathed : Type 0 where
+  byDose : Breathed
+  byTime : SharesOfTime → Breathed
+
+unfoldable pub breathed : Breathing → Breathed
+breathed Breathings.Dose = byDose
+breathed (Breathings.Time t) = byTime (sharesOfTime t)
+
+unfoldable pub breathedBy : Guidance → Values → Breathed
+breathedBy Of2005 r = byDose
+breathedBy Of2009 r = byTime (inAirOf r)
+
+-- ---- what a receptor's lines share
 -- what an exposure begins with, before the chemical's letter
 unfoldable pub begins : Pathway → Formula
 begins Air = IRinh
@@ -147,8 +263,9 @@ shareOf Skin a = a .dermal
 shareOf AboveGround a = a .oral
 shareOf BelowGround a = a .oral
 
--- B of each effect, the soil held on the skin and the produce eaten
+-- how the air is taken, B of each effect, the soil held on the skin and the produce eaten
 pub record Shared : Type 0 where
+  pub air : Breathed
   pub hazard : Outcome Pair
   pub cancer : Outcome Pair
   pub skin : Outcome Pair
@@ -158,6 +275,7 @@ pub record Shared : Type 0 where
 unfoldable pub shared : Habits → Shared
 shared h =
     record {
+      air = breathed (h .air);
       hazard = answer (h .hazard);
       cancer = answer (h .cancer);
       skin = answer (h .skin);
@@ -165,9 +283,10 @@ shared h =
       «below_ground» = answer (h .«below_ground»);
     }
 
-unfoldable pub habitsOf : Values → Shared
-habitsOf r =
+unfoldable pub habitsOf : Guidance → Values → Shared
+habitsOf guidance r =
     record {
+      air = breathedBy guidance r;
       hazard = workedOf r (B Hazard);
       cancer = workedOf r (B Cancer);
       skin = workedOf r (begins Skin);
@@ -199,11 +318,19 @@ unfoldable pub figureIfGiven : Effect → Outcome Dose → Optional Pair → Out
 figureIfGiven e d (some v) = figureOf e d (some v)
 figureIfGiven e d none = is none
 
--- a line's two figures, from what its receptor's lines share
-unfoldable pub figuresWith : Shared → Pathway → Values → Absorbed → Values → Media → Media → References → Figured
-figuresWith h p s a r highest mean refs =
+-- the two figures of a line of an intake, from what its receptor's lines share
+unfoldable pub doseFiguresWith : Shared → Pathway → Values → Absorbed → Values → Media → Media → References → Figured
+doseFiguresWith h p s a r highest mean refs =
     let exposure : Outcome Pair = exposureWith h p s a r in
     record {
       hazard = figureIfGiven Hazard (doseOf (factorWith exposure (baseIn h Hazard)) (concentrationFor p highest)) (rfdValue (rfdGiven (byRoute p (refs .«rfd_i») (refs .«rfd_o»))));
       cancer = figureIfGiven Cancer (doseOf (factorWith exposure (baseIn h Cancer)) (concentrationFor p mean)) (csfValue (csfGiven (byRoute p (refs .«csf_i») (refs .«csf_o»))));
     }
+
+-- a line's two figures: of an intake, or where the air is taken over a share of time, pathway 1's from that
+unfoldable pub figuresBy : Breathed → Pathway → Conc → References → Figured → Figured
+figuresBy byDose p air refs dosed = dosed
+figuresBy (byTime t) p air refs dosed = byRoute p (airFiguresWith t air (airReferencesOf refs)) dosed
+
+unfoldable pub figuresWith : Shared → Pathway → Values → Absorbed → Values → Media → Media → References → Figured
+figuresWith h p s a r highest mean refs = figuresBy (h .air) p (highest .air) refs (doseFiguresWith h p s a r highest mean refs)

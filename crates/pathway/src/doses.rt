@@ -8,10 +8,10 @@ use crate::GivenCsf;
 use crate::GivenRfd;
 use media::Conc;
 use pair::Answer;
+use pair::Pair;
 use pair::Step;
 ghost use mathlib.Core.Path.{_≡_};
 ghost use Rattle.equations.specs.declared.Effect.the-variants.{Hazard, Cancer};
-ghost use Rattle.pair.specs.declared.Pair.{Pair};
 ghost use Rattle.pair.specs.Calls.{answer, after, quotient, mapped};
 ghost use Rattle.pathway.specs.Lines.{factored, dosed, figure, some, rfdGiven, rfdValue, csfGiven, csfValue, factorWith, doseOf, quotientOf, riskOf, figureIfGiven};
 ghost use Rattle.pathway.specs.Inner.{absentFor};
@@ -40,7 +40,7 @@ pub(crate) fn dose_of(factor: Factored, medium: Conc) -> Dosed
 }
 
 // A worked figure.
-fn worked_figure(a: Answer) -> Figure
+pub(crate) fn worked_figure(a: Answer) -> Figure
     ensures { λ r. ⌜ figure r ≡ mapped (λ (q : Pair). some q) (answer a) ⌝ }
 {
     let Answer::Is(p) = a else {
@@ -50,10 +50,10 @@ fn worked_figure(a: Answer) -> Figure
 }
 
 // No reference value: no figure, if the dose is a pair.
-fn absent_figure(dose: Dose) -> Figure
+pub(crate) fn absent_figure(dose: Pair) -> Figure
     ensures { λ r. ⌜ figure r ≡ absentFor dose ⌝ }
 {
-    match dose.0.checked() {
+    match dose.checked() {
         Answer::Is(_) => Figure::Absent,
         Answer::Refused => Figure::Refused,
     }
@@ -67,7 +67,7 @@ pub(crate) fn quotient_of(dose: Dosed, rfd: GivenRfd) -> Figure
         return Figure::Refused;
     };
     let GivenRfd::Is(least) = rfd else {
-        return absent_figure(d);
+        return absent_figure(d.0);
     };
     worked_figure(d.0.quotient(least.0))
 }
@@ -80,7 +80,7 @@ pub(crate) fn risk_of(dose: Dosed, csf: GivenCsf) -> Figure
         return Figure::Refused;
     };
     let GivenCsf::Is(slope) = csf else {
-        return absent_figure(d);
+        return absent_figure(d.0);
     };
     worked_figure(d.0.product(slope.0))
 }

@@ -1,5 +1,6 @@
 //! What stands above and below the bar of an intake factor (document 01, "Six pathways").
 use crate::Absorbed;
+use crate::air::averaging_time;
 use equations::Effect;
 use equations::Pathway;
 use equations::Values;
@@ -10,7 +11,6 @@ use pair::Step;
 use slots::AF_DERM;
 use slots::AF_INH;
 use slots::AF_ORAL;
-use slots::ATC;
 use slots::BW;
 use slots::ED;
 use slots::EF_INH;
@@ -55,10 +55,7 @@ const PER_MILLION: Pair = Pair {
 pub(crate) fn base_of(r: Values, effect: Effect) -> Answer
     ensures { λ a. ⌜ answer a ≡ workedOf r (page.B effect) ⌝ }
 {
-    match effect {
-        Effect::Hazard => r.at(BW).times(Pair::entry(365, 0).times(r.at(ED))),
-        Effect::Cancer => r.at(BW).times(r.at(ATC)),
-    }
+    r.at(BW).times(averaging_time(r, effect))
 }
 
 // The shares absorbed of a chemical.

@@ -1,7 +1,17 @@
 //! The six pathways (document 01): from a receptor and a medium to intake factors, doses, hazard quotients and cancer risks.
+mod air;
 mod doses;
 mod exposure;
 
+use crate::air::as_rfc;
+use crate::air::as_unit_risk;
+use crate::air::cancer_in_air;
+use crate::air::exposed_of;
+use crate::air::hazard_in_air;
+use crate::air::quotient_in_air;
+use crate::air::risk_in_air;
+use crate::air::share_of_time;
+use crate::air::time_in_air;
 use crate::doses::cancer_from;
 use crate::doses::dose_of;
 use crate::doses::factor_of;
@@ -21,8 +31,10 @@ use media::Conc;
 use media::Media;
 use pair::Answer;
 use pair::Pair;
+use slots::Guidance;
 ghost use mathlib.Core.Path.{_≡_};
 ghost use mathlib.Core.Bool.{true, false};
+ghost use Rattle.pathway.specs.Inner as inner;
 ghost use Rattle.pathway.specs.Lines as specs;
 ghost use Rattle.equations.specs.Page as page;
 ghost use Rattle.pair.specs.Calls as calls;
@@ -89,13 +101,65 @@ pub struct Absorbed {
     pub dermal: Pair,
 }
 
-// What a receptor's lines share, whatever the chemical: B of each effect, the soil held on the skin and the produce eaten.
+// What a receptor's lines share, whatever the chemical: how the air is taken, B of each effect, the soil held on the skin and the produce eaten.
 pub struct Habits {
+    pub air: Breathing,
     pub hazard: Answer,
     pub cancer: Answer,
     pub skin: Answer,
     pub above_ground: Answer,
     pub below_ground: Answer,
+}
+
+// By the guidance of 2009 (document 02, P6) the air is no dose. The share of the averaging time that is spent in it, and the exposure
+// concentration, mg/m³: the air's over that share. Only this crate makes one.
+pub struct TimeShare(Pair);
+
+pub struct AirExposure(Pair);
+
+// A reference concentration, mg/m³, and a unit risk, per µg/m³.
+pub struct Rfc(pub Pair);
+
+pub struct UnitRisk(pub Pair);
+
+pub enum GivenRfc {
+    Is(Rfc),
+    Absent,
+}
+
+pub enum GivenUnitRisk {
+    Is(UnitRisk),
+    Absent,
+}
+
+// What the slots RfDi and CSFi hold by the guidance of 2009.
+pub struct AirReferences {
+    pub rfc: GivenRfc,
+    pub unit_risk: GivenUnitRisk,
+}
+
+// A share of time, or document 01's 53.
+pub enum Timed {
+    Is(TimeShare),
+    Refused,
+}
+
+// An exposure concentration, or document 01's 53.
+pub enum Exposed {
+    Is(AirExposure),
+    Refused,
+}
+
+// The shares of time of a receptor's lines, whatever the chemical.
+pub struct InAir {
+    pub hazard: Timed,
+    pub cancer: Timed,
+}
+
+// How the air is taken: as a dose, by the guidance of 2005, or by that of 2009 over a share of time.
+pub enum Breathing {
+    Dose,
+    Time(InAir),
 }
 
 // The concentration of a pathway's medium.
@@ -205,11 +269,22 @@ pub fn figures(
     }
 }
 
-// What the lines of a receptor share.
-pub fn habits_of(receptor: Values) -> Habits
-    ensures { λ r. ⌜ specs.shared r ≡ specs.habitsOf receptor ⌝ }
+// How a receptor takes the air.
+fn breathing_of(guidance: Guidance, receptor: Values) -> Breathing
+    ensures { λ r. ⌜ specs.breathed r ≡ specs.breathedBy guidance receptor ⌝ }
+{
+    match guidance {
+        Guidance::Of2005 => Breathing::Dose,
+        Guidance::Of2009 => Breathing::Time(in_air_of(receptor)),
+    }
+}
+
+// What the lines of a receptor share, by the year's guidance.
+pub fn habits_of(guidance: Guidance, receptor: Values) -> Habits
+    ensures { λ r. ⌜ specs.shared r ≡ specs.habitsOf guidance receptor ⌝ }
 {
     Habits {
+        air: breathing_of(guidance, receptor),
         hazard: base_of(receptor, Effect::Hazard),
         cancer: base_of(receptor, Effect::Cancer),
         skin: begun_of(receptor, Pathway::Skin),
@@ -232,7 +307,96 @@ fn begun_in(habits: Habits, receptor: Values, pathway: Pathway) -> Answer
     }
 }
 
-// Both figures of a line, from what the receptor's lines share; where a reference value is missing, no dose is worked.
+// The share of time that a receptor spends in the air, for hazard or for cancer.
+pub fn time_share(effect: Effect, receptor: Values) -> Timed
+    ensures { λ r. ⌜ specs.timed r ≡ specs.timeShareOf effect receptor ⌝ }
+{
+    share_of_time(time_in_air(receptor), receptor, effect)
+}
+
+// The exposure concentration: share of time × the air's concentration.
+pub fn exposure_concentration(share: TimeShare, air: Conc) -> Exposed
+    ensures { λ r. ⌜ specs.exposed r ≡ specs.exposureOf (calls.is share) air ⌝ }
+{
+    exposed_of(Timed::Is(share), air)
+}
+
+// The hazard quotient of an exposure concentration.
+pub fn air_hazard(exposure: AirExposure, rfc: GivenRfc) -> Figure
+    ensures { λ r. ⌜ specs.figure r ≡ specs.airQuotientOf (calls.is exposure) rfc ⌝ }
+{
+    quotient_in_air(Exposed::Is(exposure), rfc)
+}
+
+// The cancer risk of an exposure concentration.
+pub fn air_cancer(exposure: AirExposure, unit_risk: GivenUnitRisk) -> Figure
+    ensures { λ r. ⌜ specs.figure r ≡ specs.airRiskOf (calls.is exposure) «unit_risk» ⌝ }
+{
+    risk_in_air(Exposed::Is(exposure), unit_risk)
+}
+
+// The shares of time of a receptor's lines.
+pub fn in_air_of(receptor: Values) -> InAir
+    ensures { λ r. ⌜ specs.sharesOfTime r ≡ specs.inAirOf receptor ⌝ }
+{
+    let spent = time_in_air(receptor);
+    InAir {
+        hazard: share_of_time(spent, receptor, Effect::Hazard),
+        cancer: share_of_time(spent, receptor, Effect::Cancer),
+    }
+}
+
+// Both figures of pathway 1 by the guidance of 2009, from the receptor's shares of time.
+pub fn air_figures_with(in_air: InAir, air: Conc, references: AirReferences) -> Line
+    ensures { λ r. ⌜ specs.figured r ≡ specs.airFiguresWith (specs.sharesOfTime «in_air») air references ⌝ }
+{
+    let noncancer = in_air.hazard;
+    let rfc = references.rfc;
+    let lifetime = in_air.cancer;
+    let unit_risk = references.unit_risk;
+    Line {
+        hazard: hazard_in_air(noncancer, air, rfc),
+        cancer: cancer_in_air(lifetime, air, unit_risk),
+    }
+}
+
+// The slots RfDi and CSFi as the guidance of 2009 reads them: a reference concentration and a unit risk.
+pub fn air_references_of(references: References) -> AirReferences
+    ensures { λ r. ⌜ r ≡ specs.airReferencesOf references ⌝ }
+{
+    let rfd_i = references.rfd_i;
+    let csf_i = references.csf_i;
+    AirReferences {
+        rfc: as_rfc(rfd_i),
+        unit_risk: as_unit_risk(csf_i),
+    }
+}
+
+// Whether a pathway is taken over a share of time.
+fn is_timed(breathing: Breathing, pathway: Pathway) -> bool
+    ensures { λ r. ⌜ r ≡ inner.isTimed (specs.breathed breathing) pathway ⌝ }
+{
+    match breathing {
+        Breathing::Dose => false,
+        Breathing::Time(_) => is_inhaled(pathway),
+    }
+}
+
+// The figures of such a pathway.
+fn timed_figures(breathing: Breathing, air: Conc, references: References) -> Line
+    ensures { λ r. ⌜ specs.figured r ≡ inner.timedFigures (specs.breathed breathing) air references ⌝ }
+{
+    let Breathing::Time(in_air) = breathing else {
+        return Line {
+            hazard: Figure::Absent,
+            cancer: Figure::Absent,
+        };
+    };
+    air_figures_with(in_air, air, air_references_of(references))
+}
+
+// Both figures of a line, from what the receptor's lines share and as they take the air; where a reference value is missing, no dose is worked.
+// The doses' chain stands here and not in a function of its own: its arguments would be copied once more for each line.
 pub fn figures_with(
     habits: Habits,
     pathway: Pathway,
@@ -245,6 +409,11 @@ pub fn figures_with(
 ) -> Line
     ensures { λ r. ⌜ specs.figured r ≡ specs.figuresWith (specs.shared habits) pathway site absorbed receptor highest mean references ⌝ }
 {
+    let breathing = habits.air;
+    if is_timed(breathing, pathway) {
+        let air = highest.air;
+        return timed_figures(breathing, air, references);
+    }
     let exposure = exposure_from(
         site,
         receptor,
