@@ -34,7 +34,7 @@ use Rattle.deck.specs.Conditions.{Condition, at, first}
 use Rattle.totals.specs.declared.Columns.{Columns}
 use Rattle.totals.specs.declared.Columns.the-variants as Cols
 use Rattle.totals.specs.Totals.{_added_}
-use Rattle.sheet.specs.Values.{Scenario, restOf, valuesOf, particlesOf, chemicalIn, receptorIn, stayIn, printedIn, pairsAt}
+use Rattle.sheet.specs.Values.{Scenario, restOf, valuesOf, particlesOf, chemicalIn, receptorIn, stayIn, guidanceIn, printedIn, pairsAt}
 use Rattle.sheet.specs.Sheet.{pathwaysPerChemical, pathwayAt, hasReference, figureAt, unitOf, counted, countedIn, columnsAt, addedOver, totalAt, chained, highAbove, overCap, capOf, largeLines}
 use Rattle.sheet.specs.Counts.{tooMany, isRefused, groundFor, meanWith, meanFor, stopsAt, noMediaAt, sheetConditions, Part, Mark, Low, High, cellOf, cellsOf, totalIn, CountsMost}
 use Rattle.sheet.specs.DemandThree.{Exact}
@@ -113,7 +113,7 @@ none-first f (suc n) rest h = ap first (append-assoc (chained f n) (f n) rest) �
 pub conditions-agree : (scenario : Scenario) {exact : Exact} → Sound scenario exact → first (sheetConditions scenario) ≡ first (largeLines scenario)
 unfolding sheetConditions noMediaAt first
 conditions-agree scenario sound =
-    rw (few-records scenario sound)
+    rw (few-records scenario sound, sound .guided)
     (none-first (noMediaAt scenario) (scenario .chemicals .count) (largeLines scenario) (λ i h r. rw (none-refused scenario sound i h) refl))
 
 -- ---- a line with its reference value: the pair that the working rule gives, and its counts
@@ -190,7 +190,7 @@ module _ (scenario : Scenario) {exact : Exact} (sound : Sound scenario exact) (s
     unfolding columnsAt figureAt countedIn counted CountsMost
     columns-small =
         most-if (hasReference e scenario i (pathwayAt p)) e (figureAt e scenario j i (pathwayAt p))
-        (λ h. let f = figure h in rw (f .works .told, f .told) (count-small e (f .pair) (f .units) (exactly 256 (pacesOf (pairsAt scenario j i)) (exact j i) (page.line e (stayIn scenario j) (pathwayAt p))) (f .told) (f .works .held 256 (lit≤ tt)) (f .capped)))
+        (λ h. let f = figure h in rw (f .works .told, f .told) (count-small e (f .pair) (f .units) (exactly 256 (pacesOf (pairsAt scenario j i)) (exact j i) (page.line (guidanceIn scenario) e (stayIn scenario j) (pathwayAt p))) (f .told) (f .works .held 256 (lit≤ tt)) (f .capped)))
 
   pub total-small : (e : Effect) (j : ℕ) → j < scenario .receptors .count → CountsMost (96 * 10 ^ 16) (totalAt e scenario j)
   unfolding totalAt

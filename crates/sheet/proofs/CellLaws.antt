@@ -18,6 +18,7 @@ use Rattle.deck.proofs.Accepted.{tabulated}
 use Rattle.deck.proofs.CaseLaws.{length-tabulate}
 use Rattle.totals.specs.declared.Columns.{Columns}
 use Rattle.sheet.specs.declared.Receptor.{Receptor}
+use Rattle.sheet.specs.declared.Site.{Site}
 use Rattle.sheet.specs.declared.Sources.{Sources}
 use Rattle.sheet.specs.Values.{noReceptor}
 use Rattle.sheet.specs.Counts.{Part, Mark, Low, High, cellOf, sideOf, noCells}
@@ -178,7 +179,7 @@ module _ (base i : ℕ) (before after : List ℕ) (few : i < 16) (same : SameBut
     chemical-held e w q h = chemical-cell e w q h (ltb q (i * 6)) refl
 
 -- ---- a receptor's cells filled after those of the receptors before it
-module _ (site′ : Values) (sources : Sources) (list : List Receptor) (j : ℕ) (before after : List ℕ) (few : sources .count ≤ 16) where
+module _ (site′ : Site) (sources : Sources) (list : List Receptor) (j : ℕ) (before after : List ℕ) (few : sources .count ≤ 16) where
   -- a cell of an earlier receptor
   earlier : SameBelow (576 * j) before after → (i : ℕ) → i < j → (e : Effect) (w : Part) (q : ℕ) → q < 96
       → getD after (576 * i + 288 * sideOf e + 96 * partOf w + q) 0 ≡ getD before (576 * i + 288 * sideOf e + 96 * partOf w + q) 0

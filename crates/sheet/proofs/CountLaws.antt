@@ -22,11 +22,12 @@ use Rattle.deck.proofs.Accepted.{tabulated}
 use Rattle.deck.proofs.CaseLaws.{length-tabulate}
 use Rattle.totals.specs.declared.Columns.the-variants as Cols
 use Rattle.sheet.specs.Values.{Scenario, valuesOf, chemicalIn, receptorIn}
+use Rattle.sheet.specs.declared.Site.{Site}
 use Rattle.sheet.specs.declared.Source.{Source}
 use Rattle.sheet.specs.declared.Sources.{Sources}
 use Rattle.sheet.specs.Sheet.{chained, pathwayAt, columnsAt, overCap, linesPerReceptor, lineTooLarge, largeLines}
-use Rattle.sheet.specs.Counts.{tooMany, groundFor, meanFor, stopsAt, noMediaAt, sheetConditions, Part, cellOf, sideOf, effectAt, partAt, lineColumns, cellAt, cellsOf, noCells, cellsFor, sheetStatus, sheetCells}
-use Rattle.sheet.specs.Inner.{columnsOf, aboveCap, groundWith, sourceOf, sourcesOf, sourceAt, stopsWith, refusedSource, figuresFrom, figureFor, figuresWorked, columnsWorked, isLarge, largeLine, largeChemical, largeWorked, perReceptor, allLarge, partOf, CellsFilled, ZeroFrom}
+use Rattle.sheet.specs.Counts.{tooMany, noGuidance, groundFor, meanFor, stopsAt, noMediaAt, sheetConditions, Part, cellOf, sideOf, effectAt, partAt, lineColumns, cellAt, cellsOf, noCells, cellsFor, sheetStatus, sheetCells}
+use Rattle.sheet.specs.Inner.{columnsOf, aboveCap, groundWith, sourceOf, sourcesOf, sourceAt, stopsWith, refusedSource, siteOf, figuresFrom, figureFor, figuresWorked, columnsWorked, isLarge, largeLine, largeChemical, largeWorked, perReceptor, allLarge, partOf, CellsFilled, ZeroFrom}
 use Rattle.sheet.proofs.Chains.{chained-same, chained-each}
 use Rattle.sheet.proofs.ChemicalLaws.{source-at}
 use Rattle.sheet.proofs.SourceLaws.{line-figures}
@@ -43,7 +44,7 @@ column-place (suc (suc (suc (suc zero)))) h = refl
 column-place (suc (suc (suc (suc (suc zero))))) h = refl
 column-place (suc (suc (suc (suc (suc (suc c)))))) h = absurd (omega arith)
 
-module _ (scenario : Scenario) (site′ : Values) (sources : Sources) (cells : List ℕ) (count-is : sources .count ≡ scenario .chemicals .count)
+module _ (scenario : Scenario) (site′ : Site) (sources : Sources) (cells : List ℕ) (count-is : sources .count ≡ scenario .chemicals .count)
     (agree : (j q : ℕ) → j < scenario .receptors .count → q < scenario .chemicals .count * 6 → (e : Effect) → columnsWorked site′ sources j (receptorIn scenario j .values) q e ≡ columnsAt e scenario j (q / 6) (pathwayAt (q % 6)))
     (filled : CellsFilled site′ sources (scenario .receptors .list) (scenario .receptors .count) cells) (rest : ZeroFrom (576 * scenario .receptors .count) cells) where
   cell-is : (j q k : ℕ) (e : Effect) (w : Part) → k ≡ 576 * j + 288 * sideOf e + 96 * partOf w + q → 576 * j ≤ k → q < 96 → (t u : Bool) → ltb j (scenario .receptors .count) ≡ t
@@ -72,7 +73,7 @@ module _ (scenario : Scenario) (site′ : Values) (sources : Sources) (cells : L
       (λ k h. filled-at-place k (omega arith) ∙ sym (tabulated (cellAt scenario) 0 2304 k (omega arith)))
 
 -- ---- the lines of a scenario of which no chemical stops
-module _ (scenario : Scenario) (site′ : Values) (sources : Sources) (at-site : site′ ≡ valuesOf (scenario .site)) (sources-are : sources ≡ sourcesOf site′ (scenario .receptors) (scenario .chemicals))
+module _ (scenario : Scenario) (site′ : Site) (sources : Sources) (at-site : site′ ≡ siteOf (scenario .site)) (sources-are : sources ≡ sourcesOf (site′ .values) (scenario .receptors) (scenario .chemicals))
     (none : first (chained (noMediaAt scenario) (scenario .chemicals .count)) ≡ Read) where
   count-is : sources .count ≡ scenario .chemicals .count
   unfolding sourcesOf
@@ -85,13 +86,13 @@ module _ (scenario : Scenario) (site′ : Values) (sources : Sources) (at-site :
   -- the line of chemical i by pathway p
   module _ (j i p : ℕ) (l : j < scenario .receptors .count) (h : i < scenario .chemicals .count) where
     figures-are : figuresFrom site′ j (receptorIn scenario j .values) (sourceAt sources i) (pathwayAt p)
-        ≡ figuresFrom (valuesOf (scenario .site)) j (receptorIn scenario j .values) (sourceOf (valuesOf (scenario .site)) (scenario .receptors) (chemicalIn scenario i)) (pathwayAt p)
-    unfolding chemicalIn
+        ≡ figuresFrom (siteOf (scenario .site)) j (receptorIn scenario j .values) (sourceOf (valuesOf (scenario .site)) (scenario .receptors) (chemicalIn scenario i)) (pathwayAt p)
+    unfolding chemicalIn siteOf
     figures-are =
         let r : Values = receptorIn scenario j .values in
         ap (λ (x : Sources). figuresFrom site′ j r (sourceAt x i) (pathwayAt p)) sources-are
-        ∙ ap (λ (s : Source). figuresFrom site′ j r s (pathwayAt p)) (source-at site′ (scenario .receptors) (scenario .chemicals) i h)
-        ∙ ap (λ (v : Values). figuresFrom v j r (sourceOf v (scenario .receptors) (chemicalIn scenario i)) (pathwayAt p)) at-site
+        ∙ ap (λ (s : Source). figuresFrom site′ j r s (pathwayAt p)) (source-at (site′ .values) (scenario .receptors) (scenario .chemicals) i h)
+        ∙ ap (λ (v : Site). figuresFrom v j r (sourceOf (v .values) (scenario .receptors) (chemicalIn scenario i)) (pathwayAt p)) at-site
 
     figure-columns : (e : Effect) → columnsOf e (figureFor e (figuresFrom site′ j (receptorIn scenario j .values) (sourceAt sources i) (pathwayAt p))) ≡ columnsAt e scenario j i (pathwayAt p)
     figure-columns e = ap (λ (f : Figured). columnsOf e (figureFor e f)) figures-are ∙ line-figures scenario j i (pathwayAt p) l (media-found i h) e .0
@@ -149,29 +150,35 @@ module _ (scenario : Scenario) where
     unfolding tooMany
     many-receptors h cells none = many (rw (le-ltb 16 (scenario .chemicals .count) few-chemicals, lt-ltb 4 (scenario .receptors .count) h) refl) cells none
 
-    module _ (few-receptors : scenario .receptors .count ≤ 4) (site′ : Values) (at-site : site′ ≡ valuesOf (scenario .site)) where
+    -- 33
+    pub other-year : scenario .receptors .count ≤ 4 → noGuidance scenario ≡ true → (cells : List ℕ) → cells ≡ noCells → Told (Stopped 33 0 0) cells
+    unfolding sheetConditions first tooMany
+    other-year few h cells none =
+        stopped-counts (Stopped 33 0 0) 33 0 0 refl (rw (le-ltb 16 (scenario .chemicals .count) few-chemicals, le-ltb 4 (scenario .receptors .count) few, h) refl) cells none
+
+    module _ (few-receptors : scenario .receptors .count ≤ 4) (guided : noGuidance scenario ≡ false) (site′ : Site) (at-site : site′ ≡ siteOf (scenario .site)) where
       conditions-are : first (sheetConditions scenario) ≡ orElse (first (chained (noMediaAt scenario) (scenario .chemicals .count))) (first (largeLines scenario))
       unfolding sheetConditions first tooMany
       conditions-are =
-          rw (le-ltb 16 (scenario .chemicals .count) few-chemicals, le-ltb 4 (scenario .receptors .count) few-receptors)
+          rw (le-ltb 16 (scenario .chemicals .count) few-chemicals, le-ltb 4 (scenario .receptors .count) few-receptors, guided)
           (first-append (chained (noMediaAt scenario) (scenario .chemicals .count)) (largeLines scenario))
 
-      chemicals-agree : chained (refusedSource site′ (scenario .receptors) (scenario .chemicals .records)) (scenario .chemicals .count) ≡ chained (noMediaAt scenario) (scenario .chemicals .count)
-      unfolding refusedSource stopsWith noMediaAt groundWith groundFor meanFor chemicalIn receptorIn
+      chemicals-agree : chained (refusedSource (site′ .values) (scenario .receptors) (scenario .chemicals .records)) (scenario .chemicals .count) ≡ chained (noMediaAt scenario) (scenario .chemicals .count)
+      unfolding refusedSource stopsWith noMediaAt groundWith groundFor meanFor chemicalIn receptorIn siteOf
       chemicals-agree =
-          chained-same (refusedSource site′ (scenario .receptors) (scenario .chemicals .records)) (noMediaAt scenario) (scenario .chemicals .count)
-          (λ i h. ap (λ (v : Values). refusedSource v (scenario .receptors) (scenario .chemicals .records) i) at-site)
+          chained-same (refusedSource (site′ .values) (scenario .receptors) (scenario .chemicals .records)) (noMediaAt scenario) (scenario .chemicals .count)
+          (λ i h. ap (λ (v : Site). refusedSource (v .values) (scenario .receptors) (scenario .chemicals .records) i) at-site)
 
       -- 53
-      pub chemical-stops : (s : Status) → s ≡ first (chained (refusedSource site′ (scenario .receptors) (scenario .chemicals .records)) (scenario .chemicals .count)) → (number line field : ℕ)
+      pub chemical-stops : (s : Status) → s ≡ first (chained (refusedSource (site′ .values) (scenario .receptors) (scenario .chemicals .records)) (scenario .chemicals .count)) → (number line field : ℕ)
           → s ≡ Stopped number line field → (cells : List ℕ) → cells ≡ noCells → Told s cells
       unfolding orElse
       chemical-stops s is-first number line field stop cells none =
           let here : first (chained (noMediaAt scenario) (scenario .chemicals .count)) ≡ Stopped number line field = sym (is-first ∙ ap first chemicals-agree) ∙ stop in
           stopped-counts s number line field stop (stop ∙ sym (conditions-are ∙ ap (λ (t : Status). orElse t (first (largeLines scenario))) here)) cells none
 
-      module _ (sources : Sources) (sources-are : sources ≡ sourcesOf site′ (scenario .receptors) (scenario .chemicals))
-          (ready : first (chained (refusedSource site′ (scenario .receptors) (scenario .chemicals .records)) (scenario .chemicals .count)) ≡ Read) where
+      module _ (sources : Sources) (sources-are : sources ≡ sourcesOf (site′ .values) (scenario .receptors) (scenario .chemicals))
+          (ready : first (chained (refusedSource (site′ .values) (scenario .receptors) (scenario .chemicals .records)) (scenario .chemicals .count)) ≡ Read) where
         pub sources-few : sources .count ≤ 16
         unfolding sourcesOf
         sources-few = rw sources-are few-chemicals

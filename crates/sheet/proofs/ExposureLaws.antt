@@ -68,7 +68,7 @@ pub record Told (v : Value) : Type 0 where
   pub told : (digits : ℕ) (power : ℤ) → v ≡ Printed power digits → years.printed digits power ≡ is (printedYears v)
   pub exact : Exactly (printedYears v) (fractionOf v)
 
-module _ (rule : Rule) (u : rule .used ≡ true) (d : rule .dash ≡ false) (z : rule .zero ≡ false) (most : rule .most ≤ 1000000000) where
+module _ (rule : Rule) (b : rule .blank ≡ false) (d : rule .dash ≡ false) (z : rule .zero ≡ false) (most : rule .most ≤ 1000000000) where
   digits-told : (m : ℕ) (e : ℤ) → inRange rule m e ≡ true → Spelled m e → (y : Years) × (years.printed m e ≡ is y)
   digits-told m e r s =
       let some : 0 < m = range-positive rule m e r z in
@@ -78,7 +78,7 @@ module _ (rule : Rule) (u : rule .used ≡ true) (d : rule .dash ≡ false) (z :
   pub printed-exactly : (v : Value) → Fits rule v → Told v
   unfolding printedYears fractionOf orNone
   printed-exactly v f =
-      let g = needed rule v f u d in
+      let g = needed rule v f b d in
       let h = digits-told (g .digits) (g .power) (g .ranged) (g .spelled) in
       let y : Years = h .0 in
       rw (g .printed)

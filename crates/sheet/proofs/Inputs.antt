@@ -19,8 +19,9 @@ use Rattle.pair.specs.Number.{depth, place}
 use Rattle.pair.specs.Calls.{is, entry, oneMinusEntry, zeroPair, onePair}
 use Rattle.pair.specs.Promises.{Sized, scaled}
 use Rattle.pair.proofs.Promises.{one-entry, one-less-one, entry-answered, entry-around, scaled-proper, rest-entry-answered, rest-entry-around, rest-scaled-proper, rest-scaled-sized}
-use Rattle.slots.specs.Slots.{Slot, table, same, isIn, ownerOf, placeOf, ruleOf, ruleFor, neverZero, atMostOne}
+use Rattle.slots.specs.Slots.{Slot, table, same, isIn, placeIn, ruleIn, ruleAt, ownerOf, placeOf, ruleOf, ruleFor, neverZero, atMostOne}
 use Rattle.slots.specs.declared.Sort.{Sort}
+use Rattle.slots.specs.declared.Sort.the-variants.{Ordinary, Composite}
 use Rattle.slots.specs.declared.Rule.{Rule}
 use Rattle.slots.specs.declared.Owner.{Owner}
 use Rattle.slots.specs.declared.Owner.the-variants.{Site, Chemical, Receptor}
@@ -35,11 +36,12 @@ use Rattle.deck.specs.declared.Value.the-variants.{Absent, Printed}
 use Rattle.deck.specs.declared.Filled.{Filled}
 use Rattle.deck.specs.declared.Record.{Record}
 use Rattle.deck.specs.Ranges.{above, below, inRange}
-use Rattle.deck.specs.Cases.{noSlot, valueAt, chemicalAt, receptorAt, ownersRecord, printed}
+use Rattle.deck.specs.Cases.{noSlot, valueAt, chemicalAt, receptorAt, ownersRecord, printed, isOtherYear}
 use Rattle.deck.specs.Ranged.{Spelled, Fits, Ranged}
-use Rattle.deck.proofs.Accepted.{range-positive, range-bounds, range-most}
+use Rattle.deck.proofs.Accepted.{range-positive, range-bounds, range-most, year-right}
 use Rattle.sheet.specs.declared.Receptors.{Receptors}
 use Rattle.sheet.specs.Values.{Scenario, orOne, pairOf, restOf, valuesOf, noReceptor, chemicalIn, receptorIn, stayIn, printedIn, pairsAt, scenarioWith, fractionOf, exactWith}
+use Rattle.sheet.specs.Counts.{noGuidance}
 use Rattle.sheet.proofs.Sound.{Sound}
 
 -- digits × 10^power as a field spells it, in the range of slot s
@@ -229,6 +231,16 @@ module _ (sort : Sort) (case : Case) (ranged : Ranged sort case) where
     rest-by Chemical x f z = left-good sort s (valueAt (chemicalAt case i) (placeOf s)) f z
     rest-by Receptor x f z = absurd (false≢true z)
 
+  -- the site's year is that of a guidance
+  year-rule : (t : Sort) → ruleFor t "year" .year ≡ true
+  unfolding ruleFor ruleAt ruleIn ownerOf placeOf placeIn isIn same table
+  year-rule Ordinary = refl
+  year-rule Composite = refl
+
+  year-named : isOtherYear (valueAt (case .site) (placeOf "year")) ≡ false
+  unfolding printed ownersRecord ownerOf isIn same table
+  year-named = year-right (ruleFor sort "year") (valueAt (case .site) (placeOf "year")) (ranged .fits 0 0 (ranged .some-receptors) (ranged .some-chemicals) "year") (year-rule sort)
+
   module _ (receptors′ : Receptors) (receptor : ℕ → Slot → Fraction) where
     input-ranged : (i : ℕ) → i < case .chemicals .count → (s : Slot) (j : ℕ)
         → (ownerOf s ≡ Receptor → Good (ofSlot s) (is (valueIn (getD (receptors′ .list) j noReceptor .values) (placeOf s))) (receptor j s))
@@ -245,12 +257,13 @@ module _ (sort : Sort) (case : Case) (ranged : Ranged sort case) where
         → ((j : ℕ) → j < receptors′ .count → ofLater (getD (receptors′ .list) j noReceptor .stay) .answered ≡ true
         → Good (ofLater (getD (receptors′ .list) j noReceptor .stay)) (is (getD (receptors′ .list) j noReceptor .later)) (minus (receptor j "T2") (fractionOf (valueAt (case .site) (placeOf "tD")))))
         → Sound (scenarioWith case receptors′) (exactWith case receptor)
-    unfolding scenarioWith pairsAt stayIn receptorIn exactWith byOwner ownerOf isIn same table
+    unfolding scenarioWith pairsAt stayIn receptorIn exactWith noGuidance byOwner ownerOf isIn same table
     made-sound some few good later-good =
         record {
           few-chemicals = ranged .few-chemicals;
           some-receptors = some;
           few-receptors = few;
+          guided = year-named;
           inputs = λ j i h l s. input-ranged i l s j (good j h s);
           later = λ j i h l t. later-good j h t;
         }

@@ -1,5 +1,5 @@
--- The crate's laws: what is worked against what is defined, what cells hold, that 41 is not told (`WithoutLaws`), and demand 3 of a case
--- (`DemandThree`). Assumes nothing.
+-- The crate's laws: what is worked against what is defined, what cells hold, that 41 is not told (`WithoutLaws`), demand 3 of a case
+-- (`DemandThree`), and that 2005 as the year is the same as none (`YearLaws`). Assumes nothing.
 mod ValueLaws
 pub mod Chains
 pub mod WithoutLaws
@@ -19,3 +19,4 @@ mod TotalLaws
 mod LineTotals
 pub mod CaseLaws
 pub mod DemandThree
+pub mod YearLaws

@@ -24,7 +24,7 @@ use Rattle.equations.specs.Readings.{pacesOf, exactly}
 use Rattle.equations.proofs.LineLaws.{Works, line-works, line-narrow}
 use Rattle.deck.specs.Ranges.{above, below}
 use Rattle.totals.specs.declared.Columns.the-variants as Cols
-use Rattle.sheet.specs.Values.{Scenario, stayIn, pairsAt}
+use Rattle.sheet.specs.Values.{Scenario, stayIn, guidanceIn, pairsAt}
 use Rattle.sheet.specs.Sheet.{hasReference, figureAt, unitOf, capOf, counted, countedIn, columnsAt, isAbove, highAbove, overCap}
 use Rattle.sheet.specs.DemandThree.{Exact, Enclosed, unitsPerOne, inUnitsOf, nothing, exactLine, lineCounts}
 use Rattle.sheet.proofs.Sound.{Sound}
@@ -139,38 +139,38 @@ enclosed-from l h n x q a b c =
 -- the line's pair, at most the cap, and its counts
 pub record Figure (scenario : Scenario) (exact : Exact) (j i : ℕ) (e : Effect) (w : Pathway) : Type 0 where
   pub pair : Pair
-  pub works : Works (stayIn scenario j) (pairsAt scenario j i) (exact j i) (line e (stayIn scenario j) w) pair
+  pub works : Works (stayIn scenario j) (pairsAt scenario j i) (exact j i) (line (guidanceIn scenario) e (stayIn scenario j) w) pair
   pub capped : value (pair .high) ≤ᶠ value (capOf e)
   pub units : pairUnits.Units
   pub told : inUnits pair (unitOf e) ≡ is units
 
 module _ (scenario : Scenario) {exact : Exact} (sound : Sound scenario exact) (j i : ℕ) (j-small : j < scenario .receptors .count) (i-small : i < scenario .chemicals .count) where
-  figure-works : (e : Effect) (w : Pathway) → (r : Pair) × Works (stayIn scenario j) (pairsAt scenario j i) (exact j i) (line e (stayIn scenario j) w) r
-  figure-works e w = line-works (stayIn scenario j) (pairsAt scenario j i) (exact j i) (sound .inputs j i j-small i-small) (sound .later j i j-small i-small) e w
+  figure-works : (e : Effect) (w : Pathway) → (r : Pair) × Works (stayIn scenario j) (pairsAt scenario j i) (exact j i) (line (guidanceIn scenario) e (stayIn scenario j) w) r
+  figure-works e w = line-works (stayIn scenario j) (pairsAt scenario j i) (exact j i) (sound .inputs j i j-small i-small) (sound .later j i j-small i-small) (guidanceIn scenario) e w
 
   pub figure-counted : (e : Effect) (w : Pathway) → highAbove (capOf e) (figureAt e scenario j i w) ≡ false → Figure scenario exact j i e w
   unfolding figureAt
   figure-counted e w c =
       let r : Pair = figure-works e w .0 in
-      let k : Works (stayIn scenario j) (pairsAt scenario j i) (exact j i) (line e (stayIn scenario j) w) r = figure-works e w .1 in
+      let k : Works (stayIn scenario j) (pairsAt scenario j i) (exact j i) (line (guidanceIn scenario) e (stayIn scenario j) w) r = figure-works e w .1 in
       let b : value (r .high) ≤ᶠ value (capOf e) = not-above (capOf e) r (cap-number e) (k .pair) (subst (λ (o : Outcome Pair). highAbove (capOf e) o ≡ false) (k .told) c) in
       let a = units-answered r (unitOf e) (k .pair) (unit-reach e) (through (value-proper (capOf e)) b (cap-units e 9999999999999999999 (lit≤ tt))) in
       record { pair = r; works = k; capped = b; units = a .0; told = a .1 }
 
   figure-totals : (e : Effect) (w : Pathway) → highAbove (capOf e) (figureAt e scenario j i w) ≡ false → (N : ℕ) → 256 ≤ N →
-      Totals (countedIn (unitOf e) (figureAt e scenario j i w)) 1 (inUnitsOf e (exactly N (pacesOf (pairsAt scenario j i)) (exact j i) (line e (stayIn scenario j) w)))
+      Totals (countedIn (unitOf e) (figureAt e scenario j i w)) 1 (inUnitsOf e (exactly N (pacesOf (pairsAt scenario j i)) (exact j i) (line (guidanceIn scenario) e (stayIn scenario j) w)))
   unfolding figureAt countedIn counted Totals
   figure-totals e w c N n =
       let f : Figure scenario exact j i e w = figure-counted e w c in
-      let x : Fraction = exactly N (pacesOf (pairsAt scenario j i)) (exact j i) (line e (stayIn scenario j) w) in
+      let x : Fraction = exactly N (pacesOf (pairsAt scenario j i)) (exact j i) (line (guidanceIn scenario) e (stayIn scenario j) w) in
       let q : Enclosed (f .units .low) (f .units .high) 1 (inUnitsOf e x) =
-      line-enclosed e (f .pair) (f .units) x (f .told) (f .works .held N n) (line-narrow (stayIn scenario j) (pairsAt scenario j i) (exact j i) e w (f .pair) (f .works))
+      line-enclosed e (f .pair) (f .units) x (f .told) (f .works .held N n) (line-narrow (stayIn scenario j) (pairsAt scenario j i) (exact j i) (guidanceIn scenario) e w (f .pair) (f .works))
       in
       let s = count-small e (f .pair) (f .units) x (f .told) (f .works .held N n) (f .capped) in
       rw (f .works .told, f .told) (enclosed-from _ _ (f .units) (inUnitsOf e x) q (omega arith) (omega (arith, s)) (omega (arith, q .close)))
 
   by-reference : (t : Bool) (e : Effect) (w : Pathway) → (t && highAbove (capOf e) (figureAt e scenario j i w)) ≡ false → (N : ℕ) → 256 ≤ N →
-      Totals (cond t (countedIn (unitOf e) (figureAt e scenario j i w)) Cols.Absent) (cond t 1 0) (cond t (inUnitsOf e (exactly N (pacesOf (pairsAt scenario j i)) (exact j i) (line e (stayIn scenario j) w))) nothing)
+      Totals (cond t (countedIn (unitOf e) (figureAt e scenario j i w)) Cols.Absent) (cond t 1 0) (cond t (inUnitsOf e (exactly N (pacesOf (pairsAt scenario j i)) (exact j i) (line (guidanceIn scenario) e (stayIn scenario j) w))) nothing)
   by-reference true e w c N n = figure-totals e w c N n
   by-reference false e w c N n = totals-none
 

@@ -19,6 +19,7 @@ use Rattle.deck.specs.declared.Status.the-variants.{Read, Stopped}
 use Rattle.deck.specs.Conditions.{first}
 use Rattle.totals.specs.declared.Columns.{Columns}
 use Rattle.sheet.specs.declared.Receptor.{Receptor}
+use Rattle.sheet.specs.declared.Site.{Site}
 use Rattle.sheet.specs.declared.Source.{Source}
 use Rattle.sheet.specs.declared.Sources.{Sources}
 use Rattle.sheet.specs.Values.{noReceptor}
@@ -27,13 +28,13 @@ use Rattle.sheet.specs.Inner.{noSource, sourceAt, columnsOf, meanAt, fig
 use Rattle.sheet.proofs.Chains.{goes-on, stops}
 
 -- A chemical's line, as it is worked from what its receptor's lines share.
-module _ (site′ : Values) (j : ℕ) (r : Values) (source : Source) (blank : Media) (here : j < length (source .means)) (h : Shared) (p : ℕ) (w : Pathway) (figured′ : Figured) (own : h ≡ habitsOf r) (way : w ≡ pathwayAt p)
-    (worked : figured′ ≡ figuresWith h w site′ (source .absorbed) r (source .media) (getD (source .means) j blank) (source .references)) where
+module _ (site′ : Site) (j : ℕ) (r : Values) (source : Source) (blank : Media) (here : j < length (source .means)) (h : Shared) (p : ℕ) (w : Pathway) (figured′ : Figured) (own : h ≡ habitsOf (site′ .guidance) r) (way : w ≡ pathwayAt p)
+    (worked : figured′ ≡ figuresWith h w (site′ .values) (source .absorbed) r (source .media) (getD (source .means) j blank) (source .references)) where
   figures-are : figured′ ≡ figuresFrom site′ j r source (pathwayAt p)
   unfolding figuresFrom meanAt
   figures-are =
       worked
-      ∙ ap₂ (λ (x : Shared) (m : Media). figuresWith x w site′ (source .absorbed) r (source .media) m (source .references)) own (read-any (source .means) j here blank noMedia)
+      ∙ ap₂ (λ (x : Shared) (m : Media). figuresWith x w (site′ .values) (source .absorbed) r (source .media) m (source .references)) own (read-any (source .means) j here blank noMedia)
       ∙ ap (figuresFrom site′ j r source) way
 
   pub large-is : (b : Bool) → b ≡ isLarge figured′ → b ≡ isLarge (figuresFrom site′ j r source (pathwayAt p))
@@ -44,7 +45,7 @@ module _ (site′ : Values) (j : ℕ) (r : Values) (source : Source) (blank : Me
   columns-are e u q = q ∙ ap (λ (f : Figured). columnsOf e (figureFor e f)) figures-are
 
 -- 42 at it
-module _ (site′ : Values) (j : ℕ) (r : Values) (source : Source) (before p : ℕ) (none : first (chained (largeLine site′ j r source before) p) ≡ Read) where
+module _ (site′ : Site) (j : ℕ) (r : Values) (source : Source) (before p : ℕ) (none : first (chained (largeLine site′ j r source before) p) ≡ Read) where
   pub line-fits : isLarge (figuresFrom site′ j r source (pathwayAt p)) ≡ false → first (chained (largeLine site′ j r source before) (p + 1)) ≡ Read
   unfolding largeLine first
   line-fits h = goes-on (largeLine site′ j r source before) p none Read (rw h refl) refl
@@ -56,7 +57,7 @@ module _ (site′ : Values) (j : ℕ) (r : Values) (source : Source) (before p :
       stops (largeLine site′ j r source before) p none (Stopped 42 (before + (p + 1)) 0) here 6 l 42 (before + (p + 1)) 0 refl
 
 -- Chemical after chemical.
-module _ (site′ : Values) (j : ℕ) (r : Values) (sources : Sources) (blank : Source) (i : ℕ) (here : i < length (sources .list)) where
+module _ (site′ : Site) (j : ℕ) (r : Values) (sources : Sources) (blank : Source) (i : ℕ) (here : i < length (sources .list)) where
   source-is : getD (sources .list) i blank ≡ sourceAt sources i
   unfolding sourceAt
   source-is = read-any (sources .list) i here blank noSource
@@ -83,7 +84,7 @@ module _ (site′ : Values) (j : ℕ) (r : Values) (sources : Sources) (blank : 
         stops (λ k. largeChemical site′ j r (sourceAt sources k) (before + k * 6)) i none s chemical-is (sources .count) l number line field q
 
 -- Receptor after receptor.
-module _ (site′ : Values) (sources : Sources) (list : List Receptor) (blank : Receptor) (j : ℕ) (here : j < length list) (r : Values)
+module _ (site′ : Site) (sources : Sources) (list : List Receptor) (blank : Receptor) (j : ℕ) (here : j < length list) (r : Values)
     (is-receptor : r ≡ getD list j blank .values) where
   pub receptor-is : r ≡ getD list j noReceptor .values
   receptor-is = is-receptor ∙ ap (λ (x : Receptor). x .values) (read-any list j here blank noReceptor)

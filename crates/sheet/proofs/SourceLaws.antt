@@ -1,11 +1,14 @@
 -- What the crates below work for a chemical and for its lines is the page read from the scenario's slots: for every scenario that the chemical does
 -- not stop, each line's columns and its cap are those of the definitions. Assumes nothing.
-use mathlib.Core.Path.{_≡_, refl, sym, _∙_, ap, ap₂}
+use mathlib.Core.Path.{_≡_, refl, sym, _∙_, ap, ap₂, subst}
 use mathlib.Core.Bool.{false, cond, _&&_, true≢false}
 use Prim.Native.Nat.{ℕ, _-_, _<_}
+use lib.IntN.{pos}
 use lib.ListN.{getD, replicate}
 use Rattle.pair.specs.declared.Pair.{Pair}
-use Rattle.pair.specs.Calls.{Outcome, is, refused, mapped, after, product, quotient}
+use Rattle.pair.specs.Calls.{Outcome, is, refused, mapped, after, entry, product, quotient}
+use Rattle.slots.specs.declared.Guidance.{Guidance}
+use Rattle.slots.specs.declared.Guidance.the-variants.{Of2005, Of2009}
 use Rattle.slots.specs.Slots.{Slot, table, same, isIn, placeIn, ownerOf, placeOf}
 use Rattle.equations.specs.declared.Pathway.{Pathway}
 use Rattle.equations.specs.declared.Pathway.the-variants.{Air, SoilSummer, SoilWinter, Skin, AboveGround, BelowGround}
@@ -13,9 +16,9 @@ use Rattle.equations.specs.declared.Effect.{Effect}
 use Rattle.equations.specs.declared.Effect.the-variants.{Hazard, Cancer}
 use Rattle.equations.specs.declared.Values.{Values}
 use Rattle.equations.specs.declared.Stay.{Stay}
-use Rattle.equations.specs.Formula.{read, pairs}
+use Rattle.equations.specs.Formula.{Formula, read, pairs}
 use Rattle.equations.specs.Page as page
-use Rattle.equations.specs.Page.{byRoute, byMedium, figureBy, intakeBy, referenceSlot}
+use Rattle.equations.specs.Page.{byRoute, byMedium, figureBy, airFigureBy, intakeBy, referenceSlot}
 use Rattle.equations.specs.Readings.{Inputs, letters, noGrowth, plainWith, plain, asAnswers, worked, byOwner, inputs}
 use Rattle.media.specs.declared.Conc.{Conc}
 use Rattle.media.specs.declared.Media.{Media}
@@ -24,18 +27,20 @@ use Rattle.media.specs.Media.{mediaInputs, mediaIn, groundOf, meanMedia, noMedi
 use Rattle.media.proofs.Means.{Told, four-told, ground-highest, mean-media}
 use Rattle.pathway.specs.declared.Factor.{Factor}
 use Rattle.pathway.specs.declared.Dose.{Dose}
-use Rattle.pathway.specs.Lines.{Optional, some, none, workedFor, factorOf, concentrationFor, doseOf, figureOf, rfdGiven, csfGiven, rfdValue, csfValue, absorbedOf, habitsOf, figureIfGiven, figuresWith}
+use Rattle.pathway.specs.declared.References.{References}
+use Rattle.pathway.specs.Lines.{Optional, some, none, Figured, workedFor, workedOf, factorOf, concentrationFor, doseOf, figureOf, rfdGiven, csfGiven, rfdValue, csfValue, rfcGiven, unitRiskGiven, rfcValue, unitRiskValue, asRfc, asUnitRisk, timeShareOf, exposureOf, inAirOf, airFigureIfGiven, airFiguresWith, airReferencesOf, breathedBy, absorbedOf, habitsOf, figureIfGiven, doseFiguresWith, figuresBy, figuresWith}
 use Rattle.pathway.proofs.HabitLaws.{own-factor}
+use Rattle.pathway.proofs.AirLaws.{time-share-alike, air-figure-page}
 use Rattle.deck.specs.declared.Record.{Record}
 use Rattle.deck.specs.declared.Value.{Value}
 use Rattle.deck.specs.declared.Value.the-variants.{Absent, Printed}
 use Rattle.deck.specs.Cases.{valueAt}
 use Rattle.totals.specs.declared.Columns.the-variants as Cols
 use Rattle.sheet.specs.declared.Source.{Source}
-use Rattle.sheet.specs.Values.{Scenario, pairOf, restOf, valuesOf, particlesOf, noReceptor, chemicalIn, receptorIn, stayIn, printedIn, pairsAt}
+use Rattle.sheet.specs.Values.{Scenario, pairOf, restOf, valuesOf, particlesOf, noReceptor, chemicalIn, receptorIn, stayIn, guidanceIn, printedIn, pairsAt}
 use Rattle.sheet.specs.Sheet.{isPrinted, hasReference, figureAt, unitOf, capOf, countedIn, columnsAt, highAbove, overCap}
 use Rattle.sheet.specs.Counts.{isRefused, groundFor, meanWith, meanFor, stopsAt}
-use Rattle.sheet.specs.Inner.{columnsOf, aboveCap, mediaFrom, groundWith, meansOf, rfdOf, csfOf, referencesOf, sourceWith, sourceFrom, sourceOf, meanAt, figuresFrom, figureFor}
+use Rattle.sheet.specs.Inner.{columnsOf, aboveCap, mediaFrom, groundWith, meansOf, rfdOf, csfOf, referencesOf, sourceWith, sourceFrom, sourceOf, siteOf, meanAt, figuresFrom, figureFor}
 use Rattle.deck.proofs.Accepted.{filled-at}
 use Rattle.sheet.proofs.AnyLaws.{none-of}
 use Rattle.sheet.proofs.Inputs.{OfSource, pair-printed}
@@ -156,8 +161,8 @@ module _ (scenario : Scenario) (j i : ℕ) (e : Effect) (p : Pathway) (m : Conc)
       ∙ ap (λ (o : Outcome Pair). after product (worked (pairsAt scenario j i) (page.factor e p)) o) (sym medium-is)
 
 -- ---- a figure
-line-by : (e : Effect) (stay : Stay) (p : Pathway) (v : Inputs Pair) → worked v (page.line e stay p) ≡ figureBy (after product) (after quotient) e (worked v (page.intake e stay p)) (is (v .value (referenceSlot e p)))
-unfolding worked asAnswers read pairs letters page.line figureBy page.reference
+line-by : (e : Effect) (stay : Stay) (p : Pathway) (v : Inputs Pair) → worked v (page.intakeLine e stay p) ≡ figureBy (after product) (after quotient) e (worked v (page.intake e stay p)) (is (v .value (referenceSlot e p)))
+unfolding worked asAnswers read pairs letters page.intakeLine figureBy page.reference
 line-by Hazard stay p v = refl
 line-by Cancer stay p v = refl
 
@@ -210,15 +215,15 @@ unfolding referenceSlot OfSource ownerOf table same isIn
 reference-source Hazard p = by-route (λ (s : Slot). OfSource (ownerOf s)) p "RfDi" "RfDo" tt tt
 reference-source Cancer p = by-route (λ (s : Slot). OfSource (ownerOf s)) p "CSFi" "CSFo" tt tt
 
--- a line's figure from its dose and what is printed for its reference value
-figure-for : (e : Effect) (p : Pathway) (s c r : Values) (m n : Media) (chemical : Record) →
-    figureFor e (figuresWith (habitsOf r) p s (absorbedOf c) r m n (referencesOf chemical)) ≡ figureIfGiven e (doseOf (factorOf e p s c r) (concentrationFor p (mediaBy e m n))) (optional (referenceAt e p chemical))
-unfolding figureFor figuresWith referencesOf referenceAt mediaBy
-figure-for Hazard p s c r m n chemical =
-    ap₂ (λ (f : Outcome Factor) (v : Optional Pair). figureIfGiven Hazard (doseOf f (concentrationFor p m)) v) (own-factor Hazard p s c r)
+-- the figure of an intake's line from its dose and what is printed for its reference value
+figure-for : (y : Guidance) (e : Effect) (p : Pathway) (s c r : Values) (m n : Media) (chemical : Record) →
+    figureFor e (doseFiguresWith (habitsOf y r) p s (absorbedOf c) r m n (referencesOf chemical)) ≡ figureIfGiven e (doseOf (factorOf e p s c r) (concentrationFor p (mediaBy e m n))) (optional (referenceAt e p chemical))
+unfolding figureFor doseFiguresWith referencesOf referenceAt mediaBy
+figure-for y Hazard p s c r m n chemical =
+    ap₂ (λ (f : Outcome Factor) (v : Optional Pair). figureIfGiven Hazard (doseOf f (concentrationFor p m)) v) (own-factor y Hazard p s c r)
     (ap (λ x. rfdValue (rfdGiven x)) (sym (routed rfdOf p (valueAt chemical (placeOf "RfDi")) (valueAt chemical (placeOf "RfDo")))) ∙ rfd-optional (referenceAt Hazard p chemical))
-figure-for Cancer p s c r m n chemical =
-    ap₂ (λ (f : Outcome Factor) (v : Optional Pair). figureIfGiven Cancer (doseOf f (concentrationFor p n)) v) (own-factor Cancer p s c r)
+figure-for y Cancer p s c r m n chemical =
+    ap₂ (λ (f : Outcome Factor) (v : Optional Pair). figureIfGiven Cancer (doseOf f (concentrationFor p n)) v) (own-factor y Cancer p s c r)
     (ap (λ x. csfValue (csfGiven x)) (sym (routed csfOf p (valueAt chemical (placeOf "CSFi")) (valueAt chemical (placeOf "CSFo")))) ∙ csf-optional (referenceAt Cancer p chemical))
 
 -- its columns and its cap
@@ -232,28 +237,153 @@ unfolding aboveCap mapped highAbove
 cap-some e (is p) = refl
 cap-some e (refused n) = refl
 
-figure-columns : (e : Effect) (d : Outcome Dose) (v : Value) →
-    (columnsOf e (figureIfGiven e d (optional v)) ≡ cond (isPrinted v) (countedIn (unitOf e) (figureBy (after product) (after quotient) e (mapped (λ (g : Dose). g .0) d) (is (pairOf v)))) Cols.Absent)
-    × (aboveCap e (figureIfGiven e d (optional v)) ≡ (isPrinted v && highAbove (capOf e) (figureBy (after product) (after quotient) e (mapped (λ (g : Dose). g .0) d) (is (pairOf v)))))
-unfolding figureIfGiven figureOf optional isPrinted columnsOf aboveCap
-figure-columns e d Absent = (refl, refl)
-figure-columns e d (Printed power digits) =
-    let o : Outcome Pair = figureBy (after product) (after quotient) e (mapped (λ (g : Dose). g .0) d) (is (pairOf (Printed power digits))) in
-    (columns-some e o, cap-some e o)
+-- a figure that is worked from its reference value, where there is one
+module _ (e : Effect) (f : Optional Pair → Outcome (Optional Pair)) (o : Pair → Outcome Pair) (without : f none ≡ is none) (with-one : (v : Pair) → f (some v) ≡ mapped (λ (q : Pair). some q) (o v)) where
+  figure-columns : (v : Value) →
+      (columnsOf e (f (optional v)) ≡ cond (isPrinted v) (countedIn (unitOf e) (o (pairOf v))) Cols.Absent)
+      × (aboveCap e (f (optional v)) ≡ (isPrinted v && highAbove (capOf e) (o (pairOf v))))
+  unfolding optional isPrinted columnsOf aboveCap
+  figure-columns Absent = (rw without refl, rw without refl)
+  figure-columns (Printed power digits) =
+      let v : Pair = pairOf (Printed power digits) in
+      (ap (columnsOf e) (with-one v) ∙ columns-some e (o v), ap (aboveCap e) (with-one v) ∙ cap-some e (o v))
+
+-- ---- pathway 1 by the guidance of 2009
+time-read : (e : Effect) (scenario : Scenario) (j i : ℕ) → workedOf (receptorIn scenario j .values) (page.timeShare e) ≡ worked (pairsAt scenario j i) (page.timeShare e)
+unfolding workedFor worked plain plainWith noGrowth read letters pairs asAnswers pairsAt page.timeShare page.timeInAir page.AT
+time-read Hazard scenario j i = time-share-alike (valuesOf (scenario .site)) (valuesOf (chemicalIn scenario i)) (receptorIn scenario j .values) Hazard
+time-read Cancer scenario j i = time-share-alike (valuesOf (scenario .site)) (valuesOf (chemicalIn scenario i)) (receptorIn scenario j .values) Cancer
+
+air-line-by : (e : Effect) (v : Inputs Pair) →
+    worked v (page.airLine e) ≡ airFigureBy (after product) (after quotient) (entry 1000 (pos 0)) e (after product (worked v (page.timeShare e)) (worked v page.A)) (is (v .value (referenceSlot e Air)))
+unfolding worked asAnswers read pairs letters page.airLine airFigureBy page.reference
+air-line-by Hazard v = refl
+air-line-by Cancer v = refl
+
+rfc-optional : (v : Value) → rfcValue (rfcGiven (asRfc (rfdOf v))) ≡ optional v
+unfolding rfcValue rfcGiven asRfc rfdOf optional
+rfc-optional Absent = refl
+rfc-optional (Printed power digits) = refl
+
+unit-risk-optional : (v : Value) → unitRiskValue (unitRiskGiven (asUnitRisk (csfOf v))) ≡ optional v
+unfolding unitRiskValue unitRiskGiven asUnitRisk csfOf optional
+unit-risk-optional Absent = refl
+unit-risk-optional (Printed power digits) = refl
+
+air-figure-for : (e : Effect) (r : Values) (air : Conc) (chemical : Record) →
+    figureFor e (airFiguresWith (inAirOf r) air (airReferencesOf (referencesOf chemical))) ≡ airFigureIfGiven e (exposureOf (timeShareOf e r) air) (optional (referenceAt e Air chemical))
+unfolding figureFor airFiguresWith inAirOf airReferencesOf referencesOf referenceAt byRoute
+air-figure-for Hazard r air chemical = ap (airFigureIfGiven Hazard (exposureOf (timeShareOf Hazard r) air)) (rfc-optional (valueAt chemical (placeOf "RfDi")))
+air-figure-for Cancer r air chemical = ap (airFigureIfGiven Cancer (exposureOf (timeShareOf Cancer r) air)) (unit-risk-optional (valueAt chemical (placeOf "CSFi")))
 
 -- ---- a line of a scenario whose chemical does not stop it
+-- figures are a formula's, for one effect: their columns and their cap
+abbrev Agrees : Scenario → ℕ → ℕ → Effect → Pathway → Figured → Formula → Type 0
+Agrees scenario j i e p f g =
+    (columnsOf e (figureFor e f) ≡ cond (hasReference e scenario i p) (countedIn (unitOf e) (worked (pairsAt scenario j i) g)) Cols.Absent)
+    × (aboveCap e (figureFor e f) ≡ (hasReference e scenario i p && highAbove (capOf e) (worked (pairsAt scenario j i) g)))
+
+module _ (scenario : Scenario) (j i : ℕ) (e : Effect) (ground : Ground) (laid : groundFor scenario i ≡ is ground) (mean : Media) (mean-is : meanFor scenario i j ground ≡ is mean) where
+  site′ : Values
+  site′ = valuesOf (scenario .site)
+
+  chemical′ : Values
+  chemical′ = valuesOf (chemicalIn scenario i)
+
+  receptor′ : Values
+  receptor′ = receptorIn scenario j .values
+
+  references′ : References
+  references′ = referencesOf (chemicalIn scenario i)
+
+  -- of an intake
+  module _ (y : Guidance) (p : Pathway) where
+    dosed : Figured
+    dosed = doseFiguresWith (habitsOf y receptor′) p site′ (absorbedOf chemical′) receptor′ (ground .highest) mean references′
+
+    dose : Outcome Dose
+    dose = doseOf (factorOf e p site′ chemical′ receptor′) (concentrationFor p (mediaBy e (ground .highest) mean))
+
+    value : Value
+    value = printedIn scenario i (referenceSlot e p)
+
+    intake-is : mapped (λ (g : Dose). g .0) dose ≡ worked (pairsAt scenario j i) (page.intake e (stayIn scenario j) p)
+    unfolding dose factor site′ chemical′ receptor′
+    intake-is = dose-is scenario j i e p (concentrationFor p (mediaBy e (ground .highest) mean)) (medium-told scenario j i ground laid mean mean-is e p)
+
+    figure-is : figureBy (after product) (after quotient) e (mapped (λ (g : Dose). g .0) dose) (is (pairOf value)) ≡ worked (pairsAt scenario j i) (page.intakeLine e (stayIn scenario j) p)
+    unfolding value
+    figure-is =
+        ap (λ (o : Outcome Pair). figureBy (after product) (after quotient) e o (is (pairOf value))) intake-is
+        ∙ ap (λ (q : Pair). figureBy (after product) (after quotient) e (worked (pairsAt scenario j i) (page.intake e (stayIn scenario j) p)) (is q)) (sym (pair-printed scenario j i (referenceSlot e p) (reference-source e p)))
+        ∙ sym (line-by e (stayIn scenario j) p (pairsAt scenario j i))
+
+    figured : figureFor e dosed ≡ figureIfGiven e dose (optional value)
+    unfolding dosed dose value site′ chemical′ receptor′ references′
+    figured =
+        figure-for y e p site′ chemical′ receptor′ (ground .highest) mean (chemicalIn scenario i)
+        ∙ ap (λ (v : Value). figureIfGiven e dose (optional v)) (sym (reference-printed scenario i e p))
+
+    intake-agrees : Agrees scenario j i e p dosed (page.intakeLine e (stayIn scenario j) p)
+    unfolding hasReference value figureIfGiven figureOf
+    intake-agrees =
+        let c = figure-columns e (figureIfGiven e dose) (λ v. figureBy (after product) (after quotient) e (mapped (λ (g : Dose). g .0) dose) (is v)) refl (λ v. refl) value in (
+          ap (columnsOf e) figured ∙ c .0 ∙ ap (λ (o : Outcome Pair). cond (isPrinted value) (countedIn (unitOf e) o) Cols.Absent) figure-is,
+          ap (aboveCap e) figured ∙ c .1 ∙ ap (λ (o : Outcome Pair). isPrinted value && highAbove (capOf e) o) figure-is,
+        )
+
+  -- of a concentration in air
+  air : Conc
+  air = ground .highest .air
+
+  inAir : Figured
+  inAir = airFiguresWith (inAirOf receptor′) air (airReferencesOf references′)
+
+  inhaled : Value
+  inhaled = printedIn scenario i (referenceSlot e Air)
+
+  air-is : airFigureBy (after product) (after quotient) (entry 1000 (pos 0)) e (after product (workedOf receptor′ (page.timeShare e)) (is (air .0))) (is (pairOf inhaled)) ≡ worked (pairsAt scenario j i) (page.airLine e)
+  unfolding inhaled air receptor′ mediaBy
+  air-is =
+      let figure : Outcome Pair → Outcome Pair → Pair → Outcome Pair = λ t a v. airFigureBy (after product) (after quotient) (entry 1000 (pos 0)) e (after product t a) (is v) in
+      ap (λ (t : Outcome Pair). figure t (is (air .0)) (pairOf inhaled)) (time-read e scenario j i)
+      ∙ ap (λ (a : Outcome Pair). figure (worked (pairsAt scenario j i) (page.timeShare e)) a (pairOf inhaled)) (sym (media-told scenario j i ground laid mean mean-is Hazard .air))
+      ∙ ap (λ (v : Pair). figure (worked (pairsAt scenario j i) (page.timeShare e)) (worked (pairsAt scenario j i) page.A) v) (sym (pair-printed scenario j i (referenceSlot e Air) (reference-source e Air)))
+      ∙ sym (air-line-by e (pairsAt scenario j i))
+
+  air-figured : figureFor e inAir ≡ airFigureIfGiven e (exposureOf (timeShareOf e receptor′) air) (optional inhaled)
+  unfolding inAir inhaled references′
+  air-figured =
+      air-figure-for e receptor′ air (chemicalIn scenario i)
+      ∙ ap (λ (v : Value). airFigureIfGiven e (exposureOf (timeShareOf e receptor′) air) (optional v)) (sym (reference-printed scenario i e Air))
+
+  air-agrees : Agrees scenario j i e Air inAir (page.airLine e)
+  unfolding hasReference inhaled airFigureIfGiven timeShareOf
+  air-agrees =
+      let c = figure-columns e (airFigureIfGiven e (exposureOf (timeShareOf e receptor′) air)) (λ v. airFigureBy (after product) (after quotient) (entry 1000 (pos 0)) e (after product (workedOf receptor′ (page.timeShare e)) (is (air .0))) (is v))
+      refl (λ v. air-figure-page e (workedOf receptor′ (page.timeShare e)) (air .0) v) inhaled in (
+        ap (columnsOf e) air-figured ∙ c .0 ∙ ap (λ (o : Outcome Pair). cond (isPrinted inhaled) (countedIn (unitOf e) o) Cols.Absent) air-is,
+        ap (aboveCap e) air-figured ∙ c .1 ∙ ap (λ (o : Outcome Pair). isPrinted inhaled && highAbove (capOf e) o) air-is,
+      )
+
+  -- by the year's guidance
+  year-agrees : (y : Guidance) (p : Pathway) → Agrees scenario j i e p
+      (figuresWith (habitsOf y receptor′) p site′ (absorbedOf chemical′) receptor′ (ground .highest) mean references′) (page.line y e (stayIn scenario j) p)
+  unfolding figuresWith figuresBy habitsOf breathedBy page.line page.byGuidance byRoute dosed inAir air
+  year-agrees Of2005 p = intake-agrees Of2005 p
+  year-agrees Of2009 Air = air-agrees
+  year-agrees Of2009 SoilSummer = intake-agrees Of2009 SoilSummer
+  year-agrees Of2009 SoilWinter = intake-agrees Of2009 SoilWinter
+  year-agrees Of2009 Skin = intake-agrees Of2009 Skin
+  year-agrees Of2009 AboveGround = intake-agrees Of2009 AboveGround
+  year-agrees Of2009 BelowGround = intake-agrees Of2009 BelowGround
+
 module _ (scenario : Scenario) (j i : ℕ) (p : Pathway) (here : j < scenario .receptors .count) (told : stopsAt (groundFor scenario i) (meanFor scenario i) (scenario .receptors .count) ≡ false) (e : Effect) where
   has : Laid (groundFor scenario i) (meanFor scenario i) (scenario .receptors .count)
   has = not-stopped (groundFor scenario i) (meanFor scenario i) (scenario .receptors .count) told
 
   mean : Media
   mean = mediaFrom (meanFor scenario i j (has .ground))
-
-  value : Value
-  value = printedIn scenario i (referenceSlot e p)
-
-  dose : Outcome Dose
-  dose = doseOf (factorOf e p (valuesOf (scenario .site)) (valuesOf (chemicalIn scenario i)) (receptorIn scenario j .values)) (concentrationFor p (mediaBy e (has .ground .highest) mean))
 
   source : Source
   source = sourceOf (valuesOf (scenario .site)) (scenario .receptors) (chemicalIn scenario i)
@@ -268,41 +398,21 @@ module _ (scenario : Scenario) (j i : ℕ) (p : Pathway) (here : j < scenario .r
       filled-at (λ k. mediaFrom (meanWith (valuesOf (scenario .site)) (valuesOf (chemicalIn scenario i)) (getD (scenario .receptors .list) k noReceptor) (has .ground))) noMedia
       (scenario .receptors .count) (replicate (4 - scenario .receptors .count) noMedia) j here
 
-  figured : figureFor e (figuresFrom (valuesOf (scenario .site)) j (receptorIn scenario j .values) source p) ≡ figureIfGiven e dose (optional value)
-  unfolding figuresFrom sourceWith value dose
-  figured =
-      ap (λ (s : Source). figureFor e (figuresFrom (valuesOf (scenario .site)) j (receptorIn scenario j .values) s p)) source-is
-      ∙ ap (λ (m : Media). figureFor e (figuresWith (habitsOf (receptorIn scenario j .values)) p (valuesOf (scenario .site)) (absorbedOf (valuesOf (chemicalIn scenario i))) (receptorIn scenario j .values) (has .ground .highest) m (referencesOf (chemicalIn scenario i)))) mean-at
-      ∙ figure-for e p (valuesOf (scenario .site)) (valuesOf (chemicalIn scenario i)) (receptorIn scenario j .values) (has .ground .highest) mean (chemicalIn scenario i)
-      ∙ ap (λ (v : Value). figureIfGiven e dose (optional v)) (sym (reference-printed scenario i e p))
+  figures-are : figuresFrom (siteOf (scenario .site)) j (receptorIn scenario j .values) source p
+      ≡ figuresWith (habitsOf (guidanceIn scenario) (receptorIn scenario j .values)) p (valuesOf (scenario .site)) (absorbedOf (valuesOf (chemicalIn scenario i))) (receptorIn scenario j .values) (has .ground .highest) mean (referencesOf (chemicalIn scenario i))
+  unfolding figuresFrom siteOf guidanceIn sourceWith
+  figures-are =
+      ap (λ (s : Source). figuresFrom (siteOf (scenario .site)) j (receptorIn scenario j .values) s p) source-is
+      ∙ ap (λ (m : Media). figuresWith (habitsOf (guidanceIn scenario) (receptorIn scenario j .values)) p (valuesOf (scenario .site)) (absorbedOf (valuesOf (chemicalIn scenario i))) (receptorIn scenario j .values) (has .ground .highest) m (referencesOf (chemicalIn scenario i))) mean-at
 
-  intake-is : mapped (λ (g : Dose). g .0) dose ≡ worked (pairsAt scenario j i) (page.intake e (stayIn scenario j) p)
-  unfolding dose factor mean mediaFrom
-  intake-is = dose-is scenario j i e p (concentrationFor p (mediaBy e (has .ground .highest) mean)) (medium-told scenario j i (has .ground) (has .laid) mean (has .worked j here) e p)
-
-  figure-is : figureBy (after product) (after quotient) e (mapped (λ (g : Dose). g .0) dose) (is (pairOf value)) ≡ figureAt e scenario j i p
-  unfolding figureAt value
-  figure-is =
-      ap (λ (o : Outcome Pair). figureBy (after product) (after quotient) e o (is (pairOf value))) intake-is
-      ∙ ap (λ (q : Pair). figureBy (after product) (after quotient) e (worked (pairsAt scenario j i) (page.intake e (stayIn scenario j) p)) (is q)) (sym (pair-printed scenario j i (referenceSlot e p) (reference-source e p)))
-      ∙ sym (line-by e (stayIn scenario j) p (pairsAt scenario j i))
-
-  columns-agree : columnsOf e (figureFor e (figuresFrom (valuesOf (scenario .site)) j (receptorIn scenario j .values) source p)) ≡ columnsAt e scenario j i p
-  unfolding columnsAt hasReference value
-  columns-agree =
-      ap (columnsOf e) figured
-      ∙ figure-columns e dose value .0
-      ∙ ap (λ (o : Outcome Pair). cond (isPrinted value) (countedIn (unitOf e) o) Cols.Absent) figure-is
-
-  cap-agrees : aboveCap e (figureFor e (figuresFrom (valuesOf (scenario .site)) j (receptorIn scenario j .values) source p)) ≡ overCap e scenario j i p
-  unfolding overCap hasReference value
-  cap-agrees =
-      ap (aboveCap e) figured
-      ∙ figure-columns e dose value .1
-      ∙ ap (λ (o : Outcome Pair). isPrinted value && highAbove (capOf e) o) figure-is
+  line-agrees : Agrees scenario j i e p (figuresFrom (siteOf (scenario .site)) j (receptorIn scenario j .values) source p) (page.line (guidanceIn scenario) e (stayIn scenario j) p)
+  unfolding site′ chemical′ receptor′ references′ mean
+  line-agrees =
+      subst (λ (f : Figured). Agrees scenario j i e p f (page.line (guidanceIn scenario) e (stayIn scenario j) p)) (sym figures-are)
+      (year-agrees scenario j i e (has .ground) (has .laid) mean (has .worked j here) (guidanceIn scenario) p)
 
 pub line-figures : (scenario : Scenario) (j i : ℕ) (p : Pathway) → j < scenario .receptors .count → stopsAt (groundFor scenario i) (meanFor scenario i) (scenario .receptors .count) ≡ false → (e : Effect) →
-    (columnsOf e (figureFor e (figuresFrom (valuesOf (scenario .site)) j (receptorIn scenario j .values) (sourceOf (valuesOf (scenario .site)) (scenario .receptors) (chemicalIn scenario i)) p)) ≡ columnsAt e scenario j i p)
-    × (aboveCap e (figureFor e (figuresFrom (valuesOf (scenario .site)) j (receptorIn scenario j .values) (sourceOf (valuesOf (scenario .site)) (scenario .receptors) (chemicalIn scenario i)) p)) ≡ overCap e scenario j i p)
-unfolding source
-line-figures scenario j i p here told e = (columns-agree scenario j i p here told e, cap-agrees scenario j i p here told e)
+    (columnsOf e (figureFor e (figuresFrom (siteOf (scenario .site)) j (receptorIn scenario j .values) (sourceOf (valuesOf (scenario .site)) (scenario .receptors) (chemicalIn scenario i)) p)) ≡ columnsAt e scenario j i p)
+    × (aboveCap e (figureFor e (figuresFrom (siteOf (scenario .site)) j (receptorIn scenario j .values) (sourceOf (valuesOf (scenario .site)) (scenario .receptors) (chemicalIn scenario i)) p)) ≡ overCap e scenario j i p)
+unfolding source columnsAt overCap figureAt
+line-figures scenario j i p here told e = line-agrees scenario j i p here told e

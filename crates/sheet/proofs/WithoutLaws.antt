@@ -1,4 +1,4 @@
--- No condition of a sheet is 41: neither those of its chemicals' media, which tell 53, nor those of its lines. Assumes nothing.
+-- No condition of a sheet is 41: neither that of its year, nor those of its chemicals' media, which tell 53, nor those of its lines. Assumes nothing.
 use Prim.Native.Nat.{ℕ, zero, suc}
 use native.Mathlib.Omega.{arith}
 use mathlib.Core.List.{List}
@@ -31,4 +31,4 @@ media-without scenario i = (λ e. omega arith, tt)
 pub sheet-without : (scenario : Scenario) → Without 41 (sheetConditions scenario)
 unfolding sheetConditions
 sheet-without scenario =
-    (λ e. omega arith, without-append 41 (chained (noMediaAt scenario) (scenario .chemicals .count)) (largeLines scenario) (without-chained 41 (noMediaAt scenario) (media-without scenario) (scenario .chemicals .count)) (large-without scenario))
+    (λ e. omega arith, (λ e. omega arith, without-append 41 (chained (noMediaAt scenario) (scenario .chemicals .count)) (largeLines scenario) (without-chained 41 (noMediaAt scenario) (media-without scenario) (scenario .chemicals .count)) (large-without scenario)))

@@ -19,17 +19,21 @@ use Rattle.deck.specs.declared.Status.{Status}
 use Rattle.deck.specs.declared.Status.the-variants.{Read, Stopped}
 use Rattle.deck.specs.Kinds.{maxChemicals}
 use Rattle.deck.specs.Conditions.{Condition, at, first}
-use Rattle.deck.specs.Cases.{tabulate}
+use Rattle.deck.specs.Cases.{tabulate, valueAt, isOtherYear}
 use Rattle.totals.specs.declared.Columns.{Columns}
 use Rattle.totals.specs.declared.Columns.the-variants as Cols
 use Rattle.totals.specs.Totals.{totalOf}
 use Rattle.sheet.specs.Values.{Scenario, mostWorked, valuesOf, particlesOf, chemicalIn, receptorIn}
 use Rattle.sheet.specs.Sheet.{pathwaysPerChemical, pathwayAt, columnsAt, chained, largeLines}
 
--- ---- what stops a scenario: more records than a deck holds (21), a chemical whose media are refused (53), those of one receptor's cancer among
--- them, a line above its cap (42). In a scenario whose values lie in their ranges no media are refused (`none-refused`).
+-- ---- what stops a scenario: more records than a deck holds (21), a year of no guidance (33), a chemical whose media are refused (53), those of
+-- one receptor's cancer among them, a line above its cap (42). In a scenario whose values lie in their ranges there is no such year and no media
+-- are refused (`none-refused`).
 unfoldable pub tooMany : Scenario → Bool
 tooMany scenario = ltb maxChemicals (scenario .chemicals .count) || ltb mostWorked (scenario .receptors .count)
+
+unfoldable pub noGuidance : Scenario → Bool
+noGuidance scenario = isOtherYear (valueAt (scenario .site) (placeOf "year"))
 
 unfoldable pub isRefused : {A : Type 0} → Outcome A → Bool
 isRefused (is m) = false
@@ -59,7 +63,7 @@ unfoldable pub noMediaAt : Scenario → ℕ → List Condition
 noMediaAt scenario i = at 53 (suc i) 0 (stopsAt (groundFor scenario i) (meanFor scenario i) (scenario .receptors .count)) ∷ []
 
 unfoldable pub sheetConditions : Scenario → List Condition
-sheetConditions scenario = at 21 0 0 (tooMany scenario) ∷ chained (noMediaAt scenario) (scenario .chemicals .count) ++ largeLines scenario
+sheetConditions scenario = at 21 0 0 (tooMany scenario) ∷ at 33 0 0 (noGuidance scenario) ∷ chained (noMediaAt scenario) (scenario .chemicals .count) ++ largeLines scenario
 
 -- ---- cells: a receptor has six columns of 96, hazard's and cancer's: 1 for each line that has counts, the low and the high counts; all
 -- three are 0 for -, and where there is no line

@@ -1,6 +1,6 @@
 -- Demand 3 of a scenario: what a receptor's total is set against. The exact sum is that of its lines that have the reference value, each worked
--- exactly from the printed values with N terms of each series, counted in units and not rounded. Whether a chemical is lost fast is the pairs'
--- choice (document 02, P5).
+-- exactly from the printed values with N terms of each series, by the guidance of the site's year, counted in units and not rounded. Whether a
+-- chemical is lost fast is the pairs' choice (document 02, P5).
 use mathlib.Core.Path.{_≡_}
 use mathlib.Core.Bool.{cond}
 use Prim.Native.Nat.{ℕ, zero, suc, _+_, _*_, _^_, _≤_, _<_}
@@ -18,7 +18,7 @@ use Rattle.slots.specs.declared.Sort.the-variants.{Ordinary}
 use Rattle.slots.specs.Slots.{Slot}
 use Rattle.totals.specs.declared.Columns.{Columns}
 use Rattle.totals.specs.declared.Columns.the-variants as Cols
-use Rattle.sheet.specs.Values.{Scenario, stayIn, pairsAt, ordinaryOf, exactAt}
+use Rattle.sheet.specs.Values.{Scenario, stayIn, guidanceIn, pairsAt, ordinaryOf, exactAt}
 use Rattle.sheet.specs.Sheet.{pathwayAt, pathwaysPerChemical, hasReference, totalAt, largeLines}
 
 -- a fraction in units of 1E-12, or of 1E-15
@@ -38,7 +38,7 @@ Exact = ℕ → ℕ → Slot → Fraction
 
 -- a line's exact fraction, where it counts
 unfoldable pub exactLine : Effect → Scenario → Exact → ℕ → ℕ → ℕ → Pathway → Fraction
-exactLine e scenario exact N j i p = cond (hasReference e scenario i p) (inUnitsOf e (exactly N (pacesOf (pairsAt scenario j i)) (exact j i) (line e (stayIn scenario j) p))) nothing
+exactLine e scenario exact N j i p = cond (hasReference e scenario i p) (inUnitsOf e (exactly N (pacesOf (pairsAt scenario j i)) (exact j i) (line (guidanceIn scenario) e (stayIn scenario j) p))) nothing
 
 unfoldable pub lineCounts : Effect → Scenario → ℕ → Pathway → ℕ
 lineCounts e scenario i p = cond (hasReference e scenario i p) 1 0

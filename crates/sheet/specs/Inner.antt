@@ -28,11 +28,12 @@ use Rattle.deck.specs.declared.Value.{Value}
 use Rattle.deck.specs.declared.Value.the-variants.{Absent, Printed}
 use Rattle.deck.specs.Kinds.{maxChemicals}
 use Rattle.deck.specs.Conditions.{Condition, at}
-use Rattle.deck.specs.Cases.{noRecord, valueAt, tabulate}
+use Rattle.deck.specs.Cases.{noRecord, valueAt, guidanceOf, tabulate}
 use Rattle.totals.specs.declared.Columns.{Columns}
 use Rattle.totals.specs.declared.Columns.the-variants as Cols
 use Rattle.sheet.specs.declared.Receptor.{Receptor}
 use Rattle.sheet.specs.declared.Receptors.{Receptors}
+use Rattle.sheet.specs.declared.Site.{Site}
 use Rattle.sheet.specs.declared.Source.{Source}
 use Rattle.sheet.specs.declared.Sources.{Sources}
 use Rattle.sheet.specs.Values.{mostWorked, pairOf, valuesOf, particlesOf, noReceptor}
@@ -119,45 +120,49 @@ stopsWith site′ receptors′ chemical′ =
 unfoldable pub refusedSource : Values → Receptors → List Record → ℕ → List Condition
 refusedSource site′ receptors′ records i = at 53 (suc i) 0 (stopsWith site′ receptors′ (getD records i noRecord)) ∷ []
 
+-- ---- a site as the lines take it: its year's guidance and its values
+unfoldable pub siteOf : Record → Site
+siteOf r = record { guidance = guidanceOf (valueAt r (placeOf "year")); values = valuesOf r }
+
 -- ---- a line's figures, of the receptor at place j with these values
 unfoldable pub meanAt : Source → ℕ → Media
 meanAt s j = getD (s .means) j noMedia
 
-unfoldable pub figuresFrom : Values → ℕ → Values → Source → Pathway → Figured
-figuresFrom site′ j r s p = figuresWith (habitsOf r) p site′ (s .absorbed) r (s .media) (meanAt s j) (s .references)
+unfoldable pub figuresFrom : Site → ℕ → Values → Source → Pathway → Figured
+figuresFrom site′ j r s p = figuresWith (habitsOf (site′ .guidance) r) p (site′ .values) (s .absorbed) r (s .media) (meanAt s j) (s .references)
 
 unfoldable pub figureFor : Effect → Figured → Outcome (Optional Pair)
 figureFor Hazard f = f .hazard
 figureFor Cancer f = f .cancer
 
 -- those of a receptor's line q, counted from 0 without total lines
-unfoldable pub figuresWorked : Values → Sources → ℕ → Values → ℕ → Figured
+unfoldable pub figuresWorked : Site → Sources → ℕ → Values → ℕ → Figured
 figuresWorked site′ sources j r q = figuresFrom site′ j r (sourceAt sources (q / pathwaysPerChemical)) (pathwayAt (q % pathwaysPerChemical))
 
-unfoldable pub columnsWorked : Values → Sources → ℕ → Values → ℕ → Effect → Columns
+unfoldable pub columnsWorked : Site → Sources → ℕ → Values → ℕ → Effect → Columns
 columnsWorked site′ sources j r q e = columnsOf e (figureFor e (figuresWorked site′ sources j r q))
 
 -- those of a chemical's lines, by pathway
-unfoldable pub columnsFrom : Values → ℕ → Values → Source → ℕ → Effect → Columns
+unfoldable pub columnsFrom : Site → ℕ → Values → Source → ℕ → Effect → Columns
 columnsFrom site′ j r source p e = columnsOf e (figureFor e (figuresFrom site′ j r source (pathwayAt p)))
 
 unfoldable pub isLarge : Figured → Bool
 isLarge f = aboveCap Hazard (f .hazard) || aboveCap Cancer (f .cancer)
 
 -- 42 at a chemical's line, after so many report lines
-unfoldable pub largeLine : Values → ℕ → Values → Source → ℕ → ℕ → List Condition
+unfoldable pub largeLine : Site → ℕ → Values → Source → ℕ → ℕ → List Condition
 largeLine site′ j r source before p = at 42 (before + suc p) 0 (isLarge (figuresFrom site′ j r source (pathwayAt p))) ∷ []
 
-unfoldable pub largeChemical : Values → ℕ → Values → Source → ℕ → List Condition
+unfoldable pub largeChemical : Site → ℕ → Values → Source → ℕ → List Condition
 largeChemical site′ j r source before = chained (largeLine site′ j r source before) pathwaysPerChemical
 
-unfoldable pub largeWorked : Values → Sources → ℕ → Values → ℕ → List Condition
+unfoldable pub largeWorked : Site → Sources → ℕ → Values → ℕ → List Condition
 largeWorked site′ sources j r before = chained (λ i. largeChemical site′ j r (sourceAt sources i) (before + i * pathwaysPerChemical)) (sources .count)
 
 abbrev pub perReceptor : ℕ → ℕ
 perReceptor n = n * pathwaysPerChemical + 1
 
-unfoldable pub allLarge : Values → Sources → List Receptor → ℕ → List Condition
+unfoldable pub allLarge : Site → Sources → List Receptor → ℕ → List Condition
 allLarge site′ sources receptors′ n = chained (λ j. largeWorked site′ sources j (getD receptors′ j noReceptor .values) (j * perReceptor (sources .count))) n
 
 -- ---- cells
@@ -178,7 +183,7 @@ abbrev pub CellsEmpty : ℕ → List ℕ → ℕ → Type 0
 CellsEmpty n cells base =
     (e : Effect) (w : Part) (q : ℕ) → n < suc q → q < mostLines → getD cells (base + effectCells * sideOf e + mostLines * partOf w + q) 0 ≡ 0
 
-abbrev pub CellsFilled : Values → Sources → List Receptor → ℕ → List ℕ → Type 0
+abbrev pub CellsFilled : Site → Sources → List Receptor → ℕ → List ℕ → Type 0
 CellsFilled site′ sources receptors′ n cells =
     (j : ℕ) → j < n →
     CellsHold (columnsWorked site′ sources j (getD receptors′ j noReceptor .values)) (sources .count * pathwaysPerChemical) cells (receptorCells * j)

@@ -20,7 +20,7 @@ use Rattle.deck.specs.Conditions.{Condition, at}
 use Rattle.totals.specs.declared.Columns.{Columns}
 use Rattle.totals.specs.declared.Columns.the-variants as Cols
 use Rattle.totals.specs.Totals.{_added_}
-use Rattle.sheet.specs.Values.{Scenario, stayIn, printedIn, pairsAt}
+use Rattle.sheet.specs.Values.{Scenario, stayIn, guidanceIn, printedIn, pairsAt}
 
 abbrev pub pathwaysPerChemical : ℕ
 pathwaysPerChemical = 6
@@ -41,9 +41,9 @@ isPrinted (Printed power digits) = true
 unfoldable pub hasReference : Effect → Scenario → ℕ → Pathway → Bool
 hasReference e scenario i p = isPrinted (printedIn scenario i (referenceSlot e p))
 
--- the quotient or the risk of chemical i on pathway p for receptor j, by the working rule
+-- the quotient or the risk of chemical i on pathway p for receptor j, by the working rule and the year's guidance
 unfoldable pub figureAt : Effect → Scenario → ℕ → ℕ → Pathway → Outcome Pair
-figureAt e scenario j i p = worked (pairsAt scenario j i) (line e (stayIn scenario j) p)
+figureAt e scenario j i p = worked (pairsAt scenario j i) (line (guidanceIn scenario) e (stayIn scenario j) p)
 
 -- quotients are counted in units of 1E-12, risks in 1E-15
 unfoldable pub unitOf : Effect → ℤ

@@ -10,6 +10,7 @@ use Rattle.pair.specs.Calls.{Outcome, is, refused, entry, oneMinusEntry, zeroPa
 use Rattle.pair.specs.Promises.{scaled}
 use Rattle.years.specs.declared.Years.{Years}
 use Rattle.years.specs.Years as years
+use Rattle.slots.specs.declared.Guidance.{Guidance}
 use Rattle.slots.specs.declared.Sort.the-variants.{Ordinary}
 use Rattle.slots.specs.Slots.{Slot, ownerOf, placeOf}
 use Rattle.equations.specs.declared.Values.{Values}
@@ -23,7 +24,7 @@ use Rattle.deck.specs.declared.Record.{Record}
 use Rattle.deck.specs.declared.Value.{Value}
 use Rattle.deck.specs.declared.Value.the-variants.{Absent, Printed}
 use Rattle.deck.specs.Kinds.{maxReceptors}
-use Rattle.deck.specs.Cases.{tabulate, noRecord, valueAt, chemicalAt, receptorAt}
+use Rattle.deck.specs.Cases.{tabulate, noRecord, valueAt, chemicalAt, receptorAt, guidanceOf}
 use Rattle.sheet.specs.declared.Receptor.{Receptor}
 use Rattle.sheet.specs.declared.Receptors.{Receptors}
 
@@ -76,6 +77,10 @@ receptorIn scenario j = getD (scenario .receptors .list) j noReceptor
 
 unfoldable pub stayIn : Scenario → ℕ → Stay
 stayIn scenario j = receptorIn scenario j .stay
+
+-- the guidance that its site names by the year (document 02, P6)
+unfoldable pub guidanceIn : Scenario → Guidance
+guidanceIn scenario = guidanceOf (valueAt (scenario .site) (placeOf "year"))
 
 -- what is printed in a slot of the site or of chemical i; nothing is printed of a receptor made of pairs
 unfoldable pub printedIn : Scenario → ℕ → Slot → Value

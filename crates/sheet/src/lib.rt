@@ -16,9 +16,10 @@ use crate::lines::put_all;
 pub use crate::ordinary::entered_from;
 use crate::reading::columns_found;
 use crate::reading::total_found;
+use crate::values::has_no_guidance;
 pub use crate::values::or_one;
 pub use crate::values::pair_of;
-use crate::values::values_of;
+use crate::values::site_of;
 use deck::Chemicals;
 use deck::MAX_CHEMICALS;
 use deck::MAX_RECEPTORS;
@@ -31,6 +32,7 @@ use media::Media;
 use pair::Pair;
 use pathway::Absorbed;
 use pathway::References;
+use slots::Guidance;
 use totals::Columns;
 ghost use mathlib.Core.Path.{_≡_};
 ghost use Rattle.sheet.specs.Values.{scenarioFrom};
@@ -65,6 +67,12 @@ pub const RECEPTOR_CELLS: usize = 2 * EFFECT_CELLS;
 
 pub const CELLS: usize = MAX_RECEPTORS * RECEPTOR_CELLS;
 
+// A site as the lines take it: the guidance that its year names, and its values.
+pub struct Site {
+    pub guidance: Guidance,
+    pub values: Values,
+}
+
 // What a chemical's lines take, for every receptor: the shares absorbed, what it leaves in the media, hazard's and each receptor's for
 // cancer, and its reference values.
 pub struct Source {
@@ -88,8 +96,10 @@ pub struct Prepared {
 
 const TOO_MANY: u32 = 21;
 
-// The counts of a scenario's lines into the cells, or where it stops, and 0 in every cell: more records than a sheet has room for, a chemical
-// whose media are refused, a line above its cap.
+const OUT_OF_RANGE: u32 = 33;
+
+// The counts of a scenario's lines into the cells, or where it stops, and 0 in every cell: more records than a sheet has room for, a year of no
+// guidance, a chemical whose media are refused, a line above its cap.
 pub fn counts_of(
     site: Record,
     chemicals: Chemicals,
@@ -106,13 +116,16 @@ pub fn counts_of(
     if MAX_RECEPTORS < receptors.count {
         return Status::Stopped(TOO_MANY, 0, 0);
     }
-    let values = values_of(site);
-    let prepared = sources_of(values, chemicals, receptors);
+    if has_no_guidance(site) {
+        return Status::Stopped(OUT_OF_RANGE, 0, 0);
+    }
+    let worked = site_of(site);
+    let prepared = sources_of(worked.values, chemicals, receptors);
     let ready = prepared.status;
     let Status::Read = ready else {
         return ready;
     };
-    let status = put_all(cells, values, receptors, prepared.sources);
+    let status = put_all(cells, worked, receptors, prepared.sources);
     let Status::Read = status else {
         clear(cells);
         return status;

@@ -23,6 +23,7 @@ use crate::MOST_LINES;
 use crate::PATHWAYS;
 use crate::RECEPTOR_CELLS;
 use crate::Receptors;
+use crate::Site;
 use crate::Source;
 use crate::Sources;
 use crate::counting::above_cap;
@@ -90,14 +91,14 @@ fn put_counts(cells: &mut [u64], at: usize, columns: Columns)
 fn put_chemical(
     cells: &mut [u64],
     base: usize,
-    site: Values,
+    site: Site,
     place: usize,
     receptor: Values,
     habits: Habits,
     source: Source,
     before: usize,
 ) -> Status
-    requires { ⌜ (base + effectCells + 2 * mostLines + 6 ≤ length (now cells)) × (before ≤ maxRows + mostLines) × (place < 4) × (specs.shared habits ≡ specs.habitsOf receptor) ⌝ }
+    requires { ⌜ (base + effectCells + 2 * mostLines + 6 ≤ length (now cells)) × (before ≤ maxRows + mostLines) × (place < 4) × (specs.shared habits ≡ specs.habitsOf (site .guidance) receptor) ⌝ }
     ensures { λ s. ⌜ s ≡ first (largeChemical site place receptor source before) ⌝ }
     ensures { λ s. ⌜ (s ≡ Statuses.Read → CellsHold (columnsFrom site place receptor source) 6 (now (cells .exit)) base) ⌝ }
     ensures { λ _. ⌜ SameBut 6 base (now (cells .entry)) (now (cells .exit)) ⌝ }
@@ -110,7 +111,7 @@ fn put_chemical(
         let line = figures_with(
             habits,
             pathway_at(p),
-            site,
+            site.values,
             source.absorbed,
             receptor,
             source.media,
@@ -134,7 +135,7 @@ fn put_chemical(
 fn put_lines(
     cells: &mut [u64],
     base: usize,
-    site: Values,
+    site: Site,
     place: usize,
     receptor: Values,
     sources: Sources,
@@ -146,7 +147,8 @@ fn put_lines(
     ensures { λ _. ⌜ SameBelow base (now (cells .entry)) (now (cells .exit)) ⌝ }
     ensures { λ s. ⌜ (ZeroFrom base (now (cells .entry)) → CellsEmpty (sources .count * 6) (now (cells .exit)) base × ZeroFrom (base + receptorCells) (now (cells .exit))) ⌝ }
 {
-    let habits = habits_of(receptor);
+    let guidance = site.guidance;
+    let habits = habits_of(guidance, receptor);
     let count = sources.count;
     let mut i: usize = 0;
     while i < count {
@@ -172,7 +174,7 @@ fn put_lines(
 }
 
 // Every receptor's counts, or the first line above a cap.
-fn put_receptors(cells: &mut [u64], site: Values, receptors: Receptors, sources: Sources) -> Status
+fn put_receptors(cells: &mut [u64], site: Site, receptors: Receptors, sources: Sources) -> Status
     requires { ⌜ (length (now cells) ≡ allCells) × (receptors .count ≤ 4) × (sources .count ≤ 16) ⌝ }
     ensures { λ s. ⌜ s ≡ first (allLarge site sources (receptors .list) (receptors .count)) ⌝ }
     ensures { λ s. ⌜ (s ≡ Statuses.Read → ZeroFrom 0 (now (cells .entry)) → CellsFilled site sources (receptors .list) (receptors .count) (now (cells .exit)) × ZeroFrom (receptorCells * receptors .count) (now (cells .exit))) ⌝ }
@@ -203,7 +205,7 @@ fn put_receptors(cells: &mut [u64], site: Values, receptors: Receptors, sources:
 // The same into all cells of a case, which are lent as they stand in their struct.
 pub(crate) fn put_all(
     cells: &mut [u64; CELLS],
-    site: Values,
+    site: Site,
     receptors: Receptors,
     sources: Sources,
 ) -> Status

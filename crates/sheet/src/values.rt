@@ -1,6 +1,9 @@
 // The values of a record's slots as pairs, for the equations.
+use crate::Site;
 use deck::Record;
 use deck::Value;
+use deck::guidance_of;
+use deck::is_other_year;
 use equations::Values;
 use pair::Answer;
 use pair::Pair;
@@ -15,12 +18,14 @@ use slots::FV;
 use slots::RFD_I;
 use slots::RFD_O;
 use slots::SLOTS;
+use slots::YEAR;
 ghost use mathlib.Core.Path.{_≡_};
 ghost use Prim.Native.Nat.{_<_};
-ghost use Rattle.deck.specs.Cases.{valueAt};
+ghost use Rattle.deck.specs.Cases.{valueAt, isOtherYear};
 ghost use Rattle.pair.specs.Calls.{answer};
+ghost use Rattle.slots.specs.Slots.{placeOf};
 ghost use Rattle.sheet.specs.Values.{orOne, pairOf, restOf, valuesOf, particlesOf};
-ghost use Rattle.sheet.specs.Inner.{rfdOf, csfOf, referencesOf};
+ghost use Rattle.sheet.specs.Inner.{rfdOf, csfOf, referencesOf, siteOf};
 
 // What a call answered; 1 where it refused, which no value in its range meets.
 pub fn or_one(a: Answer) -> Pair
@@ -74,6 +79,27 @@ pub(crate) fn values_of(r: Record) -> Values
         k += 1;
     }
     Values { list }
+}
+
+// Whether a site's year is that of no guidance.
+pub(crate) fn has_no_guidance(site: Record) -> bool
+    ensures { λ r. ⌜ r ≡ isOtherYear (valueAt site (placeOf "year")) ⌝ }
+{
+    let slot = site.slots[YEAR];
+    let v = slot.value;
+    is_other_year(v)
+}
+
+// A site's guidance and values.
+pub(crate) fn site_of(site: Record) -> Site
+    ensures { λ r. ⌜ r ≡ siteOf site ⌝ }
+{
+    let slot = site.slots[YEAR];
+    let v = slot.value;
+    Site {
+        guidance: guidance_of(v),
+        values: values_of(site),
+    }
 }
 
 // RfD and CSF, which a chemical may lack.
