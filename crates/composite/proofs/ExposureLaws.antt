@@ -57,14 +57,14 @@ amount-across m e v y p s = (rw p at s) .across
 pub printed-lasts : (sort : Sort) (s : Slot) (v : Value) → ruleFor sort s ≡ positive → Fits (ruleFor sort s) v → Lasting 1 (printedYears v) (fractionOf v)
 printed-lasts sort s v above-zero f =
     let rule : Rule = ruleFor sort s in
-    let u = ap (λ (r : Rule). r .used) above-zero in
+    let b = ap (λ (r : Rule). r .blank) above-zero in
     let d = ap (λ (r : Rule). r .dash) above-zero in
     let z = ap (λ (r : Rule). r .zero) above-zero in
     let m : rule .most ≤ 1000000000 = rw above-zero (lit≤ tt) in
-    let g = needed rule v f u d in
+    let g = needed rule v f b d in
     let some = range-positive rule (g .digits) (g .power) (g .ranged) z in
     let low = finest rule (g .digits) (g .power) (g .ranged) some m (g .spelled) .0 in
-    let e = printed-exactly rule u d z m v f .exact in
+    let e = printed-exactly rule b d z m v f .exact in
     let across = amount-across (g .digits) (g .power) v (printedYears v) (g .printed) (e .same) in
     record {
       exact = e;

@@ -1,6 +1,7 @@
 -- The crate's laws: the composite as it is worked is the one that is defined, its values are in range of the exact composite's, and so its
--- report has demands 1 to 3 (`Demands`). Assumes nothing.
+-- report has demands 1 to 3 (`Demands`); and a deck of 2005 prints what it printed (`Guidance`). Assumes nothing.
 mod StageLaws
 mod Weighing
 mod ExposureLaws
 pub mod Demands
+pub mod Guidance

@@ -1,5 +1,5 @@
--- The crate's laws: the report as it is written, demands 1 to 3 of document 01 (`DemandTwo`, `DemandThree`), and that no call
--- tells 41 (`Never`). Assumes nothing.
+-- The crate's laws: the report as it is written, demands 1 to 3 of document 01 (`DemandTwo`, `DemandThree`), that no call
+-- tells 41 (`Never`), and that a deck of 2005 prints what it printed (`Guidance`). Assumes nothing.
 mod Written
 mod ReportLaws
 pub mod CallLaws
@@ -8,3 +8,5 @@ pub mod Exposures
 pub mod DemandTwo
 pub mod DemandThree
 pub mod Never
+mod YearRows
+pub mod Guidance

@@ -1,0 +1,27 @@
+-- The report of a scenario whose guidance is of 2005 (document 02, P6): its rows, its length and its conditions are those with the year's slot
+-- blank. Assumes nothing.
+use mathlib.Core.Path.{_≡_, refl}
+use Prim.Native.Nat.{ℕ}
+use Rattle.slots.specs.declared.Guidance.the-variants.{Of2005}
+use Rattle.sheet.specs.Values.{Scenario, chemicalIn, receptorIn, guidanceIn}
+use Rattle.sheet.specs.Sheet.{linesPerReceptor}
+use Rattle.sheet.proofs.Chains.{chained-same}
+use Rattle.sheet.proofs.YearLaws.{yearBlank, columns-same, total-same, large-same}
+use Rattle.report.specs.Report.{rowAt, totalRow, rowsAt, rowsOf, linesOfReport, lengthOf, reportConditions}
+
+pub length-same : (s : Scenario) → lengthOf (yearBlank s) ≡ lengthOf s
+unfolding lengthOf linesOfReport linesPerReceptor
+length-same s = refl
+
+module _ (s : Scenario) (of2005 : guidanceIn s ≡ Of2005) where
+  rows-at : (j : ℕ) → rowsAt (yearBlank s) j ≡ rowsAt s j
+  unfolding rowsAt rowAt totalRow receptorIn chemicalIn
+  rows-at j = simp (columns-same s of2005, total-same s of2005)
+
+  pub rows-same : rowsOf (yearBlank s) ≡ rowsOf s
+  unfolding rowsOf
+  rows-same = chained-same (rowsAt (yearBlank s)) (rowsAt s) (s .receptors .count) (λ j h. rows-at j)
+
+  pub conditions-same : (room : ℕ) → reportConditions (yearBlank s) room ≡ reportConditions s room
+  unfolding reportConditions
+  conditions-same room = simp (length-same s, large-same s of2005)
