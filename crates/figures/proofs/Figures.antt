@@ -10,8 +10,8 @@ use Rattle.pair.specs.Calls.{Outcome, is, mapped, provided, after, afterOne, ze
 use Rattle.years.specs.Years as years
 use Rattle.pair.specs.Figures.{_⊗_, _⊘_, whole, bothEnds, figures}
 use Rattle.pair.proofs.Figures.{figures-hold}
-use Rattle.slots.specs.Slots.{table, same, isIn, placeIn, ruleIn, ruleAt, lineRules, ownerOf, placeOf}
-use Rattle.equations.specs.declared.Pathway.the-variants.{SoilWinter}
+use Rattle.slots.specs.Slots.{table, same, isIn, placeIn, ruleIn, ruleAt, lineRules, yearOf, ownerOf, placeOf}
+use Rattle.equations.specs.declared.Pathway.the-variants.{Air, SoilWinter}
 use Rattle.equations.specs.declared.Effect.the-variants.{Hazard, Cancer}
 use Rattle.equations.specs.declared.Values.{Values}
 use Rattle.equations.specs.Formula.{read, pairs}
@@ -19,7 +19,7 @@ use Rattle.equations.specs.Letters.{g, h}
 use Rattle.equations.specs.Series as series
 use Rattle.equations.specs.Series.{phi, psi, terms, fromZero, pairSeries}
 use Rattle.equations.specs.Page as page
-use Rattle.equations.specs.Page.{growth, x, u, kse, ksr, ksl, k, A, D, C, aboveGround, belowGround, AT, B, exposure, factor, byMedium, medium, intakeBy, intake, byRoute, referenceSlot, reference, figureBy, line}
+use Rattle.equations.specs.Page.{growth, x, u, kse, ksr, ksl, k, A, D, C, aboveGround, belowGround, AT, B, exposure, factor, byMedium, medium, intakeBy, intake, byRoute, referenceSlot, reference, figureBy, intakeLine, timeInAir, timeShare, airFigureBy, airLine, byGuidance, line}
 use Rattle.equations.specs.Ranges.{sixtyFour, nextToNothing}
 use Rattle.equations.specs.Readings.{letters, noGrowth, plainWith, plain, exponents, grownAt, asAnswers, paceIf, paceOf, pacesOf, pairGrowing, worked, valueIn, byOwner, inputs, noValues}
 use Rattle.equations.proofs.Figures.{firstPair, series-at-zero, g-at-zero, h-at-zero}
@@ -30,16 +30,17 @@ use Rattle.deck.specs.declared.Status.the-variants.{Read}
 use Rattle.deck.specs.Parts.{within, leading, linesOf, lineOf, fieldIn, fieldOf}
 use Rattle.deck.specs.Numbers.{digitsValue, idSpelled, idIn, signSpelled, exponentSpelled, powerOf, digitsRead, endedOf, pointedOf, spelledOf, loneDash, wordOf}
 use Rattle.deck.specs.Kinds.{kindOf, kindOrder, befores, among, kinds, rulesIn, rulesOf}
-use Rattle.deck.specs.Ranges.{above, below, valueAtMost, valueAtLeast, inRange}
+use Rattle.deck.specs.Ranges.{above, below, valueAtMost, valueAtLeast, withinBounds, isYearOf, isYear, inRange}
 use Rattle.deck.specs.Conditions.{first, upTo, misspelled, misplaced, outOfRange, fieldConditions, fieldAt, badBytes, badKind, begins, idOf, sameLetter, wrongId, badId, lineConditionsAfter, countOf, lineConditions, badLength, noEnd, conditions}
-use Rattle.deck.specs.Cases.{tabulate, valueOf, slotSpelled, recordOf, recordsOf, caseWith, caseOf, valueAt, chemicalAt, receptorAt}
+use Rattle.deck.specs.Cases.{tabulate, valueOf, slotSpelled, recordOf, recordsOf, caseWith, caseOf, valueAt, chemicalAt, receptorAt, guidanceOf}
+use Rattle.totals.specs.declared.Columns.the-variants.{Counted}
 use Rattle.totals.specs.Totals.{_added_}
 use Rattle.text.specs.Text.{digits, decimal, justified, number, columnsText, rowText, linesText}
-use Rattle.sheet.specs.Values.{orOne, pairOf, restOf, valuesOf, noReceptor, chemicalIn, receptorIn, stayIn, printedIn, pairsAt, scenarioWith, orNone, printedYears, depositionOf, stayIf, laterIf, receptorWith, entered, enteredFrom}
+use Rattle.sheet.specs.Values.{orOne, pairOf, restOf, valuesOf, noReceptor, chemicalIn, receptorIn, stayIn, guidanceIn, printedIn, pairsAt, scenarioWith, orNone, printedYears, depositionOf, stayIf, laterIf, receptorWith, entered, enteredFrom}
 use Rattle.sheet.specs.Sheet.{pathwayAt, isPrinted, hasReference, figureAt, unitOf, capOf, counted, countedIn, columnsAt, addedOver, totalAt, chained, linesPerReceptor, isAbove, highAbove, overCap, lineTooLarge, largeLines}
 use Rattle.composite.specs.Composite.{summed, sumOfYears, mean, composed, yearsTogether, pairStage, lastStage, stageYears, exposureOf, pairComposite, compositeReceptor, compositeFrom, composite}
 use Rattle.report.specs.Report.{rowAt, totalRow, rowsAt, rowsOf, linesOfReport, ordinary, scenarioOf, reportConditions, allConditions, statusOf, lengthOf, outcomeFor, outcomeOf}
-use Rattle.figures.specs.Figures.{bytes, lines, deckWith, deck, equalDeck, longDeck, solventDeck, cancerSoil, compositeDeck, compositeText, compositeRows, fiveStages, fiveYears, printedLines, printedText, row, rows, Winter, cases, CheckedFigures}
+use Rattle.figures.specs.Figures.{bytes, lines, deckOf, deckWith, deck, equalDeck, longDeck, solventDeck, airDeck, cancerSoil, compositeDeck, compositeText, compositeRows, fiveStages, fiveYears, printedLines, printedText, row, rows, Winter, cases, CheckedFigures}
 
 -- x = 0
 half-at-zero : (site chemical : Values) (particles : Pair) → ofSlots site chemical x ≡ is zeroPair
@@ -72,35 +73,44 @@ winter site chemical receptor w =
 
 -- the deck: its report's lines, their text, and that none of the conditions holds
 lines-are : rowsOf (scenarioOf ordinary deck) ≡ rows
-unfolding bytes lines deckWith deck within leading linesOf lineOf fieldIn fieldOf digitsValue idSpelled idIn signSpelled exponentSpelled powerOf digitsRead endedOf pointedOf spelledOf loneDash wordOf kindOf idOf countOf tabulate valueOf slotSpelled recordOf recordsOf caseWith caseOf table same isIn placeIn ownerOf placeOf valueAt chemicalAt receptorAt orOne pairOf restOf valuesOf chemicalIn receptorIn printedIn scenarioWith orNone printedYears depositionOf stayIf laterIf receptorWith entered enteredFrom calls.longEntry years.time years.amount years.isYears years.wordsOf years.timeOf years.none years.least years.printedAmount years.printed years.together years.atMost years.asPair years.beyond ordinary scenarioOf valueIn byOwner inputs pairsAt asAnswers nineFigures inReach zeroExponent isZero isNumber zero one lesser rise unitsAt lower atMost isPair extra divided excessFrom excess carried rounded sumEnd productEnd quotientEnd restEnd provided calls.ends after afterOne zeroPair onePair entry sum product quotient oneMinusEntry pairs read letters noGrowth plainWith plain exponents grownAt stayIn compared paceIf paceOf pacesOf pairGrowing sixtyFour worked series.first series.step terms fromZero pairSeries u kse ksr ksl k x page.x′ page.gWith growth page.gathered page.mean page.soil A D C aboveGround belowGround AT B exposure factor byMedium medium intakeBy intake byRoute referenceSlot reference figureBy line pathwayAt isPrinted hasReference figureAt chained unitsEnd inUnits unitOf counted countedIn columnsAt _added_ addedOver totalAt rowAt totalRow rowsAt rowsOf row rows
+unfolding bytes lines deckOf deckWith deck within leading linesOf lineOf fieldIn fieldOf digitsValue idSpelled idIn signSpelled exponentSpelled powerOf digitsRead endedOf pointedOf spelledOf loneDash wordOf kindOf idOf countOf tabulate valueOf slotSpelled recordOf recordsOf caseWith caseOf table same isIn placeIn ownerOf placeOf valueAt chemicalAt receptorAt orOne pairOf restOf valuesOf chemicalIn receptorIn printedIn scenarioWith orNone printedYears depositionOf stayIf laterIf receptorWith entered enteredFrom calls.longEntry years.time years.amount years.isYears years.wordsOf years.timeOf years.none years.least years.printedAmount years.printed years.together years.atMost years.asPair years.beyond ordinary scenarioOf valueIn byOwner inputs pairsAt asAnswers nineFigures inReach zeroExponent isZero isNumber zero one lesser rise unitsAt lower atMost isPair extra divided excessFrom excess carried rounded sumEnd productEnd quotientEnd restEnd provided calls.ends after afterOne zeroPair onePair entry sum product quotient oneMinusEntry pairs read letters noGrowth plainWith plain exponents grownAt stayIn compared paceIf paceOf pacesOf pairGrowing sixtyFour worked series.first series.step terms fromZero pairSeries u kse ksr ksl k x page.x′ page.gWith growth page.gathered page.mean page.soil A D C aboveGround belowGround AT B exposure factor byMedium medium intakeBy intake byRoute referenceSlot reference figureBy intakeLine byGuidance line guidanceOf guidanceIn pathwayAt isPrinted hasReference figureAt chained unitsEnd inUnits unitOf counted countedIn columnsAt _added_ addedOver totalAt rowAt totalRow rowsAt rowsOf row rows
 lines-are = refl
 
 -- its soils
 soils-are : (worked (pairsAt (scenarioOf ordinary deck) 0 0) C ≡ bothEnds 150000000 150000000 (negsuc 8))
     × (cancerSoil equalDeck ≡ bothEnds 750000000 750000000 (negsuc 9)) × (cancerSoil longDeck ≡ bothEnds 112500000 112500000 (negsuc 8))
-unfolding bytes lines deckWith deck equalDeck longDeck cancerSoil bothEnds within leading linesOf lineOf fieldIn fieldOf digitsValue idSpelled idIn signSpelled exponentSpelled powerOf digitsRead endedOf pointedOf spelledOf loneDash wordOf kindOf idOf countOf tabulate valueOf slotSpelled recordOf recordsOf caseWith caseOf table same isIn placeIn ownerOf placeOf valueAt chemicalAt receptorAt orOne pairOf restOf valuesOf chemicalIn receptorIn printedIn scenarioWith orNone printedYears depositionOf stayIf laterIf receptorWith entered enteredFrom calls.longEntry years.time years.amount years.isYears years.wordsOf years.timeOf years.none years.least years.printedAmount years.printed years.together years.atMost years.asPair years.beyond ordinary scenarioOf valueIn byOwner inputs pairsAt asAnswers nineFigures inReach zeroExponent isZero isNumber zero one lesser rise unitsAt lower atMost isPair extra divided excessFrom excess carried rounded sumEnd productEnd quotientEnd restEnd provided calls.ends after afterOne zeroPair onePair entry sum product quotient oneMinusEntry pairs read letters noGrowth plainWith plain exponents grownAt stayIn compared paceIf paceOf pacesOf pairGrowing sixtyFour worked series.first series.step terms fromZero pairSeries u kse ksr ksl k x page.x′ page.gWith growth page.gathered page.mean page.soil A D C aboveGround belowGround AT B exposure factor byMedium medium intakeBy intake byRoute referenceSlot reference figureBy line pathwayAt isPrinted hasReference figureAt chained unitsEnd inUnits unitOf counted countedIn columnsAt _added_ addedOver totalAt rowAt totalRow rowsAt rowsOf row rows
+unfolding bytes lines deckOf deckWith deck equalDeck longDeck cancerSoil bothEnds within leading linesOf lineOf fieldIn fieldOf digitsValue idSpelled idIn signSpelled exponentSpelled powerOf digitsRead endedOf pointedOf spelledOf loneDash wordOf kindOf idOf countOf tabulate valueOf slotSpelled recordOf recordsOf caseWith caseOf table same isIn placeIn ownerOf placeOf valueAt chemicalAt receptorAt orOne pairOf restOf valuesOf chemicalIn receptorIn printedIn scenarioWith orNone printedYears depositionOf stayIf laterIf receptorWith entered enteredFrom calls.longEntry years.time years.amount years.isYears years.wordsOf years.timeOf years.none years.least years.printedAmount years.printed years.together years.atMost years.asPair years.beyond ordinary scenarioOf valueIn byOwner inputs pairsAt asAnswers nineFigures inReach zeroExponent isZero isNumber zero one lesser rise unitsAt lower atMost isPair extra divided excessFrom excess carried rounded sumEnd productEnd quotientEnd restEnd provided calls.ends after afterOne zeroPair onePair entry sum product quotient oneMinusEntry pairs read letters noGrowth plainWith plain exponents grownAt stayIn compared paceIf paceOf pacesOf pairGrowing sixtyFour worked series.first series.step terms fromZero pairSeries u kse ksr ksl k x page.x′ page.gWith growth page.gathered page.mean page.soil A D C aboveGround belowGround AT B exposure factor byMedium medium intakeBy intake byRoute referenceSlot reference figureBy intakeLine byGuidance line guidanceOf guidanceIn pathwayAt isPrinted hasReference figureAt chained unitsEnd inUnits unitOf counted countedIn columnsAt _added_ addedOver totalAt rowAt totalRow rowsAt rowsOf row rows
 soils-are = (refl, refl, refl)
 
 -- a solvent's
 solvent-soils : (worked (pairsAt (scenarioOf ordinary solventDeck) 0 0) C ≡ bothEnds 499999998 500000001 (negsuc 19)) × (cancerSoil solventDeck ≡ bothEnds 249999998 250000004 (negsuc 19))
-unfolding bytes lines deckWith solventDeck cancerSoil bothEnds within leading linesOf lineOf fieldIn fieldOf digitsValue idSpelled idIn signSpelled exponentSpelled powerOf digitsRead endedOf pointedOf spelledOf loneDash wordOf kindOf idOf countOf tabulate valueOf slotSpelled recordOf recordsOf caseWith caseOf table same isIn placeIn ownerOf placeOf valueAt chemicalAt receptorAt orOne pairOf restOf valuesOf chemicalIn receptorIn printedIn scenarioWith orNone printedYears depositionOf stayIf laterIf receptorWith entered enteredFrom calls.longEntry years.time years.amount years.isYears years.wordsOf years.timeOf years.none years.least years.printedAmount years.printed years.together years.atMost years.asPair years.beyond ordinary scenarioOf valueIn byOwner inputs pairsAt asAnswers nineFigures inReach zeroExponent isZero isNumber zero one lesser rise unitsAt lower atMost isPair extra divided excessFrom excess carried rounded sumEnd productEnd quotientEnd restEnd provided calls.ends after afterOne zeroPair onePair entry sum product quotient oneMinusEntry pairs read letters noGrowth plainWith plain exponents grownAt stayIn compared paceIf paceOf pacesOf pairGrowing sixtyFour worked series.first series.step terms fromZero pairSeries u kse ksr ksl k x page.x′ page.gWith growth page.gathered page.mean page.soil A D C aboveGround belowGround AT B exposure factor byMedium medium intakeBy intake byRoute referenceSlot reference figureBy line pathwayAt isPrinted hasReference figureAt chained unitsEnd inUnits unitOf counted countedIn columnsAt _added_ addedOver totalAt rowAt totalRow rowsAt rowsOf row rows nextToNothing calls.oneMinus
+unfolding bytes lines deckOf deckWith solventDeck cancerSoil bothEnds within leading linesOf lineOf fieldIn fieldOf digitsValue idSpelled idIn signSpelled exponentSpelled powerOf digitsRead endedOf pointedOf spelledOf loneDash wordOf kindOf idOf countOf tabulate valueOf slotSpelled recordOf recordsOf caseWith caseOf table same isIn placeIn ownerOf placeOf valueAt chemicalAt receptorAt orOne pairOf restOf valuesOf chemicalIn receptorIn printedIn scenarioWith orNone printedYears depositionOf stayIf laterIf receptorWith entered enteredFrom calls.longEntry years.time years.amount years.isYears years.wordsOf years.timeOf years.none years.least years.printedAmount years.printed years.together years.atMost years.asPair years.beyond ordinary scenarioOf valueIn byOwner inputs pairsAt asAnswers nineFigures inReach zeroExponent isZero isNumber zero one lesser rise unitsAt lower atMost isPair extra divided excessFrom excess carried rounded sumEnd productEnd quotientEnd restEnd provided calls.ends after afterOne zeroPair onePair entry sum product quotient oneMinusEntry pairs read letters noGrowth plainWith plain exponents grownAt stayIn compared paceIf paceOf pacesOf pairGrowing sixtyFour worked series.first series.step terms fromZero pairSeries u kse ksr ksl k x page.x′ page.gWith growth page.gathered page.mean page.soil A D C aboveGround belowGround AT B exposure factor byMedium medium intakeBy intake byRoute referenceSlot reference figureBy intakeLine byGuidance line guidanceOf guidanceIn pathwayAt isPrinted hasReference figureAt chained unitsEnd inUnits unitOf counted countedIn columnsAt _added_ addedOver totalAt rowAt totalRow rowsAt rowsOf row rows nextToNothing calls.oneMinus
 solvent-soils = (refl, refl)
+
+-- by the guidance of 2009
+air-whole : first (allConditions ordinary airDeck 665) ≡ Read
+unfolding bytes lines deckOf airDeck within leading linesOf lineOf fieldIn fieldOf digitsValue idSpelled idIn signSpelled exponentSpelled powerOf digitsRead endedOf pointedOf spelledOf loneDash wordOf kindOf idOf countOf tabulate valueOf slotSpelled recordOf recordsOf caseWith caseOf table same isIn placeIn ownerOf placeOf valueAt chemicalAt receptorAt orOne pairOf restOf valuesOf chemicalIn receptorIn printedIn scenarioWith orNone printedYears depositionOf stayIf laterIf receptorWith entered enteredFrom calls.longEntry years.time years.amount years.isYears years.wordsOf years.timeOf years.none years.least years.printedAmount years.printed years.together years.atMost years.asPair years.beyond ordinary scenarioOf valueIn byOwner inputs pairsAt asAnswers nineFigures inReach zeroExponent isZero isNumber zero one lesser rise unitsAt lower atMost isPair extra divided excessFrom excess carried rounded sumEnd productEnd quotientEnd restEnd provided calls.ends after afterOne zeroPair onePair entry sum product quotient oneMinusEntry pairs read letters noGrowth plainWith plain exponents grownAt stayIn compared paceIf paceOf pacesOf pairGrowing sixtyFour worked series.first series.step terms fromZero pairSeries u kse ksr ksl k x page.x′ page.gWith growth page.gathered page.mean page.soil A D C aboveGround belowGround AT B exposure factor byMedium medium intakeBy intake byRoute referenceSlot reference figureBy intakeLine byGuidance line guidanceOf guidanceIn pathwayAt isPrinted hasReference figureAt chained kindOrder befores among kinds rulesIn rulesOf ruleIn ruleAt lineRules above below valueAtMost valueAtLeast withinBounds inRange first upTo misspelled misplaced outOfRange fieldConditions fieldAt badBytes badKind begins sameLetter wrongId badId lineConditionsAfter lineConditions badLength noEnd conditions capOf linesPerReceptor linesOfReport isAbove highAbove overCap lineTooLarge largeLines reportConditions allConditions lengthOf airLine timeShare timeInAir airFigureBy yearOf isYearOf isYear
+air-whole = refl
+
+air-is : (columnsAt Hazard (scenarioOf ordinary airDeck) 0 0 Air ≡ Counted 1000000000000 1000000000000) × (columnsAt Cancer (scenarioOf ordinary airDeck) 0 0 Air ≡ Counted 33333333300000 33333333400000)
+unfolding bytes lines deckOf airDeck within leading linesOf lineOf fieldIn fieldOf digitsValue idSpelled idIn signSpelled exponentSpelled powerOf digitsRead endedOf pointedOf spelledOf loneDash wordOf kindOf idOf countOf tabulate valueOf slotSpelled recordOf recordsOf caseWith caseOf table same isIn placeIn ownerOf placeOf valueAt chemicalAt receptorAt orOne pairOf restOf valuesOf chemicalIn receptorIn printedIn scenarioWith orNone printedYears depositionOf stayIf laterIf receptorWith entered enteredFrom calls.longEntry years.time years.amount years.isYears years.wordsOf years.timeOf years.none years.least years.printedAmount years.printed years.together years.atMost years.asPair years.beyond ordinary scenarioOf valueIn byOwner inputs pairsAt asAnswers nineFigures inReach zeroExponent isZero isNumber zero one lesser rise unitsAt lower atMost isPair extra divided excessFrom excess carried rounded sumEnd productEnd quotientEnd restEnd provided calls.ends after afterOne zeroPair onePair entry sum product quotient oneMinusEntry pairs read letters noGrowth plainWith plain exponents grownAt stayIn compared paceIf paceOf pacesOf pairGrowing sixtyFour worked series.first series.step terms fromZero pairSeries u kse ksr ksl k x page.x′ page.gWith growth page.gathered page.mean page.soil A D C aboveGround belowGround AT B exposure factor byMedium medium intakeBy intake byRoute referenceSlot reference figureBy intakeLine byGuidance line guidanceOf guidanceIn pathwayAt isPrinted hasReference figureAt chained unitsEnd inUnits unitOf counted countedIn columnsAt airLine timeShare timeInAir airFigureBy yearOf above below isYearOf isYear
+air-is = (refl, refl)
 
 text-is : linesText rows ≡ printedText
 unfolding bytes lines printedLines printedText row rows linesText rowText columnsText number justified decimal digits
 text-is = refl
 
 read-whole : first (allConditions ordinary deck 665) ≡ Read
-unfolding bytes lines deckWith deck within leading linesOf lineOf fieldIn fieldOf digitsValue idSpelled idIn signSpelled exponentSpelled powerOf digitsRead endedOf pointedOf spelledOf loneDash wordOf kindOf idOf countOf tabulate valueOf slotSpelled recordOf recordsOf caseWith caseOf table same isIn placeIn ownerOf placeOf valueAt chemicalAt receptorAt orOne pairOf restOf valuesOf chemicalIn receptorIn printedIn scenarioWith orNone printedYears depositionOf stayIf laterIf receptorWith entered enteredFrom calls.longEntry years.time years.amount years.isYears years.wordsOf years.timeOf years.none years.least years.printedAmount years.printed years.together years.atMost years.asPair years.beyond ordinary scenarioOf valueIn byOwner inputs pairsAt asAnswers nineFigures inReach zeroExponent isZero isNumber zero one lesser rise unitsAt lower atMost isPair extra divided excessFrom excess carried rounded sumEnd productEnd quotientEnd restEnd provided calls.ends after afterOne zeroPair onePair entry sum product quotient oneMinusEntry pairs read letters noGrowth plainWith plain exponents grownAt stayIn compared paceIf paceOf pacesOf pairGrowing sixtyFour worked series.first series.step terms fromZero pairSeries u kse ksr ksl k x page.x′ page.gWith growth page.gathered page.mean page.soil A D C aboveGround belowGround AT B exposure factor byMedium medium intakeBy intake byRoute referenceSlot reference figureBy line pathwayAt isPrinted hasReference figureAt chained kindOrder befores among kinds rulesIn rulesOf ruleIn ruleAt lineRules above below valueAtMost valueAtLeast inRange first upTo misspelled misplaced outOfRange fieldConditions fieldAt badBytes badKind begins sameLetter wrongId badId lineConditionsAfter lineConditions badLength noEnd conditions capOf linesPerReceptor linesOfReport isAbove highAbove overCap lineTooLarge largeLines reportConditions allConditions lengthOf
+unfolding bytes lines deckOf deckWith deck within leading linesOf lineOf fieldIn fieldOf digitsValue idSpelled idIn signSpelled exponentSpelled powerOf digitsRead endedOf pointedOf spelledOf loneDash wordOf kindOf idOf countOf tabulate valueOf slotSpelled recordOf recordsOf caseWith caseOf table same isIn placeIn ownerOf placeOf valueAt chemicalAt receptorAt orOne pairOf restOf valuesOf chemicalIn receptorIn printedIn scenarioWith orNone printedYears depositionOf stayIf laterIf receptorWith entered enteredFrom calls.longEntry years.time years.amount years.isYears years.wordsOf years.timeOf years.none years.least years.printedAmount years.printed years.together years.atMost years.asPair years.beyond ordinary scenarioOf valueIn byOwner inputs pairsAt asAnswers nineFigures inReach zeroExponent isZero isNumber zero one lesser rise unitsAt lower atMost isPair extra divided excessFrom excess carried rounded sumEnd productEnd quotientEnd restEnd provided calls.ends after afterOne zeroPair onePair entry sum product quotient oneMinusEntry pairs read letters noGrowth plainWith plain exponents grownAt stayIn compared paceIf paceOf pacesOf pairGrowing sixtyFour worked series.first series.step terms fromZero pairSeries u kse ksr ksl k x page.x′ page.gWith growth page.gathered page.mean page.soil A D C aboveGround belowGround AT B exposure factor byMedium medium intakeBy intake byRoute referenceSlot reference figureBy intakeLine byGuidance line guidanceOf guidanceIn pathwayAt isPrinted hasReference figureAt chained kindOrder befores among kinds rulesIn rulesOf ruleIn ruleAt lineRules above below valueAtMost valueAtLeast withinBounds inRange first upTo misspelled misplaced outOfRange fieldConditions fieldAt badBytes badKind begins sameLetter wrongId badId lineConditionsAfter lineConditions badLength noEnd conditions capOf linesPerReceptor linesOfReport isAbove highAbove overCap lineTooLarge largeLines reportConditions allConditions lengthOf
 read-whole = refl
 
 answer-is : outcomeOf ordinary deck 665 ≡ record { number = 0; line = 665; field = 0 }
-unfolding bytes lines deckWith deck within leading linesOf lineOf fieldIn fieldOf digitsValue idSpelled idIn signSpelled exponentSpelled powerOf digitsRead endedOf pointedOf spelledOf loneDash wordOf kindOf idOf countOf tabulate valueOf slotSpelled recordOf recordsOf caseWith caseOf enteredFrom scenarioWith ordinary scenarioOf linesPerReceptor linesOfReport lengthOf statusOf outcomeFor outcomeOf
+unfolding bytes lines deckOf deckWith deck within leading linesOf lineOf fieldIn fieldOf digitsValue idSpelled idIn signSpelled exponentSpelled powerOf digitsRead endedOf pointedOf spelledOf loneDash wordOf kindOf idOf countOf tabulate valueOf slotSpelled recordOf recordsOf caseWith caseOf enteredFrom scenarioWith ordinary scenarioOf linesPerReceptor linesOfReport lengthOf statusOf outcomeFor outcomeOf
 answer-is = ap (λ (s : Status). outcomeFor s (scenarioOf ordinary deck)) read-whole
 
 -- the composite's
 composite-lines : rowsOf (scenarioOf composite compositeDeck) ≡ compositeRows
-unfolding bytes lines deckWith compositeDeck within leading linesOf lineOf fieldIn fieldOf digitsValue idSpelled idIn signSpelled exponentSpelled powerOf digitsRead endedOf pointedOf spelledOf loneDash wordOf kindOf idOf countOf tabulate valueOf slotSpelled recordOf recordsOf caseWith caseOf table same isIn placeIn ownerOf placeOf valueAt chemicalAt receptorAt orOne pairOf restOf valuesOf chemicalIn receptorIn printedIn scenarioWith composed mean summed sumOfYears yearsTogether pairStage lastStage stageYears exposureOf pairComposite orNone printedYears depositionOf stayIf laterIf receptorWith compositeReceptor calls.longEntry years.time years.amount years.isYears years.wordsOf years.timeOf years.none years.least years.printedAmount years.printed years.together years.atMost years.asPair years.beyond compositeFrom composite noReceptor scenarioOf valueIn byOwner inputs pairsAt asAnswers nineFigures inReach zeroExponent isZero isNumber zero one lesser rise unitsAt lower atMost isPair extra divided excessFrom excess carried rounded sumEnd productEnd quotientEnd restEnd provided calls.ends after afterOne zeroPair onePair entry sum product quotient oneMinusEntry pairs read letters noGrowth plainWith plain exponents grownAt stayIn compared paceIf paceOf pacesOf pairGrowing sixtyFour worked series.first series.step terms fromZero pairSeries u kse ksr ksl k x page.x′ page.gWith growth page.gathered page.mean page.soil A D C aboveGround belowGround AT B exposure factor byMedium medium intakeBy intake byRoute referenceSlot reference figureBy line pathwayAt isPrinted hasReference figureAt chained unitsEnd inUnits unitOf counted countedIn columnsAt _added_ addedOver totalAt rowAt totalRow rowsAt rowsOf row compositeRows
+unfolding bytes lines deckOf deckWith compositeDeck within leading linesOf lineOf fieldIn fieldOf digitsValue idSpelled idIn signSpelled exponentSpelled powerOf digitsRead endedOf pointedOf spelledOf loneDash wordOf kindOf idOf countOf tabulate valueOf slotSpelled recordOf recordsOf caseWith caseOf table same isIn placeIn ownerOf placeOf valueAt chemicalAt receptorAt orOne pairOf restOf valuesOf chemicalIn receptorIn printedIn scenarioWith composed mean summed sumOfYears yearsTogether pairStage lastStage stageYears exposureOf pairComposite orNone printedYears depositionOf stayIf laterIf receptorWith compositeReceptor calls.longEntry years.time years.amount years.isYears years.wordsOf years.timeOf years.none years.least years.printedAmount years.printed years.together years.atMost years.asPair years.beyond compositeFrom composite noReceptor scenarioOf valueIn byOwner inputs pairsAt asAnswers nineFigures inReach zeroExponent isZero isNumber zero one lesser rise unitsAt lower atMost isPair extra divided excessFrom excess carried rounded sumEnd productEnd quotientEnd restEnd provided calls.ends after afterOne zeroPair onePair entry sum product quotient oneMinusEntry pairs read letters noGrowth plainWith plain exponents grownAt stayIn compared paceIf paceOf pacesOf pairGrowing sixtyFour worked series.first series.step terms fromZero pairSeries u kse ksr ksl k x page.x′ page.gWith growth page.gathered page.mean page.soil A D C aboveGround belowGround AT B exposure factor byMedium medium intakeBy intake byRoute referenceSlot reference figureBy intakeLine byGuidance line guidanceOf guidanceIn pathwayAt isPrinted hasReference figureAt chained unitsEnd inUnits unitOf counted countedIn columnsAt _added_ addedOver totalAt rowAt totalRow rowsAt rowsOf row compositeRows
 composite-lines = refl
 
 composite-text : linesText compositeRows ≡ compositeText
@@ -108,11 +118,11 @@ unfolding bytes lines compositeText row compositeRows linesText rowText columnsT
 composite-text = refl
 
 composite-whole : first (allConditions composite compositeDeck 665) ≡ Read
-unfolding bytes lines deckWith compositeDeck within leading linesOf lineOf fieldIn fieldOf digitsValue idSpelled idIn signSpelled exponentSpelled powerOf digitsRead endedOf pointedOf spelledOf loneDash wordOf kindOf idOf countOf tabulate valueOf slotSpelled recordOf recordsOf caseWith caseOf table same isIn placeIn ownerOf placeOf valueAt chemicalAt receptorAt orOne pairOf restOf valuesOf chemicalIn receptorIn printedIn scenarioWith composed mean summed sumOfYears yearsTogether pairStage lastStage stageYears exposureOf pairComposite orNone printedYears depositionOf stayIf laterIf receptorWith compositeReceptor calls.longEntry years.time years.amount years.isYears years.wordsOf years.timeOf years.none years.least years.printedAmount years.printed years.together years.atMost years.asPair years.beyond compositeFrom composite noReceptor scenarioOf valueIn byOwner inputs pairsAt asAnswers nineFigures inReach zeroExponent isZero isNumber zero one lesser rise unitsAt lower atMost isPair extra divided excessFrom excess carried rounded sumEnd productEnd quotientEnd restEnd provided calls.ends after afterOne zeroPair onePair entry sum product quotient oneMinusEntry pairs read letters noGrowth plainWith plain exponents grownAt stayIn compared paceIf paceOf pacesOf pairGrowing sixtyFour worked series.first series.step terms fromZero pairSeries u kse ksr ksl k x page.x′ page.gWith growth page.gathered page.mean page.soil A D C aboveGround belowGround AT B exposure factor byMedium medium intakeBy intake byRoute referenceSlot reference figureBy line pathwayAt isPrinted hasReference figureAt chained kindOrder befores among kinds rulesIn rulesOf ruleIn ruleAt lineRules above below valueAtMost valueAtLeast inRange first upTo misspelled misplaced outOfRange fieldConditions fieldAt badBytes badKind begins sameLetter wrongId badId lineConditionsAfter lineConditions badLength noEnd conditions capOf linesPerReceptor linesOfReport isAbove highAbove overCap lineTooLarge largeLines reportConditions allConditions lengthOf
+unfolding bytes lines deckOf deckWith compositeDeck within leading linesOf lineOf fieldIn fieldOf digitsValue idSpelled idIn signSpelled exponentSpelled powerOf digitsRead endedOf pointedOf spelledOf loneDash wordOf kindOf idOf countOf tabulate valueOf slotSpelled recordOf recordsOf caseWith caseOf table same isIn placeIn ownerOf placeOf valueAt chemicalAt receptorAt orOne pairOf restOf valuesOf chemicalIn receptorIn printedIn scenarioWith composed mean summed sumOfYears yearsTogether pairStage lastStage stageYears exposureOf pairComposite orNone printedYears depositionOf stayIf laterIf receptorWith compositeReceptor calls.longEntry years.time years.amount years.isYears years.wordsOf years.timeOf years.none years.least years.printedAmount years.printed years.together years.atMost years.asPair years.beyond compositeFrom composite noReceptor scenarioOf valueIn byOwner inputs pairsAt asAnswers nineFigures inReach zeroExponent isZero isNumber zero one lesser rise unitsAt lower atMost isPair extra divided excessFrom excess carried rounded sumEnd productEnd quotientEnd restEnd provided calls.ends after afterOne zeroPair onePair entry sum product quotient oneMinusEntry pairs read letters noGrowth plainWith plain exponents grownAt stayIn compared paceIf paceOf pacesOf pairGrowing sixtyFour worked series.first series.step terms fromZero pairSeries u kse ksr ksl k x page.x′ page.gWith growth page.gathered page.mean page.soil A D C aboveGround belowGround AT B exposure factor byMedium medium intakeBy intake byRoute referenceSlot reference figureBy intakeLine byGuidance line guidanceOf guidanceIn pathwayAt isPrinted hasReference figureAt chained kindOrder befores among kinds rulesIn rulesOf ruleIn ruleAt lineRules above below valueAtMost valueAtLeast withinBounds inRange first upTo misspelled misplaced outOfRange fieldConditions fieldAt badBytes badKind begins sameLetter wrongId badId lineConditionsAfter lineConditions badLength noEnd conditions capOf linesPerReceptor linesOfReport isAbove highAbove overCap lineTooLarge largeLines reportConditions allConditions lengthOf
 composite-whole = refl
 
 composite-answer : outcomeOf composite compositeDeck 665 ≡ record { number = 0; line = 665; field = 0 }
-unfolding bytes lines deckWith compositeDeck within leading linesOf lineOf fieldIn fieldOf digitsValue idSpelled idIn signSpelled exponentSpelled powerOf digitsRead endedOf pointedOf spelledOf loneDash wordOf kindOf idOf countOf tabulate valueOf slotSpelled recordOf recordsOf caseWith caseOf scenarioWith compositeFrom composite scenarioOf linesPerReceptor linesOfReport lengthOf statusOf outcomeFor outcomeOf
+unfolding bytes lines deckOf deckWith compositeDeck within leading linesOf lineOf fieldIn fieldOf digitsValue idSpelled idIn signSpelled exponentSpelled powerOf digitsRead endedOf pointedOf spelledOf loneDash wordOf kindOf idOf countOf tabulate valueOf slotSpelled recordOf recordsOf caseWith caseOf scenarioWith compositeFrom composite scenarioOf linesPerReceptor linesOfReport lengthOf statusOf outcomeFor outcomeOf
 composite-answer = ap (λ (s : Status). outcomeFor s (scenarioOf composite compositeDeck)) composite-whole
 
 -- 002's five stages
@@ -123,7 +133,7 @@ stages-weigh = (refl, refl, refl)
 
 -- What the cases x = 0, ED 4.5 and winter ask of the values is met: by the deck, and by these values.
 deck-at-zero : ofSlots (valuesOf (caseOf deck .site)) (valuesOf (chemicalAt (caseOf deck) 0)) x ≡ is zeroPair
-unfolding bytes lines deckWith deck within leading linesOf lineOf fieldIn fieldOf digitsValue idSpelled idIn signSpelled exponentSpelled powerOf digitsRead endedOf pointedOf spelledOf loneDash wordOf kindOf idOf countOf tabulate valueOf slotSpelled recordOf recordsOf caseWith caseOf table same isIn placeIn ownerOf placeOf valueAt chemicalAt orOne pairOf valuesOf valueIn byOwner inputs asAnswers nineFigures inReach zeroExponent isZero isNumber zero one lesser rise unitsAt lower atMost isPair extra divided excessFrom excess carried rounded sumEnd productEnd quotientEnd restEnd provided calls.ends after afterOne zeroPair onePair entry sum product quotient oneMinusEntry pairs read letters noGrowth plainWith plain u kse ksr ksl k x ofSlots noValues
+unfolding bytes lines deckOf deckWith deck within leading linesOf lineOf fieldIn fieldOf digitsValue idSpelled idIn signSpelled exponentSpelled powerOf digitsRead endedOf pointedOf spelledOf loneDash wordOf kindOf idOf countOf tabulate valueOf slotSpelled recordOf recordsOf caseWith caseOf table same isIn placeIn ownerOf placeOf valueAt chemicalAt orOne pairOf valuesOf valueIn byOwner inputs asAnswers nineFigures inReach zeroExponent isZero isNumber zero one lesser rise unitsAt lower atMost isPair extra divided excessFrom excess carried rounded sumEnd productEnd quotientEnd restEnd provided calls.ends after afterOne zeroPair onePair entry sum product quotient oneMinusEntry pairs read letters noGrowth plainWith plain u kse ksr ksl k x ofSlots noValues
 deck-at-zero = refl
 
 -- 1 in every place but those of a receptor's first ten slots, and so of the site's eleventh
@@ -150,4 +160,4 @@ year-met = refl
 -- the single list
 pub checked-figures : CheckedFigures
 unfolding CheckedFigures cases figures
-checked-figures = (figures-hold .0, (figures-hold .1 .0, (at-zero, (half-at-zero, (fast-growth .0, (fast-growth .1, (fast-growth .2, (year, (winter, (figures-hold .1 .1 .1 .1 .0, (figures-hold .1 .1 .1 .1 .1 .0, (read-whole, (answer-is, (lines-are, (ap linesText lines-are ∙ text-is, (soils-are .0, (soils-are .1, (soils-are .2, (solvent-soils .0, (solvent-soils .1, (composite-whole, (composite-answer, (composite-lines, (ap linesText composite-lines ∙ composite-text, (stages-weigh .0, (stages-weigh .1, (stages-weigh .2, tt)))))))))))))))))))))))))))
+checked-figures = (figures-hold .0, (figures-hold .1 .0, (at-zero, (half-at-zero, (fast-growth .0, (fast-growth .1, (fast-growth .2, (year, (winter, (figures-hold .1 .1 .1 .1 .0, (figures-hold .1 .1 .1 .1 .1 .0, (read-whole, (answer-is, (lines-are, (ap linesText lines-are ∙ text-is, (soils-are .0, (soils-are .1, (soils-are .2, (solvent-soils .0, (solvent-soils .1, (air-whole, (air-is .0, (air-is .1, (composite-whole, (composite-answer, (composite-lines, (ap linesText composite-lines ∙ composite-text, (stages-weigh .0, (stages-weigh .1, (stages-weigh .2, tt))))))))))))))))))))))))))))))

@@ -12,7 +12,7 @@ use lib.ListN.{getD}
 use Rattle.pair.specs.declared.Pair.{Pair}
 use Rattle.pair.specs.Calls.{Outcome, is, mapped, afterOne, entry, oneMinus, oneMinusEntry, zeroPair, onePair}
 use Rattle.pair.specs.Figures.{_⊘_, whole, bothEnds}
-use Rattle.equations.specs.declared.Pathway.the-variants.{SoilWinter}
+use Rattle.equations.specs.declared.Pathway.the-variants.{Air, SoilWinter}
 use Rattle.equations.specs.declared.Effect.the-variants.{Hazard, Cancer}
 use Rattle.years.specs.declared.Years.{Years}
 use Rattle.years.specs.Years as years
@@ -32,6 +32,7 @@ use Rattle.totals.specs.declared.Columns.the-variants.{Absent, Counted}
 use Rattle.text.specs.declared.Row.{Row}
 use Rattle.text.specs.Text.{linesText}
 use Rattle.sheet.specs.Values.{orNone, stayIn, pairsAt}
+use Rattle.sheet.specs.Sheet.{columnsAt}
 use Rattle.composite.specs.Composite.{composed, yearsTogether, composite}
 use Rattle.report.specs.Report.{rowsOf, ordinary, scenarioOf, allConditions, outcomeOf}
 
@@ -45,22 +46,28 @@ unfoldable pub lines : List String → List ℕ
 lines [] = []
 lines (l ∷ ls) = bytes l ++ (10 ∷ lines ls)
 
--- the deck: kind, id and six fields; its chemical's second line and its receptor's fourth are given
-unfoldable pub deckWith : String → String → List ℕ
-deckWith c2 r4 =
+-- the deck: kind, id and six fields; its site's second line, its chemical's second and fourth and its receptor's fourth are given
+unfoldable pub deckOf : String → String → String → String → List ℕ
+deckOf s2 c2 c4 r4 =
     lines
     ("S1     1          10           2          30         0.2           0           0"
-    ∷ "S2     1           0           0           0        0.01         0.5            "
+    ∷ s2
     ∷ "C1     1           1           1           1           0           0           1"
     ∷ c2
     ∷ "C3     1           0         0.1          10           1           1         0.1"
-    ∷ "C4     1       0.001       0.001           1           -                        "
+    ∷ c4
     ∷ "R1     1          20           5       27375          10           1         365"
     ∷ "R2     1          80           1          73         146        1000        0.02"
     ∷ "R3     1         400         0.1           1         0.1         0.5         0.2"
     ∷ r4
     ∷ "EN                                                                              "
     ∷ [])
+
+-- with no year and no CSFi
+unfoldable pub deckWith : String → String → List ℕ
+deckWith c2 r4 =
+    deckOf "S2     1           0           0           0        0.01         0.5            " c2
+    "C4     1       0.001       0.001           1           -                        " r4
 
 -- ksg is 0, or as large as a field holds
 abbrev pub keptLine : String
@@ -83,6 +90,12 @@ longDeck = deckWith keptLine "R4     1         0.5           1         365      
 -- the same as the last of a solvent
 unfoldable pub solventDeck : List ℕ
 solventDeck = deckWith lostLine "R4     1         0.5           1         365          60                        "
+
+-- the first deck by the guidance of 2009, with a CSFi of 0.5
+unfoldable pub airDeck : List ℕ
+airDeck =
+    deckOf "S2     1           0           0           0        0.01         0.5        2009" keptLine
+    "C4     1       0.001       0.001           1         0.5                        " "R4     1         0.5           1         365           1                        "
 
 -- the soil of cancer for the first chemical and receptor, by the working rule
 unfoldable pub cancerSoil : List ℕ → Outcome Pair
@@ -174,7 +187,7 @@ pub record Winter (env : Slot → Pair) : Type 0 where
   pub BW : is (env "BW") ≡ entry 633 (negsuc 0)
   pub ATc : is (env "ATc") ≡ whole 27375
 
--- document 01's cases, and the figures of document 02's P1, P2, P4 and P5
+-- document 01's cases, and the figures of document 02's P1, P2, P4, P5 and P6
 unfoldable pub cases : List (Type 0)
 cases =
     -- 2 / 3
@@ -211,6 +224,10 @@ cases =
     -- a solvent's, which loses 1E+9 in a year what 0.005 adds, is 5E-12, and half of that where T2 is twice tD
     ∷ (worked (pairsAt (scenarioOf ordinary solventDeck) 0 0) C ≡ bothEnds 499999998 500000001 (negsuc 19))
     ∷ (cancerSoil solventDeck ≡ bothEnds 249999998 250000004 (negsuc 19))
+    -- by the guidance of 2009 its air is 1 × 365 × 5 / (365 × 5) × 0.001 / 0.001 = 1, and 1 × 365 × 5 / 27375 × 0.001 × 1000 × 0.5, a thirtieth
+    ∷ (first (allConditions ordinary airDeck 665) ≡ Read)
+    ∷ (columnsAt Hazard (scenarioOf ordinary airDeck) 0 0 Air ≡ Counted 1000000000000 1000000000000)
+    ∷ (columnsAt Cancer (scenarioOf ordinary airDeck) 0 0 Air ≡ Counted 33333333300000 33333333400000)
     -- the composite's deck likewise
     ∷ (first (allConditions composite compositeDeck 665) ≡ Read)
     ∷ (outcomeOf composite compositeDeck 665 ≡ record { number = 0; line = 665; field = 0 })
