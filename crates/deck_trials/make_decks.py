@@ -5,15 +5,17 @@ and 02.
   python3 make_decks.py ORACLE
 
 ORACLE is the folder of that reading (its oracle.py and decks.py), written in Python from the documents alone; nothing of it is
-copied here. It gives number, line and field, or which records a deck has, with P1 to P5 landed: level 5. P5 changes nothing in how
-a deck is read: each must have the same answer at level 4. P4 changes T2 alone: an ordinary deck that does not stop at a T2 must
-have the same answer at level 2 with slot 22 cleared, and a composite's deck the same as it is. No answer comes from the crate deck.
+copied here. It gives number, line and field, or which records a deck has, with P1 to P6 landed: level 6. P6 changes the site's slot
+12 alone: a deck that does not stop there must have the same answer at level 5 with slot 12 cleared, and so one whose slot 12 is
+blank the same as it is. P5 changes nothing in how a deck is read: with slot 12 cleared each must have the same answer at levels 4
+and 5. P4 changes T2 alone: an ordinary deck that does not stop at a T2 must have the same answer at level 2 with slot 22 cleared
+too, and a composite's deck the same as it is. No answer comes from the crate deck.
 The checksum needs digits and power as printed, which the oracle does not keep: they are taken from the fields' bytes here, and
 their value is held to the oracle's.
 
 The first 452 decks stand in data/decks since before P1 and are answered afresh, with a T2 where they had none. One that did not stop
-at slot 22 must keep its number, line and field. The others are made anew on each run, from document 01's example but for one or two
-fields:
+at slot 22, or at slot 12 of the site, must keep its number, line and field. The others are made anew on each run, from document
+01's example but for one or two fields:
   each slot with ten, eleven and twelve digits in range, and above its largest value
   both ends of each range, on both sides, and 0 where it is never 0
   later slots, and fields that spell no number, with that many digits
@@ -21,19 +23,22 @@ fields:
   whole decks by the oracle's own generator, half of them damaged
   for P2: slots 23 and 24 filled, five receptors and more, a composite's decks, lengths above 6,723
   for P4: T2 in range, out of range, missing and misspelled, alone and beside another condition; decks from before P4
+  for P6: the year blank, spelled in several ways, none that there is, - and misspelled, alone and beside another condition; in a
+  later slot; whole decks by the oracle's own generator, half of them damaged
 
 The decks of data/composites are made anew too, from document 01's example with one to eight stages:
   each number of stages; years, and each slot of a stage, in range, above it, and 0
   years, ED and ATc missing or misspelled; slots 22 and 24 filled
   ids, lines and lengths that stop a deck; two conditions at once; ordinary decks
   whole decks by the oracle's own generator, half of them damaged
+  for P6: the year as above
 """
 import random
 import sys
 from fractions import Fraction
 from pathlib import Path
 
-LEVEL = 5
+LEVEL, BEFORE = 6, 5
 ORDINARY, COMPOSITE = (LEVEL, False), (LEVEL, True)
 OLD = 452
 MODULUS = 999983
@@ -105,12 +110,23 @@ def at_exposure(deck, numbers):
     return number > 30 and field == 4 and deck[81 * (line - 1):][:2] == b"R4"
 
 
+def at_year(numbers):
+    """the deck stops at slot 12 of the site"""
+    return numbers[0] > 30 and numbers[1:] == (2, 6)
+
+
+def is_text(part):
+    return all(32 <= b <= 126 for b in part)
+
+
 def answer(deck, how=ORDINARY):
     """the five numbers that are stored before a deck"""
-    numbers = told(deck, how)
-    assert numbers == told(deck, (4, how[1])), "P5 changes how a deck is read"
-    before = deck if how == COMPOSITE else with_exposure(deck, "", lambda part: all(32 <= b <= 126 for b in part))
-    assert numbers == told(before, (2, how[1])) or at_exposure(deck, numbers), "P4 changes more than T2"
+    numbers, undated = told(deck, how), put(deck, 2, 6, "") if deck[81:83] == b"S2" and is_text(deck[149:161]) else deck
+    before = told(undated, (BEFORE, how[1]))
+    assert numbers == before or at_year(numbers), "P6 changes more than the year"
+    assert before == told(undated, (4, how[1])), "P5 changes how a deck is read"
+    unexposed = undated if how == COMPOSITE else with_exposure(undated, "", is_text)
+    assert before == told(unexposed, (2, how[1])) or at_exposure(undated, before), "P4 changes more than T2"
     lines = [deck[i:i + 81] for i in range(0, len(deck), 81)] if numbers[0] == 0 else []
     return (len(deck), *numbers, checksum(lines, *(numbers[1:] if lines else (0, 0)), oracle.Rules(*how).receptors))
 
@@ -134,10 +150,11 @@ def with_exposure(deck, text, wanted):
 
 
 def exposed():
-    """with a T2 where slot 22 was blank; an answer that was given before may change at slot 22 alone"""
+    """with a T2 where slot 22 was blank; an answer that was given before may change at slot 22 alone, or at slot 12 of the site"""
     for i, (head, deck) in enumerate(stored()):
         full = with_exposure(deck, EXPOSURES[0][i % len(EXPOSURES[0])], lambda part: not part.strip())
-        assert answer(full)[1:4] == head[1:4] or at_exposure(deck, head[1:4]), "P4 changes an answer from before"
+        free = at_exposure(deck, head[1:4]) or at_year(head[1:4])
+        assert answer(full)[1:4] == head[1:4] or free, "P4 or P6 changes an answer from before"
         yield full
 
 
@@ -192,7 +209,8 @@ def largest(name):
 
 
 def slots():
-    return [(letter, name) for letter in RECORDS for name in oracle.Rules(*ORDINARY).slots[letter] if name is not None]
+    """all but the year's, whose range is two values"""
+    return [(letter, name) for letter in RECORDS for name in oracle.Rules(BEFORE).slots[letter] if name is not None]
 
 
 def in_every_slot(rng):
@@ -332,7 +350,8 @@ def stopped_composites():
 def composites(rng):
     for count in range(1, 9):
         yield composite(count, 1 + count % 3)
-    for decks in (some_years(), in_every_stage_slot(rng), stopped_composites(), generated(rng, True)):
+    for decks in (some_years(), in_every_stage_slot(rng), stopped_composites(), generated(rng, True), guidance(True),
+                  dated(rng, True)):
         yield from decks
 
 
@@ -358,9 +377,62 @@ def exposures():
         yield oracle.example(2, recs=[{}] * receptors)
 
 
+# ---- P6
+
+# of the year: 2009 and 2005 in several spellings, values that are neither, and fields that spell no number
+YEARS = ["2009", "2009.0", "2.009E+03", "02009", "20090E-01", "000000002009", "2009E+00", "2009.0000000",
+         "2005", "2005.0", "2.005E+03", "02005", "20050E-01", "000000002005", "2005E+00", "2005.0000000"]
+NO_YEARS = ["2010", "2004", "2006", "2007", "2008", "0", "1", "2009.0000001", "2008.9999999", "2005.0000001", "2004.9999999",
+            "20.09E+01", "2009E+01", "2009E-01", "999999999999", "1E-20", "0.0000000000", "1E+09"]
+UNSPELLED = ["2009E", "MMIX", "2 009", "+2009", "-2009", "2009.", "2009 ", "2009E+0", "2009e+00", ".2009E+04", "--"]
+
+
+def guidance(composites=False):
+    """the year in the smallest deck and in one of two chemicals, with four receptors or five stages"""
+    if composites:
+        small, large = composite(1), composite(5, 2)
+    else:
+        small = oracle.example(LEVEL)
+        large = oracle.example(LEVEL, chems=[{}] * 2, recs=[{"T2": f"{10 * i}.5"} for i in range(1, 5)])
+    last = len(large) // 81 - 1         # the last line before EN
+    yield large
+    for text in YEARS:
+        yield put(small, 2, 6, text)
+    for i, text in enumerate(["-"] + NO_YEARS + UNSPELLED):
+        yield put((small, large)[i % 2], 2, 6, text)
+    # in the larger deck too; in a later slot of a chemical and of a receptor; beside another field that stops the deck
+    for changes in (((2, 6, "2009"),), ((2, 6, "20050E-01"),), ((2, 6, "2.009E+03"),), ((2, 6, "-"),),
+                    ((6, 5, "2009"),), ((10, 6, "2005"),), ((last, 6, "2009"),), ((2, 6, "2009"), (last - 4, 6, "2009")),
+                    ((2, 5, "2009"),), ((2, 5, "1.1"), (2, 6, "2010")), ((2, 5, ""), (2, 6, "x")), ((2, 6, "2010"), (3, 1, "x")),
+                    ((2, 6, "-"), (3, 1, "")),
+                    ((1, 1, "0"), (2, 6, "2008")), ((2, 6, "2009"), (3, 4, "1.1")), ((2, 6, "2005"), (last, 4 + composites, "0"))):
+        deck = large
+        for change in changes:
+            deck = put(deck, *change)
+        yield deck
+    wrong = put(small, 2, 6, "2010")
+    yield wrong[:161] + b" " + wrong[162:]
+    yield with_id(wrong, 2, b"     2")
+    yield wrong[:81] + b"S3" + wrong[83:]
+    yield wrong[:-81]
+    yield wrong + b" "
+    yield put(small, 2, 6, "2009")[:-81]
+
+
+def dated(rng, composites=False):
+    """decks of the generator with slot 12 filled, half of them damaged"""
+    how = LEVEL, composites
+    for i in range(16):
+        deck = b""
+        while not deck[149:161].strip() or len(deck) > 1800:
+            deck = generator.deck(rng, *how)
+        yield generator.damage(rng, deck, *how) if i % 2 else deck
+
+
 def made():
     rng = random.Random(SEED)
-    for decks in (in_every_slot(rng), at_the_ends(), misplaced(), around_a_stop(), generated(rng), no_composites(), exposures()):
+    for decks in (in_every_slot(rng), at_the_ends(), misplaced(), around_a_stop(), generated(rng), no_composites(), exposures(),
+                  guidance(), dated(rng)):
         yield from decks
 
 

@@ -3,12 +3,14 @@
 
 Writes FOLDER/decks, FOLDER/composites, and FOLDER/stdout, which is what a trial of the one and then of the other prints.
 
-The answers are those of level 5: document 01 with requests P1, P2, P4 and P5 (P3 changes none). P5 takes condition 41 away and changes nothing else: a
-deck that does not stop with 41 at level 4 must have the same answer at both levels, and none may stop with 41 at level 5. An accepted deck's totals must
-hold to demand 3 with 256 terms. Else the script stops.
+The answers are those of level 6: document 01 with requests P1, P2, P4, P5 and P6 (P3 changes none). P6 changes what a filled slot 12 of the site means
+and nothing else: a deck whose slot 12 is blank must have the same answer at levels 5 and 6. P5 takes condition 41 away and changes nothing else: a deck
+that does not stop with 41 at level 4 must have the same answer at levels 4 and 5, and none may stop with 41 from there on. A deck of 2005 must have the
+answer that it has with slot 12 blank, and where both are reports, one of 2009 the same lines of pathways 2 to 6. An accepted deck's totals must hold to
+demand 3 with 256 terms. Else the script stops.
 
 The decks of document 01, P1, P2 and P4 are the ones that were stored before P5: what they are chosen by is their answer at level 4, where a number wanted
-may be 41. Those of P5, at the end, are chosen by their answer at level 5.
+may be 41. Those of P5 are chosen by their answer at level 5, and those of P6, at the end, by their answer at level 6.
 """
 import collections
 import functools
@@ -23,11 +25,11 @@ from oracle import SITE, CHEM, NOVALUE, NONZERO, ATMOST1, ATMOST366, deck_text, 
 SEED = int(sys.argv[2])
 rng = random.Random(SEED)
 LINE = 95
-LEVEL, BEFORE = 5, 4
-ORDINARY, COMPOSITE = (BEFORE, False), (BEFORE, True)
+LEVEL, BEFORE, FIRST = 6, 5, 4
+ORDINARY, COMPOSITE = (FIRST, False), (FIRST, True)
 REC = oracle.REC + ["T2"]
 call = ORDINARY         # the level that decks are chosen by, and whether it is the composite call
-moved = collections.Counter()
+moved, renewed = collections.Counter(), []
 
 
 class File:
@@ -73,12 +75,29 @@ def without_exposure(deck):
     return deck
 
 
+def slot_12(deck):
+    """the twelve bytes at the year's place, without spaces"""
+    return deck[149:161].strip(b" ")
+
+
+def beside_air(text):
+    """a report's lines of pathways 2 to 6"""
+    return [line for line in text.splitlines() if line[12:14] not in (b" 0", b" 1")]
+
+
 def held(deck, room):
-    """the answer that is stored: the one before P5, but for 41"""
-    then, now = (answer(deck, room, (level, call[1])) for level in (BEFORE, LEVEL))
-    assert now[0][0] != 41 and (then == now or then[0][0] == 41), (then[0], now[0])
+    """the answer that is stored: the one before P6 where slot 12 is blank, and that the one before P5 but for 41"""
+    first, then, now = (answer(deck, room, (level, call[1])) for level in (FIRST, BEFORE, LEVEL))
+    assert then[0][0] != 41 and (first == then or first[0][0] == 41), (first[0], then[0])
+    assert now[0][0] != 41 and (then == now or slot_12(deck)), (then[0], now[0])
+    if slot_12(deck) and now[0][0] in (0, 42, 51):      # the year is 2005 or 2009
+        blank = answer(deck[:149] + b" " * 12 + deck[161:], room, (LEVEL, call[1]))
+        assert now == blank or oracle.read_deck(deck, LEVEL, call[1])[0]["year"] == 2009 and (
+            42 in (now[0][0], blank[0][0]) or beside_air(now[1]) == beside_air(blank[1])), (now[0], blank[0])
     assert now[0][0] != 0 or oracle.demand_3(deck, 256, LEVEL, call[1])
-    moved[call[1], now[0][0]] += then[0][0] == 41
+    moved[call[1], now[0][0]] += first[0][0] == 41
+    if call[0] < LEVEL and then != now:
+        renewed.append((call[1], len(files["composites" if call[1] else "decks"].stored) + 1, slot_12(deck).decode(), then[0], now[0]))
     return now
 
 
@@ -451,8 +470,8 @@ put(K, deck_text((1, S0), [(1, C0)], [(9, R0), (9, R0)]), None, {22})
 put(K, deck_text((1, S0), [(1, C0)], [(10, R0), (9, R0)]), None, {22})
 put(K, deck_text((7, S0), [(7, C0), (999999, C0)], [(7, R0), (8, R0)]))
 for number, count in ((11, 2), (12, 12), (21, 4), (22, 10), (31, 16), (32, 14), (33, 14)):
-    fill(K, count, lambda: decks.damage(rng, some_deck(), BEFORE), {number})
-fill(K, 8, lambda: decks.damage(rng, some_deck(), BEFORE), {0})
+    fill(K, count, lambda: decks.damage(rng, some_deck(), FIRST), {number})
+fill(K, 8, lambda: decks.damage(rng, some_deck(), FIRST), {0})
 
 
 # ---- request P1: as many digits as twelve columns hold ----
@@ -696,7 +715,7 @@ for name, t in zip(rng.sample(SITE + CHEM + REC, 20),
 # damaged decks of long numbers
 K = "P1: damaged decks"
 for number, count in ((0, 3), (31, 4), (32, 2), (33, 4), (22, 1), (21, 1)):
-    fill(K, count, lambda: decks.damage(rng, long_deck(1, 1), BEFORE), {number})
+    fill(K, count, lambda: decks.damage(rng, long_deck(1, 1), FIRST), {number})
 
 # ---- request P2: composite receptors, each made of one to eight stages ----
 STAGE = oracle.Rules(*COMPOSITE).slots["R"]
@@ -1347,7 +1366,7 @@ for tD, years, ksg, number in (("1", "16 17", "2", 0), ("1", "16 17.0000001", "2
                None, {number})
 print("of the decks for P4 so many tell apart:", {f"{w}{', composites' if c else ''}": n for (c, w), n in sorted(tells.items())})
 
-# ---- request P5: solvents, whose x or k x (T2 - tD) is above 64; ordinary ones and composites, chosen by the answers stored ----
+# ---- request P5: solvents, whose x or k x (T2 - tD) is above 64; ordinary ones and composites, chosen by their answers at level 5 ----
 g_kept, h_kept, losses_kept = oracle.g_at, oracle.h_at, oracle.losses
 
 
@@ -1490,7 +1509,7 @@ RUNOFF, RAIN = (dict(THIN, Kds="1E-20", **{k: "1E+09"}) for k in ("RO", "R"))
 EROSION = dict(THIN, Kds="1E+09", Xe="1E+09", SD="1E+09", ER="1E+09")
 ALL = {**EROSION, **{k: "1E+09" for k in ("RO", "R", "ksg", "ksv")}}
 
-ORDINARY, COMPOSITE = (LEVEL, False), (LEVEL, True)
+ORDINARY, COMPOSITE = (BEFORE, False), (BEFORE, True)
 call = ORDINARY
 solvents("P5: x at 64 and a unit of its ninth figure above",
          ("1", "0.5", "64", DOWN), ("1", "1", "64.0000001", UP), ("1", "0.5", "64.0000001", UP), ("10", "4", "6.40000001", UP), ("10", "10.05", "6.4", DOWN, DOWN),
@@ -1596,7 +1615,7 @@ def generated():
     """a deck of the reading's own generator that stopped with 41"""
     while True:
         deck = decks.deck(rng, *call)
-        if answer(deck, None, (BEFORE, call[1]))[0][0] == 41:
+        if answer(deck, None, (FIRST, call[1]))[0][0] == 41:
             return deck
 
 
@@ -1641,6 +1660,322 @@ K = "P5: by the reading's own generator"
 for number, count in ((0, 7), (42, 1)):
     fill(K, count, generated, {number})
 
+# ---- request P6: the year in site slot 12, and the air by the 2009 guidance; chosen by the answers stored ----
+values_kept = oracle.line_values
+
+
+def air_otherwise(factor=lambda A, c, r, AT: A.div(oracle.products(A, r["ETinh"], r["EFinh"], r["ED"]), AT), product=lambda A, f, air: A.mul(f, air),
+                  hazard_time=lambda A, r: A.mul(A.num(365), r["ED"]), cancer_time=lambda A, r: r["ATc"], quotient=1, risk=1000, refs=("RfDi", "CSFi")):
+    """the oracle's line_values, with one part of 2009's first line taken another way"""
+    def values(A, site, c, r, p, hazard, cancer):
+        if p != 1 or site.get("year") != 2009:
+            return values_kept(A, site, c, r, p, hazard, cancer)
+        intake = lambda AT, air, times: A.mul(product(A, factor(A, c, r, AT), air), A.num(times))
+        rfd, csf = (None if c[k] is None else A.num(c[k]) for k in refs)
+        return (rfd and A.div(intake(hazard_time(A, r), hazard, quotient), rfd), csf and A.mul(intake(cancer_time(A, r), cancer, risk), csf))
+    return values
+
+
+def all_lines_by_1000(A, site, c, r, p, hazard, cancer):
+    q, k = values_kept(A, site, c, r, p, hazard, cancer)
+    return q, k and A.mul(k, A.num(1000)) if p != 1 and site.get("year") == 2009 else k
+
+
+AIR = lambda **part: (lambda: air_otherwise(**part), oracle, "line_values")
+P = oracle.products
+AIR_WAYS = {
+    "2005's first line": (lambda: lambda A, site, *more: values_kept(A, {**site, "year": None}, *more), oracle, "line_values"),
+    "BW divides": AIR(factor=lambda A, c, r, AT: A.div(P(A, r["ETinh"], r["EFinh"], r["ED"]), A.mul(r["BW"], AT))),
+    "IRinh multiplies": AIR(factor=lambda A, c, r, AT: A.div(P(A, r["IRinh"], r["ETinh"], r["EFinh"], r["ED"]), AT)),
+    "AFinh multiplies": AIR(factor=lambda A, c, r, AT: A.div(P(A, A.num(c["AFinh"]), r["ETinh"], r["EFinh"], r["ED"]), AT)),
+    "the risk without 1000": AIR(risk=1),
+    "the quotient with 1000": AIR(quotient=1000),
+    "all risks with 1000": (lambda: all_lines_by_1000, oracle, "line_values"),
+    "RfDo and CSFo": AIR(refs=("RfDo", "CSFo")),
+    "365 x ED for cancer": AIR(cancer_time=lambda A, r: A.mul(A.num(365), r["ED"])),
+    "ATc for hazard": AIR(hazard_time=lambda A, r: r["ATc"]),
+    "ETinh left out": AIR(factor=lambda A, c, r, AT: A.div(P(A, r["EFinh"], r["ED"]), AT)),
+    "EFinh x ED first": AIR(factor=lambda A, c, r, AT: A.div(A.mul(r["ETinh"], A.mul(r["EFinh"], r["ED"])), AT)),
+    "ED / AT first": AIR(factor=lambda A, c, r, AT: A.mul(A.mul(r["ETinh"], r["EFinh"]), A.div(r["ED"], AT))),
+    "hazard's ED cancelled": AIR(hazard_time=lambda A, r: None, factor=lambda A, c, r, AT: A.div(P(A, r["ETinh"], r["EFinh"], r["ED"]), AT) if AT
+                                 else A.div(A.mul(r["ETinh"], r["EFinh"]), A.num(365))),
+    "A before / AT": AIR(factor=lambda A, c, r, AT: (P(A, r["ETinh"], r["EFinh"], r["ED"]), AT), product=lambda A, f, air: A.div(A.mul(f[0], air), f[1])),
+    "A first": AIR(factor=lambda A, c, r, AT: (r, AT), product=lambda A, f, air: A.div(P(A, air, f[0]["ETinh"], f[0]["EFinh"], f[0]["ED"]), f[1])),
+}
+
+
+def of_year(year, **c):
+    return S(**c) + [year]
+
+
+def dated(deck, year):
+    return set_field(deck, 2, 6, year)
+
+
+def first_lines(deck):
+    """the air's lines of the report"""
+    return [line for line in answer(deck, None)[1].splitlines() if line[12:14] == b" 1"]
+
+
+def told_best(make, tries=10):
+    """of accepted decks that make gives the one that tells the most ways apart"""
+    return max((accepted(make) for _ in range(tries)), key=lambda deck: len(told_apart(deck, AIR_WAYS)))
+
+
+NEW = dict(Q="0.1")        # the plain deck with a risk of the air below its cap under 2009
+YEARS = {"2009": ("2009", "2.009E+03", "000000002009", "2009E+00", "2009.0000000", "20090E-01", "2009.0", "02009", "0.2009E+04", "2009E-00", "200900.0E-02"),
+         "2005": ("2005", "2.005E+03", "20050E-01", "2005.0", "02005", "000000002005", "2005E+00", "2005.0000000", "0.2005E+04", "2005E-00", "0020.050E+02")}
+NO_YEARS = ("2010", "2009.0000001", "2004", "0", "2008.9999999", "20.09E+01", "2007", "2008", "2006", "1", "2005.0000001", "2004.9999999", "2009E+01", "2009E-01",
+            "999999999999", "1E-20")
+MISSPELLED = ("2009E", "MMIX", "2 009", "+2009", "-2009", "2009.", "2009e+00")
+
+
+def spelled(K, deck, **stored):
+    """stores the deck with so many spellings of each year; in all of them 2009 has one report, and 2005 that of a blank slot 12"""
+    plain, new = answer(deck, None), answer(dated(deck, "2009"), None)
+    assert plain[0][0] == new[0][0] == 0 and plain != new
+    for year, texts in YEARS.items():
+        for i, t in enumerate(texts):
+            assert answer(dated(deck, t), None) == (new if year == "2009" else plain)
+            assert i >= stored["of_" + year] or put(K, dated(deck, t), None, {0})
+
+
+def stopped(K, deck, *shapes):
+    """stores the deck with these fields changed, where it stops at such a place"""
+    for told, *changes in shapes:
+        changed = deck
+        for change in changes:
+            changed = set_field(changed, *change)
+        assert answer(changed, None)[0] == told and put(K, changed), (told, changes)
+
+
+ORDINARY, COMPOSITE = (LEVEL, False), (LEVEL, True)
+call = ORDINARY
+plain = one(None, C(**NEW))
+spelled("P6: a year in several spellings", plain, of_2009=6, of_2005=5)
+K = "P6: 2005 or no year in realistic decks, the same report"
+for nc, nr, t in ((1, 1, "2005"), (2, 2, "2.005E+03")):
+    d = accepted(lambda: real_deck(nc, nr))
+    assert put(K, d, None, {0}) and put(K, dated(d, t), None, {0})
+K = "P6: no such year"
+stopped(K, plain, *[((33, 2, 6), (2, 6, t)) for t in NO_YEARS])
+K = "P6: a lone -, misspelled"
+stopped(K, plain, ((32, 2, 6), (2, 6, "-")), *[((31, 2, 6), (2, 6, t)) for t in MISSPELLED])
+K = "P6: the year in another slot"
+pair = deck_text((1, S0), [(1, C(**NEW)), (2, C0)], [(1, R0), (2, R0)])
+stopped(K, pair, ((32, 6, 5), (6, 5, "2009")), ((32, 10, 6), (10, 6, "2005")), ((32, 14, 5), (14, 5, "2009")), ((32, 18, 6), (18, 6, "2005")),
+        ((33, 2, 5), (2, 5, "2009")))
+
+# ---- under 2009
+K = "P6: 2009, realistic"
+for nc, nr in ((1, 1), (1, 1), (2, 1), (1, 2), (3, 2), (1, 4), (8, 1), (16, 1), (16, 4)):
+    assert put(K, told_best(lambda: dated(real_deck(nc, nr), rng.choice(YEARS["2009"])), 10 if nc * nr < 8 else 2), None, {0})
+K = "P6: 2009, ten to twelve digits in all fields"
+for nc, nr in ((1, 1), (1, 1), (2, 1), (3, 4)):
+    assert put(K, told_best(lambda: dated(long_deck(nc, nr), "2009.0000000"), 10 if nc * nr < 8 else 2), None, {0})
+
+K = "P6: 2009, each slot of line 1 in turn with eleven digits"
+SPAN = {**dict.fromkeys("HgA Fv Cyv Cyp ETinh RfDi CSFi".split(), (.1, 1)), "Q": (1, 1.7), "EFinh": (100, 365), "ED": (10, 90), "ATc": (20000, 30000)}
+
+
+def at_2009(**texts):
+    """the plain deck of 2009 with these fields"""
+    texts = {**NEW, **texts}
+    c, r = ({k: v for k, v in texts.items() if RECORD[k] == kind} for kind in "CR")
+    return one(of_year("2009"), C(**c), R(**r))
+
+
+def telling_air(name):
+    """a deck whose line 1 tells its value from the working numbers next to it"""
+    for _ in range(400):
+        t = digits(rng.uniform(*SPAN[name]), 11)
+        low, high = ends_of(t)
+        decks_of_it = [at_2009(**{name: u}) for u in (t, nine_figures(low), nine_figures(high))]
+        if low != high and answer(decks_of_it[0], None)[0][0] == 0:
+            mine, *others = map(first_lines, decks_of_it)
+            if mine not in others:
+                return decks_of_it[0]
+    raise SystemExit(f"{name}: no value tells its ends in line 1")
+
+
+for name in SPAN:
+    assert put(K, telling_air(name), None, {0})
+
+# BW, IRinh and AFinh are not read by line 1, and the last two by no line
+K = "P6: 2009, slots that line 1 does not read"
+base = at_2009()
+for changes in (dict(IRinh="0"), dict(IRinh="1.2345678901"), dict(AFinh="0"), dict(BW="1E+09"), dict(BW="1.2345678901"),
+                dict(BW="8.2", IRinh="1E+09", AFinh="1E-20")):
+    deck = at_2009(**changes)
+    assert first_lines(deck) == first_lines(base) and ("BW" in changes or answer(deck, None) == answer(base, None))
+    assert answer(dated(deck, ""), None) != answer(dated(base, ""), None) and put(K, deck, None, {0})
+
+K = "P6: 2009, reference values missing"
+for mask in (2, 8, 10, 5, 7, 13, 15):       # each set of RfDi and CSFi, with and without the others
+    assert put(K, at_2009(**{k: "-" for i, k in enumerate(REFS) if mask >> i & 1}), None, {0})
+assert put(K, deck_text((1, of_year("2009")), [(i, C(**NEW, **{k: "-" for b, k in enumerate(("RfDi", "CSFi")) if i >> b & 1})) for i in (1, 2, 3, 4)],
+                        [(1, R0), (2, R0)]), None, {0})
+
+K = "P6: 2009, figures of 0"
+for changes in (dict(Q="0"), dict(HgA="0"), dict(ETinh="0"), dict(EFinh="0"), dict(CSFi="0"), dict(Cyv="0", Cyp="0"), dict(EFinh="0.0000000000", RfDi="-")):
+    deck = at_2009(**changes)
+    assert all(b" 0 " in line for line in first_lines(deck)) and put(K, deck, None, {0})
+
+# with XR the factor is 1 for hazard, and for cancer where ATc is 1825: the quotient is Q, the risk Q x CSFi
+K = "P6: 2009, figures of line 1 at and near their caps"
+XS9 = XS + ["2009"]
+for q, number in (("10000", 0), ("10000.000001", 42), ("9999.9999999", 0)):
+    assert put(K, one(XS9, with_(XC, CHEM, Q=q), XR), None, {number})
+for csf, number in (("1", 0), ("1.0000000001", 42), ("0.9999999999", 0)):
+    assert put(K, one(XS9, with_(XC, CHEM, Q="1", CSFi=csf), with_(XR, REC, ATc="1825")), None, {number})
+none = dict.fromkeys(REFS, "-")
+for name, changes, spelling, last, numbers in (("RfDi", dict(none), nine, 90_000_000 * 29, (42, 0)), ("Q", dict(none, CSFi="0.5"), nine, 90_000_000 * 29, (0, 42)),
+                                               ("CSFi", dict(none, Q="0.3"), eleven, MOST, (0, 42))):
+    make = lambda t: at_2009(**{**changes, name: t})
+    for k, number in zip(adjacent(make, 0, last, spelling), numbers):
+        assert put(K, make(spelling(k)), None, {number})
+for cs, rs, line in (([with_(XC, CHEM, Q="1"), with_(XC, CHEM, Q="10000.000001")], [XR], 7),
+                     ([with_(XC, CHEM, Q="10000", CSFi="0.001")], [with_(XR, REC, ATc="18250"), with_(XR, REC, ATc="18249.999999")], 8),
+                     ([with_(XC, CHEM, Q="1", CSFi="0.5"), with_(XC, CHEM, Q="1", CSFi="1")], [with_(XR, REC, ATc="1825"), with_(XR, REC, ATc="1824.9999999")], 20)):
+    d = deck_text((1, XS9), list(enumerate(cs, 1)), list(enumerate(rs, 1)))
+    assert answer(d, None)[0] == (42, line, 0) and put(K, d), answer(d, None)[0]
+# the one year's line 1 above its cap, and not the other's
+only_2005, only_2009 = one(of_year("2009"), C(**NEW), R(IRinh="1E+09")), one(of_year("2009"), C(**{**NEW, "CSFi": "20"}))
+assert put(K, only_2005, None, {0}) and put(K, dated(only_2005, "2005"), None, {42}) and put(K, only_2009, None, {42}) and put(K, dated(only_2009, ""), None, {0})
+
+K = "P6: 2009, a solvent, T2 beyond tD"
+for tD, T2, ksg in (("30", "20", "3.3"), ("30", "75.5", "1E+09"), ("1", "34", "2"), ("30", "75.123456789", "0.03"), ("30", "30.000000001", "0.03"),
+                    ("1E-20", "1E+09", "1E-09")):
+    site = ONLY if "E" in tD else {}
+    assert put(K, one(of_year("2009", tD=tD, **site), C(Q="0.4", ksg=ksg), R(T2=T2)), None, {0})
+K = "P6: 2009, a buffer too short"
+for d, room in ((at_2009(), 664), (at_2009(), 0), (dated(plain, "2005"), 664)):
+    assert put(K, d, room, {51})
+d = accepted(lambda: dated(real_deck(16, 4), "2009"))
+assert put(K, d, 36859, {51})
+K = "P6: two conditions at once"
+stopped(K, pair, ((31, 2, 5), (2, 5, "x"), (2, 6, "2010")), ((33, 2, 6), (2, 6, "2010"), (3, 1, "x")), ((31, 2, 6), (2, 6, "2009E"), (19, 1, "1")),
+        ((32, 6, 5), (2, 6, "2009"), (6, 5, "2009"), (10, 4, "")), ((32, 14, 4), (2, 6, "2009"), (14, 4, "")))
+for d, room, number in ((dated(plain, "2010"), 0, 33), (dated(plain, "-"), 664, 32), (dated(plain, "2009")[:-81], 665, 21)):
+    assert put(K, d, room, {number})
+d = dated(plain, "2010")
+for d, number in ((d[:161] + b" " + d[162:], 12), (d[:88] + b"2" + d[89:], 22), (d[:81] + b"S3" + d[83:], 21)):
+    assert put(K, d, None, {number})
+d = one(of_year("2009"), C(Q="1E+09", CSFo="1E+09", CSFi="1E+09"))
+assert answer(d, None)[0] == (42, 1, 0) and put(K, d, 665) and put(K, d, 664, {51})
+
+K = "P6: 2009, the receptor that a composite of one stage equals"
+# of the pairs from P2's kind, with a CSFi that keeps the risk below 1
+singles_2009 = [tuple(set_field(dated(d, "2009"), 6, 4, "0.01") for d in two) for two in singles[4]]
+assert all(answer(a, None, COMPOSITE) == answer(b, None, ORDINARY) for a, b in singles_2009)
+singles_2009 = [(a, b) for a, b in singles_2009 if answer(b, None, ORDINARY)[0][0] == 0]
+print("of the pairs of one stage and its receptor, accepted under 2009:", len(singles_2009))
+for _, deck in singles_2009[:4]:
+    assert put(K, deck, None, {0})
+
+
+def generated_year(year, most_bytes=1300):
+    """a deck of the reading's own generator with this year, or a damaged one that stops at slot 12"""
+    while True:
+        deck = decks.deck(rng, *call)
+        if year is None:
+            deck = decks.damage(rng, deck, *call)
+            if len(deck) <= most_bytes and need(deck) is None and answer(deck, None)[0][1:] == (2, 6):
+                return deck
+        elif len(deck) <= most_bytes and oracle.read_number(slot_12(deck).rjust(12)) == year:
+            return deck
+
+
+K = "P6: by the reading's own generator"
+for year, number, count in ((2009, 0, 5), (2009, 42, 1), (2005, 0, 2), (None, 33, 1), (None, 32, 1)):
+    fill(K, count, lambda: generated_year(year), {number})
+
+# ---- composites
+call = COMPOSITE
+five = composite(FIVE, None, [C(**NEW)])
+K = "P6: a year in several spellings"
+spelled(K, five, of_2009=4, of_2005=3)
+spelled(K, EX2, of_2009=1, of_2005=1)
+K = "P6: no such year"
+stopped(K, five, *[((33, 2, 6), (2, 6, t)) for t in NO_YEARS[:6]])
+K = "P6: a lone -, misspelled"
+stopped(K, five, ((32, 2, 6), (2, 6, "-")), *[((31, 2, 6), (2, 6, t)) for t in MISSPELLED[:3]])
+K = "P6: the year in another slot"
+stopped(K, five, ((32, 6, 6), (6, 6, "2009")), ((32, 10, 4), (10, 4, "2009")), ((32, 26, 6), (26, 6, "2005")))
+
+K = "P6: 2009, document 002's five stages, realistic decks"
+for cs in ([C(**NEW)], [C(**NEW), with_(XC, CHEM, Q="10"), C(Q="0.1", Fv="1")]):
+    assert put(K, composite(FIVE, of_year("2009"), cs), None, {0})
+for nc, nr in ((1, 1), (1, 2), (2, 3), (1, 5), (3, 8)):
+    assert put(K, told_best(lambda: dated(real_composite(nc, nr), rng.choice(YEARS["2009"])), 6), None, {0})
+K = "P6: 2009, ten to twelve digits in all fields"
+for nc, nr in ((1, 3), (2, 8)):
+    d = told_best(lambda: dated(deck_text((1, long_record(SITE)), [(i, long_record(CHEM)) for i in range(1, nc + 1)],
+                                          [(i, long_record(STAGE)) for i in range(1, nr + 1)]), "000000002009"), 6)
+    assert put(K, d, None, {0})
+K = "P6: 2009, 16 chemicals and 8 stages"
+d = accepted(lambda: dated(real_composite(16, 8), "2009"))
+assert put(K, d, 9215, {0}) and put(K, d, 9214, {51})
+
+K = "P6: 2009, each slot of line 1 in turn, the stages unlike in it"
+for name in ("ETinh", "EFinh"):
+    for _ in range(200):
+        d = composite(some_stages(rng.choice([3, 5]), name), of_year("2009"), [C(**NEW)])
+        told, rep = answer(d, None)
+        if told[0] == 0 and all(rep != worked_otherwise(d, name, way) for way in SLOT_WAYS.values()):
+            break
+    else:
+        raise SystemExit(f"{name}: no deck tells the other ways")
+    assert put(K, d, None, {0})
+K = "P6: 2009, slots that line 1 does not read"
+at_five = lambda stages, **c: composite(stages, of_year("2009"), [C(**{**NEW, **c})])
+base = at_five(FIVE)
+for stages, c in (([with_(f, STAGE, IRinh=v) for f, v in zip(FIVE, ("1E+09", "0", "1.2345678901", "1E-20", "7"))], {}), (FIVE, dict(AFinh="0")),
+                  ([with_(f, STAGE, BW=v, ED="1E-20", ATc="1E+09") for f, v in zip(FIVE, ("1E+09", "8", "9.9", "70", "1E+03"))], {})):
+    d = at_five(stages, **c)
+    assert first_lines(d) == first_lines(base) and answer(dated(d, ""), None) != answer(dated(base, ""), None) and put(K, d, None, {0})
+K = "P6: 2009, reference values missing, figures of 0"
+for c in (dict(RfDi="-"), dict(CSFi="-"), dict(RfDi="-", CSFi="-")):
+    assert put(K, at_five(FIVE, **c), None, {0})
+for name in ("ETinh", "EFinh"):
+    assert put(K, at_five([with_(f, STAGE, **{name: "0"}) if i == 1 else f for i, f in enumerate(FIVE)]), None, {0})
+    assert put(K, at_five(each(FIVE, **{name: "0"})), None, {0})
+
+K = "P6: 2009, figures of line 1 at and near their caps"
+at_caps = ((dict(Q="10000"), 0), (dict(Q="10000.000001"), 42), (dict(Q="9999.9999999"), 0), (dict(Q="1", CSFi="1"), 0), (dict(Q="1", CSFi="1.0000000001"), 42),
+           (dict(Q="1", CSFi="0.9999999999"), 0))
+for stages, shapes in (([XR1], at_caps), ([XR1, XR3, XR3], at_caps[::4])):
+    for c, number in shapes:
+        assert put(K, composite(stages, XS9, [with_(XC, CHEM, CSFo="-", **c)]), None, {number})
+for name, below in (("RfDi", (42, 0)), ("CSFi", (0, 42))):
+    make = lambda t: at_five(FIVE, **{**none, name: t})
+    for k, number in zip(adjacent(make, 0, 90_000_000 * 29), below):
+        assert put(K, make(nine(k)), None, {number})
+d = composite(FIVE, of_year("2009"), [C(**NEW), C(Q="0.1", CSFi="1E+09")])
+assert answer(d, None)[0] == (42, 7, 0) and put(K, d)
+K = "P6: 2009, one stage alone, the ordinary report"
+for deck, _ in singles_2009[:4]:
+    assert put(K, deck, None, {0})
+K = "P6: 2009, a solvent, years beyond tD"
+for tD, ksg in (("76", "3.3"), ("30", "1E+09"), ("75.999999999", "0.03")):
+    assert put(K, composite(FIVE, of_year("2009", tD=tD), [C(Q="0.4", ksg=ksg)]), None, {0})
+K = "P6: two conditions at once"
+stopped(K, five, ((33, 2, 6), (2, 6, "2010"), (10, 5, "")), ((32, 10, 5), (2, 6, "2009"), (10, 5, "")))
+for d, room, number in ((dated(five, "2010"), 0, 33), (composite(FIVE, of_year("2009"), [C(CSFi="1E+09")]), 664, 51)):
+    assert put(K, d, room, {number})
+K = "P6: by the reading's own generator"
+for year, number, count in ((2009, 0, 3), (2009, 42, 1), (2005, 0, 1), (None, 33, 1)):
+    fill(K, count, lambda: generated_year(year, 2600), {number})
+
+# what the decks of 2009 tell, those from before P6 too
+air_tells = collections.Counter()
+for name, file in files.items():
+    call = COMPOSITE if name == "composites" else ORDINARY
+    for deck in file.accepted:
+        if slot_12(deck) and oracle.read_deck(deck, *call)[0]["year"] == 2009:
+            air_tells.update((name, w) for w in told_apart(deck, AIR_WAYS) | {"all"})
+print("of the decks of 2009 so many tell apart:", {f"{name}, {w}": n for (name, w), n in sorted(air_tells.items())})
+
 # what all decks tell that are stored, those from before P5 too
 solvent_tells = collections.Counter()
 for name, file in files.items():
@@ -1665,3 +2000,5 @@ for name, file in files.items():
         f.write(f"decks {len(file.stored)}\naccepted {accepted}\nrefused {refused}\ndiffering 0\n")
 for composites, whose in ((False, "ordinary"), (True, "a composite's")):
     print(f"{whose} decks that stop with 41 before P5, and now with:", {number: n for (c, number), n in sorted(moved.items()) if c == composites and n})
+for composites, place, year, then, now in renewed:
+    print(f"{'composites' if composites else 'decks'} {place}, {year} in slot 12: {then} before P6, {now} now")
