@@ -51,6 +51,45 @@ impl Sort {
     }
 }
 
+/// The guidance that air is worked by, named by its year.
+#[derive(Clone, Copy, PartialEq, Eq, Debug)]
+pub enum Guidance {
+    /// Inhaled doses.
+    Of2005,
+    /// Concentrations in air, over a share of time.
+    Of2009,
+}
+
+impl Guidance {
+    pub const fn year(self) -> Printed {
+        match self {
+            Guidance::Of2005 => (2005, 0),
+            Guidance::Of2009 => (2009, 0),
+        }
+    }
+
+    /// By a year's value, however it is spelled. A year is a working number, so that the pair around a printed number is the
+    /// year's exactly where the number is: its last digit still decides.
+    fn of((digits, power): Printed) -> Option<Guidance> {
+        let value = Pair::entry(digits, power);
+        let is_its_year = |guidance: &Guidance| {
+            let (year, ones) = guidance.year();
+            value == Pair::entry(year, ones)
+        };
+        [Guidance::Of2005, Guidance::Of2009].into_iter().find(is_its_year)
+    }
+
+    /// What the year's field says, or the refusal's number.
+    fn told(mark: Mark) -> Result<Guidance, u32> {
+        match mark {
+            Mark::Blank => Ok(Guidance::Of2005),
+            Mark::Dash => Err(32),
+            Mark::Number(printed) => Guidance::of(printed).ok_or(33),
+            Mark::Misspelled => Err(31),
+        }
+    }
+}
+
 /// What a slot takes besides a number from 1E-20 to `cap` or 0.
 #[derive(Clone, Copy, PartialEq, Eq, Debug)]
 pub struct Slot {
@@ -85,7 +124,7 @@ const DAYS: Slot = Slot { cap: Working::entry(366, 0), ..ANY };
 const RFD: Slot = Slot { may_lack: true, ..POS };
 const CSF: Slot = Slot { may_lack: true, ..ANY };
 
-/// Zs BD tD θ Xe SD | ER RO R VG FRsnow
+/// Zs BD tD θ Xe SD | ER RO R VG FRsnow; the year comes behind.
 pub const SITE: [Slot; 11] = [POS, POS, POS, POS, ANY, ANY, ANY, ANY, ANY, SHARE, SHARE];
 /// Q HgA HgD Fv Cyv Cyp | Dydv Dywv Dydp Dywp Kds ksg | ksv Br RCF AFinh AForal AFderm | RfDo RfDi CSFo CSFi
 pub const CHEMICAL: [Slot; 22] = [
@@ -106,6 +145,8 @@ pub const YEARS: Slot = POS;
 
 /// The place of tD among the site's slots.
 pub const TD: usize = 2;
+/// The year's, behind those with values.
+pub const YEAR: usize = SITE.len();
 
 /// A chemical's slots before its reference values.
 pub const CHEMICAL_VALUES: usize = 18;
@@ -141,6 +182,7 @@ pub struct Case {
     pub site: [Pair; 11],
     /// tD once more, as printed.
     pub td: Years,
+    pub guidance: Guidance,
     pub chemicals: usize,
     pub receptors: usize,
     chemical: [Chemical; MOST_CHEMICALS],
@@ -162,6 +204,7 @@ impl Case {
         Case {
             site: [Pair::ZERO; 11],
             td: Years::NONE,
+            guidance: Guidance::Of2005,
             chemicals: 0,
             receptors: 0,
             chemical: [Chemical::EMPTY; MOST_CHEMICALS],
@@ -266,6 +309,10 @@ pub fn read_case(sort: Sort, deck: &[u8], case: &mut Case) -> Result<(), Outcome
                 Kind::Start | Kind::End => (f, None),
             };
             let mark = mark(field(text, f));
+            if let (Kind::Site(_), YEAR) = (kind, at) {
+                case.guidance = Guidance::told(mark).map_err(|number| stop(number, f + 1))?;
+                continue;
+            }
             let value = fill(slot, mark).map_err(|number| stop(number, f + 1))?;
             if slot.is_none() {
                 continue;
@@ -483,6 +530,49 @@ mod tests {
             let value = Pair::entry(digits, -(decimals as i32));
             assert_eq!(slot.takes(value), digits <= cap * ten, "{digits} {decimals}");
         }
+    }
+
+    #[test]
+    fn years_go_by_their_value() {
+        let told = |s: &str| Guidance::told(m(s));
+        let (of_2005, of_2009) = (Ok(Guidance::Of2005), Ok(Guidance::Of2009));
+        for s in ["", "2005", "2005.0", "2.005E+03", "000000002005", "20050E-01", "2005.0000000", "0.2005E+04"] {
+            assert_eq!(told(s), of_2005, "{s}");
+        }
+        for s in
+            ["2009", "2009.0", "2.009E+03", "000000002009", "20090E-01", "2009.0000000", "200900.0E-02", "2009E-00"]
+        {
+            assert_eq!(told(s), of_2009, "{s}");
+        }
+        assert_eq!(told("-"), Err(32));
+        for s in
+            ["2004", "2006", "2010", "2009.0000001", "2008.9999999", "2005.0000001", "2004.9999999", "0", "0E+03", "1"]
+        {
+            assert_eq!(told(s), Err(33), "{s}");
+        }
+        for s in ["2009E+01", "20.09E+01", "2009E-01", "20050", "200.5", "1E+99", "1E-99", "20092009", "9002", "1E-20"]
+        {
+            assert_eq!(told(s), Err(33), "{s}");
+        }
+        for s in ["2009E", "MMIX", "+2009", "-2009", "2009.", "2 009", "2009 ", "2,009", "2009E+0", "2009AD", "- "] {
+            assert_eq!(told(s), Err(31), "{s}");
+        }
+        // By multiplying across.
+        let rng = &mut crate::rng::Rng::new(6);
+        let mut years = 0;
+        for _ in 0..100_000 {
+            let year = rng.one_of(&[2005u64, 2009]);
+            let zeros = rng.between(0, 8) as u32;
+            let digits = (year * 10u64.pow(zeros)).saturating_add_signed(rng.one_of(&[0, 0, 1, -1, 4, -4]));
+            let power = -(zeros as i32) + rng.one_of(&[0, 0, 0, 1, -1]);
+            // In units of 1E-9.
+            let value = digits as u128 * 10u128.pow((9 + power) as u32);
+            let want =
+                [Guidance::Of2005, Guidance::Of2009].into_iter().find(|g| value == g.year().0 as u128 * 10u128.pow(9));
+            assert_eq!(Guidance::of((digits, power)), want, "{digits} {power}");
+            years += usize::from(want.is_some());
+        }
+        assert!((10_000..90_000).contains(&years), "{years}");
     }
 
     /// A number in range has no digit below 1E-27 and no power above 9, whichever way twelve columns spell it.

@@ -2,8 +2,8 @@
 //! Either call has its own.
 
 use crate::deck::{
-    Case, Chemical, Printed, Receptor, Slot, Sort, CHEMICAL, CHEMICAL_VALUES, FV, LINE, MOST_CHEMICALS, RECEPTOR, SITE,
-    TD, YEARS,
+    Case, Chemical, Guidance, Printed, Receptor, Slot, Sort, CHEMICAL, CHEMICAL_VALUES, FV, LINE, MOST_CHEMICALS,
+    RECEPTOR, SITE, TD, YEAR, YEARS,
 };
 use crate::page::{composite, has_series, pathways, Body, Exposure, Figures, Loss, Media, Site};
 use crate::pairs::{Pair, Working};
@@ -20,25 +20,56 @@ pub struct Trial {
 
 /// Trial number `place` of a run, for the call of this sort; each can be made again by itself.
 pub fn trial(sort: Sort, seed: u64, place: u64) -> Trial {
+    let own_seed = mixed(sort, seed, place);
+    trial_of(sort, own_seed, drawn_year(&mut Rng::new(own_seed.rotate_left(32))))
+}
+
+fn mixed(sort: Sort, seed: u64, place: u64) -> u64 {
     let mixed = Rng::new(seed).word() ^ Rng::new(!place).word();
-    let rng = &mut Rng::new(match sort {
+    match sort {
         Sort::Ordinary => mixed,
         Sort::Composite => !mixed,
-    });
+    }
+}
+
+/// What a deck says of the year: the guidance as this spelling, or nothing.
+type Year = Option<(Guidance, String)>;
+
+/// The year has draws of its own, so that a deck without one is what it was before there were years.
+fn drawn_year(rng: &mut Rng) -> Year {
+    let guidance = match rng.below(100) {
+        0..=19 => return None,
+        20..=44 => Guidance::Of2005,
+        _ => Guidance::Of2009,
+    };
+    let year = plain(guidance.year());
+    let text = match rng.below(10) {
+        0..=3 => year,
+        4 => format!("{year:0>12}"),
+        5 => format!("{year}.{}", "0".repeat(1 + rng.below(7))),
+        _ => spelled(rng, guidance.year(), 12),
+    };
+    Some((guidance, text))
+}
+
+/// The trial with this seed of its own and this year, if the deck is to have one.
+fn trial_of(sort: Sort, own_seed: u64, year: Year) -> Trial {
+    let rng = &mut Rng::new(own_seed);
     let share = rng.below(100);
     // A few decks for the composite call are ordinary ones, if of too many receptors at times.
     let made_as = if sort == Sort::Composite && (51..=52).contains(&share) { Sort::Ordinary } else { sort };
     let deck = match share {
-        0..=55 => sound(rng, made_as, sort.most_receptors()),
-        56..=95 => damaged(rng, sort),
-        96..=97 => crowded(rng, sort),
+        0..=55 => sound(rng, made_as, sort.most_receptors(), year),
+        56..=95 => damaged(rng, sort, year),
+        96..=97 => crowded(rng, sort, year),
         _ => noise(rng, sort),
     };
     let room = room(rng, made_as, &deck);
     Trial { deck, room, before: rng.word() }
 }
 
-/// A sound deck of this many chemicals and receptors with everyday values, for timing: at every exponent a series is worked.
+/// A sound deck of this many chemicals and receptors with everyday values, for timing: at every exponent a series is worked. It
+/// has no year.
 pub fn everyday(sort: Sort, seed: u64, chemicals: usize, receptors: usize) -> Vec<u8> {
     everyday_draft(&mut Rng::new(seed), sort, chemicals, receptors).1
 }
@@ -57,14 +88,22 @@ pub fn everyday_eleven(sort: Sort, seed: u64, chemicals: usize, receptors: usize
     }
 }
 
+/// The first of these decks with the year 2009 written in.
+pub fn everyday_2009(sort: Sort, seed: u64, chemicals: usize, receptors: usize) -> Vec<u8> {
+    let mut deck = everyday(sort, seed, chemicals, receptors);
+    place_field(&mut deck, YEAR_AT.0, YEAR_AT.1, &plain(Guidance::Of2009.year()));
+    deck
+}
+
 /// Decks as a batch mixes them, each beside the call it is for: one in eight a composite's, one in ten refused, whatever for.
-/// Those accepted are everyday decks of any size, half of them with eleven digits.
+/// Those accepted are everyday decks of any size, half of them with eleven digits. None has a year.
 pub fn batch(seed: u64, decks: u64) -> Vec<(Sort, Vec<u8>)> {
     let rng = &mut Rng::new(seed);
     let one = |own_seed| {
         let sort = if rng.below(8) == 0 { Sort::Composite } else { Sort::Ordinary };
         let deck = if rng.chance(10) {
-            (0..).map(|place| trial(sort, own_seed, place).deck).find(|deck| !accepted(sort, deck)).unwrap()
+            let undated = |place| trial_of(sort, mixed(sort, own_seed, place), None).deck;
+            (0..).map(undated).find(|deck| !accepted(sort, deck)).unwrap()
         } else {
             let make = if rng.chance(50) { everyday } else { everyday_eleven };
             make(sort, own_seed, 1 + rng.below(MOST_CHEMICALS), 1 + rng.below(sort.most_receptors()))
@@ -268,6 +307,7 @@ struct Draft {
     most: usize,
     site_id: u32,
     site: Vec<Value>,
+    year: Year,
     chemicals: Vec<(u32, Vec<Value>)>,
     receptors: Vec<(u32, Vec<Value>)>,
 }
@@ -325,6 +365,7 @@ impl Draft {
             most: 9,
             site_id: rng.between(1, 999_999) as u32,
             site: values(rng, &SITE, &SITE_USUAL, odd),
+            year: None,
             chemicals: ids(rng, chemicals)
                 .into_iter()
                 .map(|id| (id, values(rng, &CHEMICAL, &CHEMICAL_USUAL, odd)))
@@ -363,6 +404,7 @@ impl Draft {
             most: 9,
             site_id: 1,
             site: varied(rng, &site, &SITE),
+            year: None,
             chemicals: ids(rng, chemicals).into_iter().map(|id| (id, varied(rng, &chemical, &CHEMICAL))).collect(),
             receptors: ids(rng, receptors)
                 .into_iter()
@@ -473,6 +515,10 @@ impl Draft {
         Site::new(&value, years(self.site[TD]))
     }
 
+    fn guidance(&self) -> Guidance {
+        self.year.as_ref().map_or(Guidance::Of2005, |year| year.0)
+    }
+
     fn chemical(&self, i: usize) -> Chemical {
         let (id, values) = &self.chemicals[i];
         let mut c = Chemical { id: *id, fv: values[FV].unwrap_or((0, 0)), ..Chemical::EMPTY };
@@ -516,7 +562,7 @@ impl Draft {
     fn figures(&self, chemical: usize, receptor: usize) -> [Figures; 6] {
         let (site, chemical, person) = (self.site(), self.chemical(chemical), self.person(receptor));
         let media = Media::new(&site, &chemical);
-        pathways(&site, &chemical, &media, &site.exposure(&person), &Body::new(&person))
+        pathways(&site, &chemical, &media, &site.exposure(&person), &Body::new(&person, self.guidance()))
     }
 
     fn loss(&self, i: usize) -> Loss {
@@ -754,14 +800,32 @@ impl Draft {
         let r = rng.below(self.receptors.len());
         let figures = self.figures(i, r);
         let hazard = rng.chance(50);
-        let real_figure = |f: &Figures| (if hazard { f.quotient } else { f.risk }).map_or(0.0, |p: Pair| real(p.high));
         // The largest of those that share a reference value, so that no other line stops first; or any line.
         let line = match rng.below(4) {
             0 => 0,
             1 => 1 + rng.below(5),
-            _ => (1..6).max_by(|&a, &b| real_figure(&figures[a]).total_cmp(&real_figure(&figures[b]))).unwrap_or(1),
+            _ => (1..6)
+                .max_by(|&a, &b| real_figure(&figures[a], hazard).total_cmp(&real_figure(&figures[b], hazard)))
+                .unwrap_or(1),
         };
-        let figure = real_figure(&figures[line]);
+        self.bring_line_to_cap(rng, i, line, hazard, real_figure(&figures[line], hazard), less);
+    }
+
+    /// The same for pathway 1 of every chemical, quotient, risk or both.
+    fn bring_air_to_cap(&mut self, rng: &mut Rng) {
+        let r = rng.below(self.persons());
+        let effects: &[bool] = rng.one_of(&[&[true], &[false], &[true, false]]);
+        for i in 0..self.chemicals.len() {
+            let less = rng.one_of(&[1.0, 1.0, 1.0, 2.0]);
+            let air = self.figures(i, r)[0];
+            for &hazard in effects {
+                self.bring_line_to_cap(rng, i, 0, hazard, real_figure(&air, hazard), less);
+            }
+        }
+    }
+
+    /// Sets the reference value of one line, which has this figure by it now.
+    fn bring_line_to_cap(&mut self, rng: &mut Rng, i: usize, line: usize, hazard: bool, figure: f64, less: f64) {
         let at = RFDO + if hazard { 0 } else { 2 } + usize::from(line == 0);
         let Some(now) = self.chemicals[i].1[at] else { return };
         let now = real(pair(Some(now)).high);
@@ -814,6 +878,9 @@ impl Draft {
                         _ => values.get(at),
                     };
                     let text = match value {
+                        None if kind == b'S' && at == YEAR => {
+                            self.year.as_ref().map_or(String::new(), |year| year.1.clone())
+                        }
                         None => String::new(),
                         Some(None) => "-".to_string(),
                         Some(Some(v)) => spell(*v),
@@ -832,6 +899,11 @@ impl Draft {
 }
 
 const END: &[u8; LINE] = b"EN                                                                              \n";
+
+/// A quotient's or a risk's high end; 0 without the reference value.
+fn real_figure(f: &Figures, hazard: bool) -> f64 {
+    (if hazard { f.quotient } else { f.risk }).map_or(0.0, |p: Pair| real(p.high))
+}
 
 /// Through the decimal spelling: the same double on every machine.
 fn real(w: Working) -> f64 {
@@ -919,8 +991,8 @@ fn size(rng: &mut Rng, most_receptors: usize) -> (usize, usize) {
     (chemicals, rng.one_of(receptors))
 }
 
-/// A sound deck of one to so many receptors; what it works out to may still be too high.
-fn sound(rng: &mut Rng, sort: Sort, most_receptors: usize) -> Vec<u8> {
+/// A sound deck of one to so many receptors, of this year; what it works out to may still be too high.
+fn sound(rng: &mut Rng, sort: Sort, most_receptors: usize, year: Year) -> Vec<u8> {
     let (chemicals, receptors) = size(rng, most_receptors);
     let long = rng.chance(50);
     let mut draft = match rng.below(100) {
@@ -929,9 +1001,12 @@ fn sound(rng: &mut Rng, sort: Sort, most_receptors: usize) -> Vec<u8> {
         67..=72 => Draft::new(rng, sort, chemicals, receptors, 100),
         73..=96 => Draft::round_figures(rng, sort, chemicals, receptors),
         _ => {
-            let mut draft = Draft::level(rng, sort, chemicals, receptors);
+            let mut draft = Draft { year, ..Draft::level(rng, sort, chemicals, receptors) };
             for _ in 0..3 {
                 draft.bring_to_cap(rng, 0, 1.0);
+            }
+            if draft.guidance() == Guidance::Of2009 {
+                draft.bring_air_to_cap(rng);
             }
             // All chemicals alike: every line of a receptor at the cap.
             let like = draft.chemicals[0].1.clone();
@@ -939,6 +1014,7 @@ fn sound(rng: &mut Rng, sort: Sort, most_receptors: usize) -> Vec<u8> {
             return draft.deck(rng);
         }
     };
+    draft.year = year;
     if sort == Sort::Composite && rng.chance(25) {
         draft.odd_years(rng);
     }
@@ -974,18 +1050,21 @@ fn sound(rng: &mut Rng, sort: Sort, most_receptors: usize) -> Vec<u8> {
     } else if about_64 < 60 {
         draft.bring_to_cap(rng, i, 1.0);
     }
+    if draft.guidance() == Guidance::Of2009 && rng.chance(15) {
+        draft.bring_air_to_cap(rng);
+    }
     draft.deck(rng)
 }
 
 /// One chemical or receptor too many, the rest sound.
-fn crowded(rng: &mut Rng, sort: Sort) -> Vec<u8> {
+fn crowded(rng: &mut Rng, sort: Sort, year: Year) -> Vec<u8> {
     let most = sort.most_receptors();
     let (chemicals, receptors) = if rng.chance(50) {
         (17, rng.between(1, most as i64) as usize)
     } else {
         (rng.between(1, 15) as usize, most + 1)
     };
-    Draft::new(rng, sort, chemicals, receptors, 0).deck(rng)
+    Draft { year, ..Draft::new(rng, sort, chemicals, receptors, 0) }.deck(rng)
 }
 
 /// Bytes without a deck's form.
@@ -1008,8 +1087,14 @@ fn noise(rng: &mut Rng, sort: Sort) -> Vec<u8> {
     deck
 }
 
-fn damaged(rng: &mut Rng, sort: Sort) -> Vec<u8> {
-    let mut deck = sound(rng, sort, sort.most_receptors());
+fn damaged(rng: &mut Rng, sort: Sort, year: Year) -> Vec<u8> {
+    let dated = year.is_some();
+    let mut deck = sound(rng, sort, sort.most_receptors(), year);
+    // Of those with a year, some are hurt by the year alone.
+    if dated && rng.chance(15) {
+        damage_year(rng, sort, &mut deck);
+        return deck;
+    }
     for _ in 0..rng.one_of(&[1, 1, 1, 1, 2, 3]) {
         damage(rng, sort, &mut deck);
     }
@@ -1069,6 +1154,50 @@ const BAD_YEARS: &[&str] = &[
     "1E+09", "1000000000.0", "1000000000.1", "1.000001E+09", "1E+10", "999999999999", "1E+99", "1E-99", "-1", "+1", ".5", "5.", "x",
     "1E5", "4,5", "4.5.0", "-0", "0.0000000001", "12345678901",
 ];
+
+/// For the year: next to one by its last digit, by a power of ten or by the digits' order, any other number, none, misspelled.
+#[rustfmt::skip]
+const BAD_YEAR: &[&str] = &[
+    "2004", "2006", "2008", "2010", "2007", "2009.0000001", "2008.9999999", "2005.0000001", "2004.9999999", "2009.00001",
+    "2005.01", "0", "0.0", "0E+03", "0E+99", "000000000000", "2009E+01", "20.09E+01", "2009E-01", "20.05E+01", "20050", "200.9",
+    "20090E-02", "2.009E+02", "2.005E+04", "2.009", "9", "5", "09", "9002", "20052009", "20092009", "002009002009", "1E+09",
+    "1E+99", "1E-99", "1E-20", "1", "1999", "-", "-", "-", "-", "-", "-", "-", "2009E", "MMIX", "MMV", "+2009", "-2009",
+    "2009.", "2 009", "2,009", "2009 ", "2005 ", "2009E+0", "2009E3", "2.009e+03", "AD2009", "2009-", "'09", "2005/2009", "--",
+    "20O9", ".2009E+04", "2.009E+003", "2005-01-01",
+];
+
+/// Line and field of the year, from 0.
+const YEAR_AT: (usize, usize) = (YEAR / 6, YEAR % 6);
+
+/// A bad year, or one written in vain: in a later slot, neither the year's nor that of T2 or a stage's years.
+fn damage_year(rng: &mut Rng, sort: Sort, deck: &mut [u8]) {
+    if rng.chance(75) {
+        place_field(deck, YEAR_AT.0, YEAR_AT.1, rng.one_of(BAD_YEAR));
+        return;
+    }
+    let in_vain = |&(l, f): &(usize, usize)| match deck[l * LINE] {
+        b'R' => f != sort.years_at() % 6,
+        kind => kind != b'S',
+    };
+    let later: Vec<(usize, usize)> = later_slots(deck).into_iter().filter(in_vain).collect();
+    let (line, f) = rng.one_of(&later);
+    if rng.chance(50) {
+        place_field(deck, YEAR_AT.0, YEAR_AT.1, "");
+    }
+    place_field(deck, line, f, rng.one_of(&["2005", "2009", "2009", "2.009E+03", "2005.0", "000000002009"]));
+}
+
+/// Line and field of the slots behind a record's values: S2 6, which has the year, C4 5 and 6, R4 4 to 6, of which one has the
+/// years.
+fn later_slots(deck: &[u8]) -> Vec<(usize, usize)> {
+    let slots = |(l, line): (usize, &[u8])| match &line[..2] {
+        b"S2" => vec![(l, 5)],
+        b"C4" => vec![(l, 4), (l, 5)],
+        b"R4" => vec![(l, 3), (l, 4), (l, 5)],
+        _ => vec![],
+    };
+    deck.chunks_exact(LINE).enumerate().flat_map(slots).collect()
+}
 
 fn damage(rng: &mut Rng, sort: Sort, deck: &mut Vec<u8>) {
     let n = deck.len() / LINE;
@@ -1136,15 +1265,7 @@ fn damage(rng: &mut Rng, sort: Sort, deck: &mut Vec<u8>) {
         18 => place_field(deck, line, rng.below(6), "-"),
         19..=22 => place_field(deck, line, rng.below(6), rng.one_of(OUT_OF_RANGE)),
         23 | 24 => {
-            // A later slot: S2 6, C4 5 and 6, R4 4 to 6, of which one has the years.
-            let later: Vec<(usize, usize)> = (0..n)
-                .flat_map(|l| match &deck[l * LINE..l * LINE + 2] {
-                    b"S2" => vec![(l, 5)],
-                    b"C4" => vec![(l, 4), (l, 5)],
-                    b"R4" => vec![(l, 3), (l, 4), (l, 5)],
-                    _ => vec![],
-                })
-                .collect();
+            let later = later_slots(deck);
             if !later.is_empty() {
                 let (l, f) = rng.one_of(&later);
                 place_field(deck, l, f, rng.one_of(&["0", "-", "1", "x", "1E+99", "0.5", ".", "-1"]));
@@ -1372,6 +1493,120 @@ mod tests {
             assert!(far.iter().all(|&n| n > 20) && ways.iter().all(|&n| n > 15), "{all}");
             assert!(sides.iter().flatten().all(|&n| n > 60) && none.iter().all(|&n| n > 60), "{all}");
             assert!(told.iter().all(|&n| n > 200), "{all}");
+        }
+    }
+
+    /// What decks say of the year, those answered and those that stop for it; and where the air of 2009 comes to.
+    #[test]
+    fn kinds_of_years() {
+        use std::collections::HashSet;
+        for sort in [Sort::Ordinary, Sort::Composite] {
+            let mut out = vec![0; LONGEST_REPORT];
+            // Decks answered: without a year, of 2005, of 2009; and the spellings.
+            let mut answered = [0; 3];
+            let mut spellings = [HashSet::new(), HashSet::new()];
+            // What stops the year's field, the texts that do, and a year in a later slot.
+            let (mut refused, mut texts, mut in_vain) = ([0; 40], HashSet::new(), 0);
+            // Pathway 1 of 2009, quotient and risk: above the cap by less than a millionth, at the cap, below by less than a
+            // millionth; nine figures told; no reference value.
+            let (mut above, mut at, mut below, mut nine, mut lacking) = ([0; 2], [0; 2], [0; 2], [0; 2], [0; 2]);
+            let near = Pair::entry(1_000_001, -6);
+            for place in 0..6_000 {
+                let t = trial(sort, 1, place);
+                let field = |line: usize, f: usize| {
+                    let from = (line - 1) * LINE + 8 + 12 * (f - 1);
+                    String::from_utf8_lossy(&t.deck[from..from + 12]).trim_start().to_string()
+                };
+                let told = crate::report(sort, &t.deck, &mut out);
+                match told {
+                    (number @ 31..=33, 2, 6) => {
+                        refused[number as usize] += 1;
+                        texts.insert(field(2, 6));
+                    }
+                    (32, line, f) => in_vain += usize::from([Ok(2005.0), Ok(2009.0)].contains(&field(line, f).parse())),
+                    _ => {}
+                }
+                if ![0, 42].contains(&told.0) {
+                    continue;
+                }
+                let mut case = Case::empty();
+                crate::report::read_reported(sort, &t.deck, &mut case).unwrap();
+                let (is_answered, of_2009) = (told.0 == 0, case.guidance == Guidance::Of2009);
+                if is_answered {
+                    let text = field(2, 6);
+                    answered[if text.is_empty() { 0 } else { 1 + usize::from(of_2009) }] += 1;
+                    spellings[usize::from(of_2009)].insert(text);
+                }
+                if !of_2009 {
+                    continue;
+                }
+                let site = Site::new(&case.site, case.td);
+                let media: Vec<Media> = case.chemicals().iter().map(|c| Media::new(&site, c)).collect();
+                let mut line = 1;
+                for r in case.receptors() {
+                    let (body, exposure) = (Body::new(r, case.guidance), site.exposure(r));
+                    for (c, media) in case.chemicals().iter().zip(&media) {
+                        let air = pathways(&site, c, media, &exposure, &body)[0];
+                        let caps = [crate::page::MOST_QUOTIENT, crate::page::MOST_RISK];
+                        for (effect, (figure, cap)) in [air.quotient, air.risk].into_iter().zip(caps).enumerate() {
+                            let Some(p) = figure else {
+                                lacking[effect] += usize::from(is_answered);
+                                continue;
+                            };
+                            let close = cap.at_most((p * near).low) && p.high.at_most((Pair::of(cap) * near).high);
+                            let stops = told.1 == line && !p.high.at_most(cap);
+                            above[effect] += usize::from(!is_answered && stops && close);
+                            at[effect] += usize::from(is_answered && p.high == cap);
+                            below[effect] += usize::from(is_answered && close && p.high != cap);
+                            // The last of nine figures is a unit or more.
+                            nine[effect] += usize::from(is_answered && p.low.e >= [-12, -15][effect]);
+                        }
+                        line += 6;
+                    }
+                    line += 1;
+                }
+            }
+            let spelled = [spellings[0].len(), spellings[1].len()];
+            let all = format!(
+                "{sort:?}: {answered:?} {spelled:?} {:?} {} {in_vain} {above:?} {at:?} {below:?} {nine:?} {lacking:?}",
+                &refused[31..=33],
+                texts.len()
+            );
+            let (sum, of_2009) = (answered.iter().sum::<usize>(), answered[2]);
+            assert!(answered.iter().all(|&n| n > 300) && (45..=55).contains(&(100 * of_2009 / sum)), "{all}");
+            assert!(spelled.iter().all(|&n| n > 20) && in_vain > 20, "{all}");
+            assert!(refused[31..=33].iter().all(|&n| n > 15) && texts.len() > 40, "{all}");
+            assert!(above.iter().all(|&n| n > 40) && [at, below].iter().flatten().all(|&n| n > 5), "{all}");
+            assert!(nine.iter().chain(&lacking).all(|&n| n > 500), "{all}");
+        }
+    }
+
+    /// The same deck but for the year, and accepted too.
+    #[test]
+    fn everyday_decks_of_2009() {
+        for (sort, chemicals, receptors) in [(Sort::Ordinary, 1, 1), (Sort::Ordinary, 16, 4), (Sort::Composite, 16, 8)]
+        {
+            for seed in 0..4 {
+                let (of_2005, of_2009) =
+                    (everyday(sort, seed, chemicals, receptors), everyday_2009(sort, seed, chemicals, receptors));
+                let at = 2 * LINE - 1 - 12;
+                assert_eq!(
+                    (&of_2005[at..at + 12], &of_2009[at..at + 12]),
+                    (&b"            "[..], &b"        2009"[..])
+                );
+                assert_eq!((&of_2005[..at], &of_2005[at + 12..]), (&of_2009[..at], &of_2009[at + 12..]));
+                let told = [of_2005, of_2009].map(|deck| {
+                    let mut out = vec![0; LONGEST_REPORT];
+                    let told = crate::report(sort, &deck, &mut out);
+                    assert_eq!(told.0, 0);
+                    out.truncate(told.1);
+                    out
+                });
+                // Pathway 1 and the total lines differ, no other.
+                let lines = told[0].chunks(crate::report::LINE).zip(told[1].chunks(crate::report::LINE));
+                assert!(lines.clone().all(|(a, b)| a == b || [&b" 1"[..], b" 0"].contains(&&a[12..14])));
+                assert!(lines.filter(|(a, b)| a != b).count() > 1);
+            }
         }
     }
 

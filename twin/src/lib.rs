@@ -1,7 +1,7 @@
 //! A second reading of document 01 (hazard and cancer sheets from a case deck) and of requests P1 (numbers of more than nine
-//! digits), P2 (composite receptor), P4 (the soil's mean for cancer) and P5 (quickly lost chemicals) in document 02, in plain
-//! Rust, written from these documents alone and kept apart from the library, so that an agreement of the two says something
-//! about both.
+//! digits), P2 (composite receptor), P4 (the soil's mean for cancer), P5 (quickly lost chemicals) and P6 (air by the 2009
+//! guidance) in document 02, in plain Rust, written from these documents alone and kept apart from the library, so that an
+//! agreement of the two says something about both.
 
 // A remainder stands beside its quotient throughout.
 #![allow(clippy::manual_is_multiple_of)]

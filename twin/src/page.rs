@@ -5,7 +5,7 @@
 //! 1E-27 at least, so every exponent here stays within a few hundred, those of the series (worked at 64 at most) within some
 //! tens of thousands; and no divisor is 0, since its factors are never 0, and x divides only where it is about 64 or more.
 
-use crate::deck::{Chemical, Receptor};
+use crate::deck::{Chemical, Guidance, Receptor};
 use crate::pairs::{self, Pair, Working};
 use crate::years::Years;
 
@@ -204,9 +204,47 @@ pub fn composite(stages: &[Receptor]) -> Receptor {
     person
 }
 
+/// The share of an averaging time that a receptor spends in the air, ETinh × EFinh × ED / AT. No body weight divides it, so it
+/// is no intake's factor.
+#[derive(Clone, Copy, PartialEq, Eq, Debug)]
+struct TimeShare(Pair);
+
+/// A concentration in air over a share of time, mg/m³: no dose.
+#[derive(Clone, Copy, PartialEq, Eq, Debug)]
+struct AirOverTime(Pair);
+
+impl TimeShare {
+    /// Spent in air of this concentration, mg/m³.
+    fn in_air(self, air: Pair) -> AirOverTime {
+        AirOverTime(self.0 * air)
+    }
+}
+
+impl AirOverTime {
+    /// By a reference concentration, mg/m³.
+    fn quotient(self, reference: Pair) -> Pair {
+        self.0 / reference
+    }
+
+    /// By a unit risk per µg/m³.
+    fn risk(self, unit_risk: Pair) -> Pair {
+        self.0 * THOUSAND * unit_risk
+    }
+}
+
+/// How a receptor takes the air.
+#[derive(Clone, Copy, PartialEq, Eq, Debug)]
+enum Inhaled {
+    /// As a dose, 2005.
+    Dose,
+    /// For a share of its time, 2009.
+    Time { hazard: TimeShare, cancer: TimeShare },
+}
+
 /// What the pathways take from a receptor alone.
 pub struct Body {
     value: [Pair; 21],
+    inhaled: Inhaled,
     /// SAb × SAFb + SAh × SAFh.
     adhering: Pair,
     /// B for hazard.
@@ -216,10 +254,18 @@ pub struct Body {
 }
 
 impl Body {
-    pub fn new(receptor: &Receptor) -> Body {
+    pub fn new(receptor: &Receptor, guidance: Guidance) -> Body {
         let value = receptor.value;
-        let [bw, ed, atc, _, _, _, _, _, _, _, sab, safb, sah, safh, ..] = value;
-        Body { value, adhering: sab * safb + sah * safh, b_hazard: bw * averaging_time(ed), b_cancer: bw * atc }
+        let [bw, ed, atc, _, etinh, efinh, _, _, _, _, sab, safb, sah, safh, ..] = value;
+        let at = averaging_time(ed);
+        let inhaled = match guidance {
+            Guidance::Of2005 => Inhaled::Dose,
+            Guidance::Of2009 => {
+                let days = etinh * efinh * ed;
+                Inhaled::Time { hazard: TimeShare(days / at), cancer: TimeShare(days / atc) }
+            }
+        };
+        Body { value, inhaled, adhering: sab * safb + sah * safh, b_hazard: bw * at, b_cancer: bw * atc }
     }
 }
 
@@ -244,8 +290,16 @@ pub fn pathways(site: &Site, chemical: &Chemical, media: &Media, exposure: &Expo
     let (highest, mean) = (&media.highest, media.mean(site, chemical, exposure));
     let soil = ((highest.soil, rfdo), (mean.soil, csfo));
     let in_soil = |dividend: Pair| figures(dividend, soil.0, soil.1);
+    let air = match body.inhaled {
+        Inhaled::Dose => figures(irinh * afinh * etinh * efinh * ed, (media.air, rfdi), (media.air, csfi)),
+        // The slots of RfDi and CSFi hold a reference concentration and a unit risk.
+        Inhaled::Time { hazard, cancer } => Figures {
+            quotient: rfdi.map(|reference| hazard.in_air(media.air).quotient(reference)),
+            risk: csfi.map(|unit_risk| cancer.in_air(media.air).risk(unit_risk)),
+        },
+    };
     [
-        figures(irinh * afinh * etinh * efinh * ed, (media.air, rfdi), (media.air, csfi)),
+        air,
         in_soil(irsoil * aforal * etsoil * efs * ed * MILLIONTH),
         in_soil(irsoil * aforal * site.frsnow * etsoil * efw * ed * MILLIONTH),
         in_soil(body.adhering * afderm * etderm * efs * ed * MILLIONTH),
@@ -348,6 +402,28 @@ mod tests {
         let last = |m: u32| Working { m, e: -8 };
         assert_eq!(person.value[ED], Pair { low: last(100_000_000), high: last(100_000_002) });
         assert_eq!(person.years, Pair { low: last(100_000_001), high: last(100_000_002) });
+    }
+
+    /// 0.5 × 180 × 30 = 2700 days: of 365 × 30 they are 0.246575342.., of 25550 0.105675146.. Nothing of the body counts.
+    #[test]
+    fn shares_of_time() {
+        let e = Pair::entry;
+        let ends = |m: u32, e: i32| Pair { low: Working { m, e }, high: Working { m: m + 1, e } };
+        let mut receptor = stage((1, 0), e(7, 0));
+        for (at, v) in [(ED, e(30, 0)), (ATC, e(25_550, 0)), (4, e(5, -1)), (5, e(180, 0))] {
+            receptor.value[at] = v;
+        }
+        let (hazard, cancer) = (TimeShare(ends(246_575_342, -9)), TimeShare(ends(105_675_146, -9)));
+        assert_eq!(Body::new(&receptor, Guidance::Of2009).inhaled, Inhaled::Time { hazard, cancer });
+        assert_eq!(Body::new(&receptor, Guidance::Of2005).inhaled, Inhaled::Dose);
+        // In 0.002 mg/m³: 0.000493150684 to 0.000493150686, by 0.001; and 2.11350292E-4 to 2.11350294E-4, a thousandfold and
+        // by 3 per µg/m³. Each is a working number.
+        let two = |low: u32, high: u32, e: i32| Pair { low: Working { m: low, e }, high: Working { m: high, e } };
+        let air = e(2, -3);
+        assert_eq!(hazard.in_air(air), AirOverTime(two(493_150_684, 493_150_686, -12)));
+        assert_eq!(hazard.in_air(air).quotient(e(1, -3)), two(493_150_684, 493_150_686, -9));
+        assert_eq!(cancer.in_air(air), AirOverTime(two(211_350_292, 211_350_294, -12)));
+        assert_eq!(cancer.in_air(air).risk(e(3, 0)), two(634_050_876, 634_050_882, -9));
     }
 
     #[test]

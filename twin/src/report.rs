@@ -62,7 +62,7 @@ fn work(sort: Sort, deck: &[u8], room: usize, case: &mut Case, lines: &mut [Line
     }
     let mut at = 0;
     for (r, receptor) in case.receptors().iter().enumerate() {
-        let (body, exposure) = (Body::new(receptor), site.exposure(receptor));
+        let (body, exposure) = (Body::new(receptor, case.guidance), site.exposure(receptor));
         for (chemical, media) in case.chemicals().iter().zip(&media) {
             for figures in pathways(&site, chemical, media, &exposure, &body) {
                 // Each receptor before this one has a total line too.
@@ -311,9 +311,9 @@ mod tests {
         assert_eq!(report(&with("999999999.5"), &mut out), (0, 7 * LINE, 0));
         // What was 31 in a later slot for its digits is 32 like any other number there.
         let mut deck = with("20");
-        let at = 2 * crate::deck::LINE - 1 - 12;
+        let at = 6 * crate::deck::LINE - 1 - 12;
         deck[at..at + 12].copy_from_slice(b"  1234567890");
-        assert_eq!(report(&deck, &mut out), (32, 2, 6));
+        assert_eq!(report(&deck, &mut out), (32, 6, 6));
     }
 
     /// Without loss, of 30 years' deposition half of the highest year's soil is the mean of 30 years or less; of 60 years it is
@@ -449,6 +449,134 @@ mod tests {
         let at = |rfdi: &str| deck(&[&CHEMICAL.replacen("0.001 0.001 1", &format!("0.001 {rfdi} 1"), 1)], 2);
         assert_eq!(report(&at("5E-08"), &mut out), (0, 14 * LINE, 0));
         assert_eq!(report(&at("4.999999E-08"), &mut out), (42, 1, 0));
+    }
+
+    /// The deck with this in the year's slot.
+    fn dated(mut deck: Vec<u8>, year: &str) -> Vec<u8> {
+        let at = 2 * crate::deck::LINE - 1 - 12;
+        deck[at..at + 12].copy_from_slice(format!("{year:>12}").as_bytes());
+        deck
+    }
+
+    /// A chemical with these in the slots of RfDi and CSFi.
+    fn inhaled(reference: &str, unit_risk: &str) -> String {
+        CHEMICAL.replacen("0.001 0.001 1 -", &format!("0.001 {reference} 1 {unit_risk}"), 1)
+    }
+
+    /// The example's air has 0.001 mg/m³; of 1825 days 365 × 5 are all and of 36500 the twentieth part.
+    #[test]
+    fn air_by_the_year() {
+        let receptor = |from: &str, to: &str| {
+            let cancer = RECEPTOR.replacen("27375", "36500", 1);
+            assert!(cancer.contains(from));
+            exposed(&cancer.replacen(from, to, 1), "1")
+        };
+        let with = |chemical: &str, receptor: String, year: &str| {
+            let mut out = [0; 7 * LINE];
+            assert_eq!(report(&dated(deck_of(&[chemical], &[receptor]), year), &mut out), (0, 7 * LINE, 0), "{year}");
+            out
+        };
+        let same = || receptor("", "");
+        let blank = with(&inhaled("0.001", "2"), same(), "");
+        assert_eq!(units_of(&blank[..LINE]), [500_000_000_000, 500_000_000_000, 50_000_000_000, 50_000_000_000]);
+        for year in ["2005", "2005.0", "2.005E+03", "000000002005", "20050E-01"] {
+            assert_eq!(with(&inhaled("0.001", "2"), same(), year), blank, "{year}");
+        }
+        // A whole for hazard; for cancer 0.00005 × 1000 × 2.
+        let air = [1_000_000_000_000, 1_000_000_000_000, 100_000_000_000_000, 100_000_000_000_000];
+        let other = with(&inhaled("0.001", "2"), same(), "2009");
+        assert_eq!(units_of(&other[..LINE]), air);
+        assert_eq!(other[LINE..6 * LINE], blank[LINE..6 * LINE]);
+        for year in ["2009.0", "2.009E+03", "000000002009", "20090E-01"] {
+            assert_eq!(with(&inhaled("0.001", "2"), same(), year), other, "{year}");
+        }
+        // Neither weight, breath nor absorption counts; the share of a day and the days of a year do.
+        for (from, to) in [("20 5", "70 5"), (" 10 1 365", " 0 1 365"), (" 10 1 365", " 23 1 365")] {
+            let out = with(&inhaled("0.001", "2"), receptor(from, to), "2009");
+            assert_eq!(units_of(&out[..LINE]), air, "{to}");
+        }
+        let unabsorbed = inhaled("0.001", "2").replacen("10 1 1 0.1 0.001", "10 0 1 0.1 0.001", 1);
+        assert_eq!(with(&unabsorbed, same(), "2009"), other);
+        assert_eq!(units_of(&with(&unabsorbed, same(), "")[..LINE]), [0; 4]);
+        for to in [" 10 0.5 365", " 10 1 182.5"] {
+            let out = with(&inhaled("0.001", "2"), receptor(" 10 1 365", to), "2009");
+            assert_eq!(units_of(&out[..LINE]), air.map(|n| n / 2), "{to}");
+        }
+        // Either reference may lack, and then no line but the oral ones is added up.
+        let lacking = with(&inhaled("-", "-"), same(), "2009");
+        assert_eq!(lacking[14..94], *format!("{0:>20}{0:>20}{0:>20}{0:>20}", "-").as_bytes());
+        assert_eq!(lacking, with(&inhaled("-", "-"), same(), ""));
+        let half = with(&inhaled("-", "2"), same(), "2009");
+        assert_eq!((&half[14..54], &half[54..94]), (&lacking[14..54], &other[54..94]));
+    }
+
+    #[test]
+    fn caps_by_2009() {
+        let mut out = [0; 14 * LINE];
+        let receptor = exposed(&RECEPTOR.replacen("27375", "36500", 1), "1");
+        let mut told = |chemical: &str, year: &str| {
+            let chemicals = [CHEMICAL, chemical];
+            report(&dated(deck_of(&chemicals, std::slice::from_ref(&receptor)), year), &mut out)
+        };
+        let answered = (0, 13 * LINE, 0);
+        // 0.001 / 1E-7 and 0.00005 × 1000 × 20 meet their caps.
+        assert_eq!(told(&inhaled("1E-07", "20"), "2009"), answered);
+        assert_eq!(told(&inhaled("9.999999E-08", "-"), "2009"), (42, 7, 0));
+        assert_eq!(told(&inhaled("-", "20.0000001"), "2009"), (42, 7, 0));
+        assert_eq!(told(&inhaled("-", "20.0000001"), "2005"), answered);
+        assert_eq!(told(&inhaled("9.999999E-08", "-"), "2005"), answered);
+    }
+
+    #[test]
+    fn no_other_year() {
+        let ordinary = deck(&[CHEMICAL], 1);
+        let composite = deck_of(&[CHEMICAL], &[stage(RECEPTOR, "2"), stage(RECEPTOR, "3")]);
+        for (sort, deck) in [(Sort::Ordinary, ordinary), (Sort::Composite, composite)] {
+            let mut out = [b'#'; 7 * LINE];
+            for (year, number) in [
+                ("-", 32),
+                ("2004", 33),
+                ("2010", 33),
+                ("2009.0000001", 33),
+                ("2008.9999999", 33),
+                ("0", 33),
+                ("2009E+01", 33),
+                ("2009E", 31),
+                ("MMIX", 31),
+                ("+2009", 31),
+            ] {
+                let deck = dated(deck.clone(), year);
+                assert_eq!(super::report(sort, &deck, &mut out), (number, 2, 6), "{sort:?} {year}");
+                assert_eq!(crate::read(sort, &deck), (number, 2, 6), "{sort:?} {year}");
+                assert_eq!(out, [b'#'; 7 * LINE]);
+            }
+            // In its turn: behind FRsnow, before the chemical.
+            let mut deck = dated(deck.clone(), "2004");
+            let next = 2 * crate::deck::LINE;
+            deck[next] = b'X';
+            assert_eq!(crate::read(sort, &deck), (33, 2, 6));
+            deck[next - 1 - 24..next - 1 - 12].copy_from_slice(b"           -");
+            assert_eq!(crate::read(sort, &deck), (32, 2, 5));
+        }
+    }
+
+    /// ETinh and EFinh are the stages' means, ED the years: 0.5 × 365 × 4 of 365 × 4 days, for hazard and cancer alike.
+    #[test]
+    fn a_composites_air_by_2009() {
+        let less = RECEPTOR.replacen("20 5 27375 10 1 365", "60 5 27375 40 0 365", 1);
+        let mut deck = deck_of(&[&inhaled("0.001", "0.2")], &[stage(RECEPTOR, "2"), stage(&less, "2")]);
+        let mut out = [0; 7 * LINE];
+        assert_eq!(composite_report(&deck, &mut out), (0, 7 * LINE, 0));
+        // BW 40, IRinh 25: 0.5 × 25 / 40 of the air.
+        assert_eq!(units_of(&out[..LINE]), [312_500_000_000, 312_500_000_000, 62_500_000_000, 62_500_000_000]);
+        deck = dated(deck, "2009");
+        let before = out;
+        assert_eq!(composite_report(&deck, &mut out), (0, 7 * LINE, 0));
+        assert_eq!(
+            units_of(&out[..LINE]),
+            [500_000_000_000, 500_000_000_000, 100_000_000_000_000, 100_000_000_000_000]
+        );
+        assert_eq!(out[LINE..6 * LINE], before[LINE..6 * LINE]);
     }
 
     #[test]

@@ -10,7 +10,7 @@ use std::hint::black_box;
 use std::time::Instant;
 use twin::calls::{self, Answer, Raw};
 use twin::deck::Printed;
-use twin::decks::{batch, everyday, everyday_eleven};
+use twin::decks::{batch, everyday, everyday_2009, everyday_eleven};
 use twin::rng::Rng;
 use twin::{ffi, Sort, LONGEST_REPORT};
 
@@ -310,6 +310,8 @@ fn deck_items<'a>(size: &str, decks: &'a Decks) -> [Item<'a>; 2] {
 
 /// Chemicals and receptors of the decks.
 const SIZES: [(usize, usize); 3] = [(1, 1), (4, 2), (16, 4)];
+/// Of those of the year 2009.
+const SIZE_2009: (usize, usize) = (16, 4);
 /// Chemicals and stages of a composite's.
 const COMPOSITE_SIZES: [(usize, usize); 2] = [(1, 8), (16, 8)];
 
@@ -348,6 +350,8 @@ fn main() {
     let mut decks: Vec<(String, Decks)> = Vec::new();
     decks.extend(SIZES.map(|(c, r)| (format!("{c} × {r}"), four(everyday, ordinary, (c, r)))));
     decks.extend(SIZES.map(|(c, r)| (format!("{c} × {r} (11 digits)"), four(everyday_eleven, ordinary, (c, r)))));
+    let (c, r) = SIZE_2009;
+    decks.push((format!("{c} × {r} (2009)"), four(everyday_2009, ordinary, SIZE_2009)));
     decks.extend(COMPOSITE_SIZES.map(|(c, r)| (format!("{c} × {r} stages"), four(everyday, composite, (c, r)))));
     // One pass takes longer than a turn should, and is one; rounds are as many as for the others.
     let mixed = batch(2006, 1_000);
@@ -433,6 +437,7 @@ fn markdown(timed: &[Timed], sizes: &[&str], mixture: &str, rounds: usize) -> St
         text,
         "decks are chemicals × receptors, those of 11 digits the same with each number moved by less than its last place;"
     );
+    let _ = writeln!(text, "those of 2009 the first with that year written in, where all others have none;");
     let _ = writeln!(text, "decks of stages go to the composite call, which reports one receptor;");
     let _ = writeln!(text, "of a batch, what one deck takes on average.");
     let _ = writeln!(text, "Ratio: library by twin, median of the rounds' own ratios.\n");
