@@ -7,8 +7,8 @@
  *   21  a line of this kind cannot come here, or EN is missing, told as the line past the last
  *   22  an id is misspelled, unlike its record's, or not above the one before; or EN is not blank
  *   31  a field is neither blank nor a lone - nor a number
- *   32  a needed field is blank, - stands where a value is needed, or a later field is not blank
- *   33  a value is out of its range
+ *   32  a needed field is blank, - stands where a value is needed or for the year, or a later field is not blank
+ *   33  a value is out of its range, or the site's year is neither 2005 nor 2009
  *   41  free: no call returns it, since quickly lost chemicals are worked too
  *   42  a report line is too large: a quotient's high end above 10,000, or a risk's above 1
  *   51  the report buffer is shorter than 95 bytes for each report line
@@ -53,14 +53,15 @@ extern "C" {
  * counted too; 11 and 51: 0), and field is 1 to 6, or 0 where no field is meant. */
 
 /* The report of a deck of n bytes, into a buffer of room bytes. Each receptor has its length of exposure in slot 22, over which cancer's
- * soil is a mean. On 0, *line is the report's length in bytes and *field is 0; the bytes of the buffer past the report stay as they were.
- * On a refusal the whole buffer does.
+ * soil is a mean. The site's slot 12 is 2005, 2009 or blank, which means 2005: by 2009 pathway 1 is worked from the concentration in air,
+ * and RfDi is a reference concentration in mg/m3, CSFi a unit risk per ug/m3. On 0, *line is the report's length in bytes and *field is 0;
+ * the bytes of the buffer past the report stay as they were. On a refusal the whole buffer does.
  * Refusals, the first that holds: 11; then line by line 12, 21, 22, and in each field 31, 32, 33; then 51, 42. */
 uint32_t zilmorga_report(const uint8_t *deck, size_t n, uint8_t *report, size_t room, size_t *line, size_t *field);
 
 /* The report of a composite's deck: its one to eight receptors are the life stages of one person, each with its years in slot 23, and the
- * report has that one person, under the first stage's id. The length of exposure is the exact sum of the years, so slot 22 is blank.
- * Told and refused as zilmorga_report is. */
+ * report has that one person, under the first stage's id. The length of exposure is the exact sum of the years, so slot 22 is blank. The
+ * site's year is as for zilmorga_report. Told and refused as zilmorga_report is. */
 uint32_t zilmorga_composite_report(const uint8_t *deck, size_t n, uint8_t *report, size_t room, size_t *line, size_t *field);
 
 /* Read an ordinary deck, or a composite's, and do no more. On 0, *line and *field are 0. Refusals: 11, 12, 21, 22, 31, 32, 33. */
