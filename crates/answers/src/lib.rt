@@ -1,6 +1,6 @@
 //! What a call on a deck told, on standard output: its report, or number, line and field in 6 columns each. No contract can say what is
 //! written, so all of this is proved safe and no more.
-use deck::Told;
+use cases::Told;
 use libc::STDERR_FILENO;
 use libc::STDOUT_FILENO;
 

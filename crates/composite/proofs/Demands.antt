@@ -11,41 +11,43 @@ use Rattle.pair.specs.declared.Pair.{Pair}
 use Rattle.pair.specs.Fraction.{Fraction, minus, times, over}
 use Rattle.pair.specs.Calls.{Outcome, is, entry, onePair}
 use Rattle.pair.proofs.Promises.{_=ᶠ_}
-use Rattle.years.specs.declared.Years.{Years}
-use Rattle.years.specs.Years as years
-use Rattle.years.specs.Years.{amount}
+use Rattle.times.specs.declared.Years.{Years}
+use Rattle.times.specs.Times as years
+use Rattle.times.specs.Times.{amount}
 use Rattle.slots.specs.declared.Owner.{Owner}
 use Rattle.slots.specs.declared.Owner.the-variants.{Receptor}
 use Rattle.slots.specs.declared.Sort.the-variants.{Composite}
 use Rattle.slots.specs.Slots.{Slot, positive, table, same, isIn, placeIn, entryRule, ruleIn, ruleAt, ownerOf, placeOf, ruleOf, ruleFor, neverZero}
-use Rattle.slots.proofs.Laws.{places, inside}
+use Rattle.slots.proofs.SlotLaws.{places, inside}
 use Rattle.equations.specs.Formula.{pairs, fractions}
 use Rattle.equations.specs.Readings.{valueIn, byOwner, inputs}
 use Rattle.equations.proofs.Profile.{Profile, Good, answeredAs}
 use Rattle.equations.proofs.LineLaws.{ofPrinted, ofSlot, ofLater}
-use Rattle.deck.specs.declared.Case.{Case}
-use Rattle.deck.specs.declared.Value.{Value}
-use Rattle.deck.specs.declared.Value.the-variants as Values
+use Rattle.cases.specs.declared.Case.{Case}
+use Rattle.cases.specs.declared.Value.{Value}
+use Rattle.cases.specs.declared.Value.the-variants as Values
 use Rattle.deck.specs.declared.Reading.{Reading}
-use Rattle.deck.specs.declared.Status.the-variants.{Read}
-use Rattle.deck.specs.Cases.{readOf, caseOf, valueAt, chemicalAt, receptorAt, ownersRecord, printed}
-use Rattle.deck.specs.Ranged.{Fits, Ranged}
-use Rattle.deck.proofs.Accepted.{accepted, tabulated}
-use Rattle.sheet.specs.Values.{orOne, orNone, pairOf, fractionOf, noReceptor, chemicalIn, receptorIn, stayIn, pairsAt, scenarioWith, exactWith, printedYears, depositionOf, receptorWith}
-use Rattle.sheet.proofs.Sound.{Sound}
-use Rattle.sheet.proofs.Inputs.{value-good, value-entered, receptor-fits, made-sound}
-use Rattle.sheet.proofs.ExposureLaws.{time-told, deposition-told, later-good}
+use Rattle.cases.specs.declared.Status.the-variants.{Read}
+use Rattle.deck.specs.DeckCase.{readOf, caseOf}
+use Rattle.cases.specs.Cases.{valueAt, chemicalAt, receptorAt, ownersRecord, printed}
+use Rattle.cases.specs.Ranged.{Fits, Ranged}
+use Rattle.deck.proofs.Accepted.{accepted}
+use Rattle.lists.proofs.Tabulated.{tabulated}
+use Rattle.scenario.specs.Scenario.{orOne, orNone, pairOf, fractionOf, noReceptor, chemicalIn, receptorIn, stayIn, pairsAt, scenarioWith, exactWith, printedYears, depositionOf, receptorWith}
+use Rattle.scenario.proofs.Sound.{Sound}
+use Rattle.scenario.proofs.InputLaws.{value-good, value-entered, receptor-fits, made-sound}
+use Rattle.scenario.proofs.DepositionLaws.{time-told, deposition-told, later-good}
 use Rattle.report.specs.Report.{scenarioOf, exactOf}
 use Rattle.report.specs.DemandTwo.{Demand2, Timed, Exposed}
 use Rattle.report.specs.DemandThree.{Demand3}
 use Rattle.report.proofs.CallLaws.{deck-read, case-is}
-use Rattle.report.proofs.Fitting.{small-ids}
+use Rattle.deck.proofs.DeckIds.{small-ids}
 use Rattle.report.proofs.Exposures.{exposed}
 use Rattle.report.proofs.DemandTwo.{Sounds, demand-2-of}
 use Rattle.report.proofs.DemandThree.{demand-3-of}
 use Rattle.composite.specs.Composite.{mean, summed, sumOfYears, composed, yearsTogether, pairStage, exactStage, lastStage, stageYears, exposureOf, pairComposite, compositeReceptor, compositeFrom, exactComposite, composite, compositeScenario, Composed}
 use Rattle.composite.proofs.Weighing.{composed-good}
-use Rattle.composite.proofs.ExposureLaws.{Lasting, printed-lasts, together-lasts, together-is, pair-good}
+use Rattle.composite.proofs.StageTimes.{Lasting, printed-lasts, together-lasts, together-is, pair-good}
 
 -- an answer is what is taken of it
 answer-taken : (P : Profile) (o : Outcome Pair) (x : Fraction) → Good P o x → o ≡ is (orOne o)

@@ -2,6 +2,6 @@
 -- report has demands 1 to 3 (`Demands`); and a deck of 2005 prints what it printed (`Guidance`). Assumes nothing.
 mod StageLaws
 mod Weighing
-mod ExposureLaws
 pub mod Demands
-pub mod Guidance
+pub mod CompositeGuidance
+pub mod StageTimes

@@ -10,19 +10,21 @@ use borrow.Author.Tests.{ne-eqb}
 use Rattle.pair.specs.declared.Pair.{Pair}
 use Rattle.pair.specs.declared.Answer.{Answer}
 use Rattle.pair.specs.Calls.{Outcome, is, onePair, answer, after, entry, sum, product, quotient}
-use Rattle.years.specs.declared.Years.{Years}
-use Rattle.years.specs.Years.{together, asPair}
+use Rattle.times.specs.declared.Years.{Years}
+use Rattle.times.specs.Times.{together, asPair}
 use Rattle.slots.specs.Slots.{table, same, isIn, placeIn, ownerOf, placeOf}
 use Rattle.equations.specs.Formula.{pairs}
 use Rattle.equations.proofs.ValueLaws.{read-any}
 use Rattle.equations.specs.declared.Values.{Values}
-use Rattle.deck.specs.declared.Case.{Case}
-use Rattle.deck.specs.declared.Record.{Record}
-use Rattle.deck.specs.Cases.{slotsPerRecord, tabulate, noRecord, valueAt, receptorAt}
-use Rattle.sheet.specs.declared.Receptor.{Receptor}
-use Rattle.sheet.specs.declared.Receptors.{Receptors}
-use Rattle.sheet.specs.Values.{orOne, pairOf, noReceptor, orNone, printedYears, depositionOf, receptorWith}
-use Rattle.deck.proofs.Accepted.{tabulated}
+use Rattle.cases.specs.declared.Case.{Case}
+use Rattle.cases.specs.declared.Record.{Record}
+use Rattle.sizes.specs.Sizes.{slotsPerRecord}
+use Rattle.lists.specs.Lists.{tabulate}
+use Rattle.cases.specs.Cases.{noRecord, valueAt, receptorAt}
+use Rattle.scenario.specs.declared.Receptor.{Receptor}
+use Rattle.scenario.specs.declared.Receptors.{Receptors}
+use Rattle.scenario.specs.Scenario.{orOne, pairOf, noReceptor, orNone, printedYears, depositionOf, receptorWith}
+use Rattle.lists.proofs.Tabulated.{tabulated}
 use Rattle.composite.specs.Composite.{summed, sumOfYears, mean, composed, yearsTogether, pairStage, lastStage, stageYears, exposureOf, pairComposite, compositeReceptor, compositeFrom}
 use Rattle.composite.specs.Inner.{pairIn, stageIn, yearsIn, yearAt, weightAt, printedIn, composedIn}
 

@@ -11,18 +11,20 @@ use lib.IntN.{ℤ, pos}
 use Rattle.pair.specs.declared.Pair.{Pair}
 use Rattle.pair.specs.Fraction.{Fraction}
 use Rattle.pair.specs.Calls.{Outcome, is, entry}
-use Rattle.years.specs.declared.Years.{Years}
-use Rattle.years.specs.Years as years
+use Rattle.times.specs.declared.Years.{Years}
+use Rattle.times.specs.Times as years
 use Rattle.slots.specs.declared.Owner.the-variants as owners
 use Rattle.slots.specs.declared.Sort.the-variants.{Composite}
 use Rattle.slots.specs.Slots.{Slot, ownerOf, placeOf}
 use Rattle.equations.specs.Formula.{Algebra, pairs, fractions}
-use Rattle.deck.specs.declared.Case.{Case}
-use Rattle.deck.specs.declared.Value.the-variants as Values
-use Rattle.deck.specs.Cases.{slotsPerRecord, tabulate, valueAt, receptorAt}
-use Rattle.sheet.specs.declared.Receptor.{Receptor}
-use Rattle.sheet.specs.declared.Receptors.{Receptors}
-use Rattle.sheet.specs.Values.{Scenario, orOne, pairOf, noReceptor, fractionOf, stayIn, pairsAt, scenarioWith, orNone, printedYears, depositionOf, receptorWith}
+use Rattle.cases.specs.declared.Case.{Case}
+use Rattle.cases.specs.declared.Value.the-variants as Values
+use Rattle.sizes.specs.Sizes.{slotsPerRecord}
+use Rattle.lists.specs.Lists.{tabulate}
+use Rattle.cases.specs.Cases.{valueAt, receptorAt}
+use Rattle.scenario.specs.declared.Receptor.{Receptor}
+use Rattle.scenario.specs.declared.Receptors.{Receptors}
+use Rattle.scenario.specs.Scenario.{Scenario, orOne, pairOf, noReceptor, fractionOf, stayIn, pairsAt, scenarioWith, orNone, printedYears, depositionOf, receptorWith}
 use Rattle.report.specs.Report.{Call}
 use Rattle.report.specs.DemandTwo.{Timed, Exposed}
 

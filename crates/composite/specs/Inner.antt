@@ -4,13 +4,14 @@ use Prim.Native.Nat.{ℕ}
 use lib.ListN.{getD}
 use Rattle.pair.specs.declared.Pair.{Pair}
 use Rattle.pair.specs.Calls.{Outcome, is, onePair, after, product}
-use Rattle.years.specs.declared.Years.{Years}
+use Rattle.times.specs.declared.Years.{Years}
 use Rattle.slots.specs.Slots.{placeOf}
 use Rattle.equations.specs.Formula.{pairs}
-use Rattle.deck.specs.declared.Record.{Record}
-use Rattle.deck.specs.Kinds.{mostReceptors}
-use Rattle.deck.specs.Cases.{slotsPerRecord, tabulate, noRecord, valueAt}
-use Rattle.sheet.specs.Values.{orOne, pairOf, printedYears}
+use Rattle.cases.specs.declared.Record.{Record}
+use Rattle.sizes.specs.Sizes.{mostStages, slotsPerRecord}
+use Rattle.lists.specs.Lists.{tabulate}
+use Rattle.cases.specs.Cases.{noRecord, valueAt}
+use Rattle.scenario.specs.Scenario.{orOne, pairOf, printedYears}
 use Rattle.composite.specs.Composite.{composed}
 
 -- the pair at place k of record j
@@ -21,7 +22,7 @@ unfoldable pub stageIn : List Record → ℕ → ℕ → Outcome Pair
 stageIn records j k = is (pairIn records j k)
 
 unfoldable pub yearsIn : List Record → List Pair
-yearsIn records = tabulate mostReceptors (λ j. pairIn records j (placeOf "years"))
+yearsIn records = tabulate mostStages (λ j. pairIn records j (placeOf "years"))
 
 -- the years of stage j, and years × value at place k, from the years as they were entered
 unfoldable pub yearAt : List Pair → ℕ → Outcome Pair

@@ -3,8 +3,8 @@
 mod stages;
 
 use crate::stages::composite_of;
-use deck::Status;
-use deck::Told;
+use cases::Status;
+use cases::Told;
 use slots::Sort;
 ghost use mathlib.Core.Path.{_≡_};
 ghost use lib.ListN.{length};
@@ -12,7 +12,7 @@ ghost use Rattle.report.specs.Report.{outcomeOf, bufferOf};
 ghost use Rattle.composite.specs.Composite.{composite};
 
 // The longest report, of one receptor: 97 lines.
-pub const MAX_REPORT: usize = report::MAX_REPORT / deck::MAX_RECEPTORS;
+pub const MAX_REPORT: usize = report::MAX_REPORT / sizes::MAX_RECEPTORS;
 
 // The composite's report into the buffer: 0, the report's length, 0; or the number, line and field of the first condition that stops it, and
 // the buffer as it was.
@@ -23,7 +23,7 @@ pub fn report(deck: &[u8], out: &mut [u8]) -> Told
     let reading = deck::read(deck, Sort::Composite);
     let status = reading.status;
     let Status::Read = status else {
-        return deck::tell(status);
+        return cases::tell(status);
     };
     let receptors = composite_of(reading.case);
     report::write_report(reading.case.site, reading.case.chemicals, receptors, out)

@@ -1,28 +1,28 @@
 // One receptor made of life stages.
-use deck::Case;
-use deck::MAX_STAGES;
-use deck::Receptors;
-use deck::Record;
+use cases::Case;
+use sizes::MAX_STAGES;
+use cases::Receptors;
+use cases::Record;
 use equations::Stay;
 use equations::Values;
 use pair::Answer;
 use pair::Pair;
-use sheet::Receptor;
+use scenario::Receptor;
 use slots::ATC;
 use slots::ED;
-use slots::SLOTS;
+use sizes::SLOTS;
 use slots::T2;
 use slots::YEARS;
-use years::Time;
-use years::Years;
+use times::Time;
+use times::Years;
 ghost use mathlib.Core.Path.{_≡_};
 ghost use Prim.Native.Nat.{_<_, _≤_};
 ghost use Rattle.pair.specs.Calls.{answer};
-ghost use Rattle.years.specs.Years.{together};
+ghost use Rattle.times.specs.Times.{together};
 ghost use Rattle.slots.specs.Slots.{placeOf};
 ghost use Rattle.equations.specs.Formula.{pairs};
-ghost use Rattle.deck.specs.Cases.{valueAt};
-ghost use Rattle.sheet.specs.Values.{pairOf, noReceptor, orNone, printedYears};
+ghost use Rattle.cases.specs.Cases.{valueAt};
+ghost use Rattle.scenario.specs.Scenario.{pairOf, noReceptor, orNone, printedYears};
 ghost use Rattle.composite.specs.Composite.{summed, sumOfYears, composed, yearsTogether, compositeFrom};
 ghost use Rattle.composite.specs.Inner.{stageIn, yearsIn, yearAt, weightAt, printedIn, composedIn};
 
@@ -38,7 +38,7 @@ fn value_in(stage: Record, k: usize) -> Pair
 {
     let slot = stage.slots[k];
     let v = slot.value;
-    sheet::pair_of(v)
+    scenario::pair_of(v)
 }
 
 fn years_of(stages: Receptors) -> YearPairs
@@ -95,7 +95,7 @@ fn printed_in(stage: Record) -> Years
 {
     let slot = stage.slots[YEARS];
     let v = slot.value;
-    sheet::printed_years(v)
+    scenario::printed_years(v)
 }
 
 // The sum of two times; 0 for one that is refused, which printed years in range never come to.
@@ -155,7 +155,7 @@ fn composed_values(stages: Receptors, exposure: Answer, last: usize) -> Values
     let mut list = [Pair::ONE; SLOTS];
     let mut k: usize = 0;
     while k < SLOTS {
-        list[k] = sheet::or_one(composed_at(stages, years, total, exposure, last, k));
+        list[k] = scenario::or_one(composed_at(stages, years, total, exposure, last, k));
         k += 1;
     }
     Values { list }
@@ -174,7 +174,7 @@ fn no_receptor() -> Receptor
 }
 
 // A single receptor, made of all of the deck's, under the first one's id.
-pub(crate) fn composite_of(case: Case) -> sheet::Receptors
+pub(crate) fn composite_of(case: Case) -> scenario::Receptors
     requires { ⌜ (1 ≤ case .receptors .count) × (case .receptors .count ≤ 8) ⌝ }
     ensures { λ r. ⌜ r ≡ compositeFrom case ⌝ }
 {
@@ -183,9 +183,9 @@ pub(crate) fn composite_of(case: Case) -> sheet::Receptors
     let last = stages.count - 1;
     let exposure = exposure_of(stages, last);
     let values = composed_values(stages, exposure.pair(), last);
-    let deposition = sheet::deposition_of(case.site);
-    let receptor = sheet::receptor_with(first.id, values, exposure, deposition);
+    let deposition = scenario::deposition_of(case.site);
+    let receptor = scenario::receptor_with(first.id, values, exposure, deposition);
     let none = no_receptor();
     let list = [receptor, none, none, none];
-    sheet::Receptors { count: 1, list }
+    scenario::Receptors { count: 1, list }
 }

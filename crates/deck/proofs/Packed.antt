@@ -10,18 +10,21 @@ use borrow.Author.Tests.{ne-eqb, lt-ltb, le-ltb}
 use lib.IntN.{ℤ, pos, negsuc, subℕ}
 use lib.ListN.{length, getD, take, drop, set, replicate, length-append, length-replicate, replicate-append-replicate}
 use lib.Seq.{take-at, drop-at, take-all, take-suc-set}
-use Rattle.deck.specs.Parts.{leading, linesOf, lineOf, fieldIn, fieldOf}
-use Rattle.deck.specs.Numbers.{wordOf}
-use Rattle.deck.specs.Ranges.{above, below}
-use Rattle.deck.specs.Cases.{tabulate, valueOf, slotSpelled}
+use Rattle.spelling.specs.Columns.{leading}
+use Rattle.deck.specs.Parts.{linesOf, lineOf, fieldIn, fieldOf}
+use Rattle.spelling.specs.Spelling.{wordOf}
+use Rattle.powers.specs.Powers.{above, below}
+use Rattle.lists.specs.Lists.{tabulate}
+use Rattle.deck.specs.DeckCase.{valueOf, slotSpelled}
 use Rattle.deck.specs.Inner.{Small, packedOf, unpackedOf, packedIn, packedAt, maxFields, packedFields}
-use Rattle.deck.specs.declared.Filled.{Filled}
-use Rattle.deck.specs.declared.Value.{Value}
-use Rattle.deck.specs.declared.Word.{Word}
-use Rattle.deck.specs.declared.Word.the-variants.{Blank, Dash, Number, Other}
-use Rattle.deck.proofs.Parts.{line-past}
-use Rattle.deck.proofs.CaseLaws.{field-none, length-tabulate}
-use Rattle.deck.proofs.Accepted.{field-small, tabulated}
+use Rattle.cases.specs.declared.Filled.{Filled}
+use Rattle.cases.specs.declared.Value.{Value}
+use Rattle.spelling.specs.declared.Word.{Word}
+use Rattle.spelling.specs.declared.Word.the-variants.{Blank, Dash, Number, Other}
+use Rattle.deck.proofs.PartLaws.{line-past}
+use Rattle.deck.proofs.DeckCaseLaws.{field-none}
+use Rattle.lists.proofs.Tabulated.{length-tabulate, tabulated}
+use Rattle.deck.proofs.SpelledWords.{field-small}
 
 -- ---- a value
 power-back : (p : ℤ) → above p ≤ 99 → below p ≤ 111 → subℕ (128 + above p - below p) 128 ≡ p

@@ -6,13 +6,15 @@ use mathlib.Core.Bool.{Bool, true, false}
 use mathlib.Core.List.{List, [], _∷_, _++_}
 use Rattle.deck.specs.Parts.{linesOf}
 use Rattle.deck.specs.Kinds.{C1, R1}
-use Rattle.deck.specs.Conditions.{at, first, upTo, countOf, lineConditions, badLength, noEnd, conditions}
-use Rattle.deck.specs.Cases.{caseWith, caseOf, noCase, caseFor, readOf, toldOf}
+use Rattle.cases.specs.Conditions.{at, first, upTo, toldOf}
+use Rattle.deck.specs.DeckConditions.{countOf, lineConditions, badLength, noEnd, conditions}
+use Rattle.deck.specs.DeckCase.{caseWith, caseOf, caseFor, readOf}
+use Rattle.cases.specs.Cases.{noCase}
 use Rattle.slots.specs.declared.Sort.{Sort}
-use Rattle.deck.specs.declared.Case.{Case}
+use Rattle.cases.specs.declared.Case.{Case}
 use Rattle.deck.specs.declared.Reading.{Reading}
-use Rattle.deck.specs.declared.Status.{Status}
-use Rattle.deck.specs.declared.Status.the-variants.{Read, Stopped}
+use Rattle.cases.specs.declared.Status.{Status}
+use Rattle.cases.specs.declared.Status.the-variants.{Read, Stopped}
 
 module _ (sort : Sort) (deck : List ℕ) where
   reading : (r : Reading) (s : Status) → r .status ≡ s → s ≡ first (conditions sort deck) → r .case ≡ caseFor s deck → r ≡ readOf sort deck

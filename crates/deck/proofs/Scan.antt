@@ -5,39 +5,27 @@ use native.Mathlib.Nat.{add-sub-cancel, le-antisymm}
 use native.Mathlib.Numerals.{add-one}
 use native.Mathlib.Omega.{arith}
 use mathlib.Core.Path.{_≡_, refl, sym, ap, _∙_, subst}
-use mathlib.Core.Bool.{Bool, true, false, cond, not, _&&_, _||_, true≢false}
+use mathlib.Core.Bool.{Bool, true, false, cond, not, _&&_, _||_}
 use mathlib.Core.List.{List, [], _∷_, _++_}
 use borrow.Author.Tests.{eq-eqb, ne-eqb, lt-ltb, le-ltb, leb-false, ltb-false}
 use lib.Dec.{leb, ltb, eqb}
 use lib.ListN.{length, take, drop, length-take, length-drop}
-use Rattle.deck.specs.Parts.{leading, within, linesOf, lineOf}
-use Rattle.deck.specs.Numbers.{idIn, idSpelled}
-use Rattle.deck.specs.Kinds.{kindOf, maxReceptors, C1, R1, EN, among, befores, kindOrder}
-use Rattle.slots.specs.Slots.{fieldsPerLine}
+use Rattle.spelling.specs.Columns.{leading, within}
+use Rattle.deck.specs.Parts.{linesOf, lineOf}
+use Rattle.spelling.specs.Spelling.{idIn, idSpelled}
+use Rattle.deck.specs.Kinds.{kindOf, C1, R1, EN, among, befores, kindOrder}
+use Rattle.cases.specs.Cases.{maxReceptors}
+use Rattle.sizes.specs.Sizes.{fieldsPerLine}
 use Rattle.slots.specs.declared.Sort.{Sort}
 use Rattle.slots.specs.declared.Sort.the-variants.{Ordinary, Composite}
-use Rattle.deck.specs.Conditions.{Condition, at, first, upTo, fieldAt, badBytes, badKind, badId, idOf, lineConditionsAfter, countOf, lineConditions, maxLength, badLength, noEnd}
-use Rattle.deck.specs.declared.Status.{Status}
-use Rattle.deck.specs.declared.Status.the-variants.{Read, Stopped}
-use Rattle.deck.proofs.Parts.{line-is}
-use Rattle.deck.proofs.CaseLaws.{line-full}
-use Rattle.deck.proofs.First.{orElse, first-append, turn-on, turn-out}
-
--- ---- where nothing holds
-pub never : (s : Status) (number line field : ℕ) → s ≡ Stopped number line field → s ≡ Read → ⊥
-never s number line field p q = let z : _≡_ {A = ℕ} 0 1 = cc in omega arith
-
-first-cond : (b : Bool) (number line field : ℕ) (s : Status) → cond b (Stopped number line field) s ≡ Read → (b ≡ false) × (s ≡ Read)
-first-cond true number line field s e = absurd (never (Stopped number line field) number line field refl e)
-first-cond false number line field s e = (refl, e)
-
-pub first-read : (c : Condition) (cs : List Condition) → first (c ∷ cs) ≡ Read → (c .holds ≡ false) × (first cs ≡ Read)
-unfolding first
-first-read c cs e = first-cond (c .holds) (c .number) (c .line) (c .field) (first cs) e
-
-pub neither : (a b : Bool) → (a || b) ≡ false → (a ≡ false) × (b ≡ false)
-neither true b e = absurd (true≢false e)
-neither false b e = (refl, e)
+use Rattle.cases.specs.Conditions.{Condition, at, first, upTo}
+use Rattle.deck.specs.DeckConditions.{fieldAt, badBytes, badKind, badId, idOf, lineConditionsAfter, countOf, lineConditions, maxLength, badLength, noEnd}
+use Rattle.cases.specs.declared.Status.{Status}
+use Rattle.cases.specs.declared.Status.the-variants.{Read, Stopped}
+use Rattle.deck.proofs.PartLaws.{line-is}
+use Rattle.deck.proofs.DeckCaseLaws.{line-full}
+use Rattle.cases.proofs.FirstMet.{orElse, first-append, turn-on, turn-out, first-read}
+use Rattle.lists.proofs.Booleans.{neither}
 
 -- what a line that stops nothing tells
 pub record LineRead (sort : Sort) (before idBefore chemicals receptors n : ℕ) (line : List ℕ) : Type 0 where
@@ -106,7 +94,7 @@ scanned-start sort deck =
 
 module _ (sort : Sort) (deck l : List ℕ) (n kind id chemicals receptors : ℕ) (s : Scanned sort deck n kind id chemicals receptors) (e : l ≡ lineOf deck (n + 1)) (t : Status)
     (f : t ≡ first (lineConditionsAfter sort kind id chemicals receptors l (n + 1))) where
-  here : t ≡ first (lineConditions sort deck (n + 1))
+  pub here : t ≡ first (lineConditions sort deck (n + 1))
   unfolding lineConditions
   here =
       rw (add-sub-cancel n 1, ← s .kind-is, ← s .id-is, ← s .chemicals-are, ← s .receptors-are, ← e) f

@@ -2,7 +2,7 @@
 -- same condition stops it, or none does; and its guidance is that of 2005.
 -- Assumes nothing.
 use Prim.Native.Nat.{ℕ, zero, suc, _+_, _*_, _-_, _/_, _%_, _^_, _≤_, _<_}
-use native.Mathlib.Nat.{zero-add, suc-add, one-le-pow, mul-le-mul-left, pow-le-pow-right, eq-or-lt-of-le, le-of-suc-le-suc}
+use native.Mathlib.Nat.{one-le-pow, mul-le-mul-left, pow-le-pow-right, eq-or-lt-of-le, le-of-suc-le-suc}
 use native.Mathlib.Numerals.{add-one}
 use native.Mathlib.Omega.{arith}
 use mathlib.Core.Path.{_≡_, refl, sym, ap, _∙_, subst}
@@ -13,38 +13,39 @@ use borrow.Author.Tests.{ne-eqb, eqb-true, eqb-false, le-leb}
 use lib.Dec.{leb, ltb, eqb, lit≤, lit<}
 use lib.IntN.{ℤ}
 use lib.ListN.{length, getD, take, drop, set, replicate, length-append, length-drop, take-append-drop}
-use lib.Seq.{length-take-le, take-nil, take-at, drop-at, take-take, take-add, take-suc, drop-drop, getD-take, getD-drop, set-at, append-snoc}
+use lib.Seq.{length-take-le, take-at, drop-at, take-take, take-add, take-suc, drop-drop, getD-take, getD-drop, set-at, append-snoc}
 use Rattle.slots.specs.Slots.{unused, guidanceYear, yearOf, table, same, isIn, placeIn, ownerOf, placeOf, ruleIn, ruleAt, lineRules}
 use Rattle.slots.specs.declared.Guidance.the-variants.{Of2005, Of2009}
 use Rattle.slots.specs.declared.Sort.{Sort}
-use Rattle.deck.specs.Parts.{within, leading, linesOf, lineOf, fieldIn, fieldOf}
-use Rattle.deck.specs.Numbers.{digitsOf, unspaced, signSpelled, exponentSpelled, endedOf, pointedOf, spelledOf, loneDash, wordOf, idIn}
+use Rattle.spelling.specs.Columns.{within, leading}
+use Rattle.deck.specs.Parts.{linesOf, lineOf, fieldIn, fieldOf}
+use Rattle.spelling.specs.Spelling.{digitsOf, unspaced, signSpelled, exponentSpelled, endedOf, pointedOf, spelledOf, loneDash, wordOf, idIn}
 use Rattle.deck.specs.Kinds.{Follows, _after_, kindOf, start, S1, S2, C1, R1, EN, kindOrder, befores, among, kinds, rulesIn, rulesOf}
-use Rattle.deck.specs.Ranges.{above, below, valueAtMost, valueAtLeast, withinBounds, isYearOf, isYear, inRange}
-use Rattle.deck.specs.Conditions.{Condition, at, first, upTo, misspelled, misplaced, outOfRange, fieldConditions, fieldAt, badBytes, badKind, idOf, wrongId, badId, lineConditionsAfter, countOf, lineConditions, maxLength, badLength, noEnd, conditions}
-use Rattle.deck.specs.Cases.{tabulate, valueOf, noSlot, slotSpelled, noRecord, recordOf, recordsOf, caseWith, caseOf, valueAt, guidanceOf}
-use Rattle.deck.specs.Guidance.{yearWord, is2005, withoutYear, clearYear, caseWithoutYear}
-use Rattle.deck.specs.declared.Word.{Word}
-use Rattle.deck.specs.declared.Word.the-variants.{Blank, Dash, Number, Other}
-use Rattle.deck.specs.declared.Filled.{Filled}
-use Rattle.deck.specs.declared.Record.{Record}
-use Rattle.deck.specs.declared.Status.{Status}
-use Rattle.deck.specs.declared.Status.the-variants.{Read, Stopped}
-use Rattle.deck.proofs.Leading.{within-yes}
-use Rattle.deck.proofs.Digits.{both, within-bounds, digit-first, leading-le, leading-take}
-use Rattle.deck.proofs.Words.{exponent-four}
-use Rattle.deck.proofs.Parts.{line-is}
-use Rattle.deck.proofs.CaseLaws.{length-tabulate}
-use Rattle.deck.proofs.Accepted.{choose, filled-at}
-use Rattle.deck.proofs.First.{orElse, first-append}
+use Rattle.powers.specs.Powers.{above, below}
+use Rattle.cases.specs.Ranges.{valueAtMost, valueAtLeast, withinBounds, isYearOf, isYear, inRange}
+use Rattle.cases.specs.Conditions.{Condition, at, first, upTo}
+use Rattle.deck.specs.DeckConditions.{misspelled, misplaced, outOfRange, fieldConditions, fieldAt, badBytes, badKind, idOf, wrongId, badId, lineConditionsAfter, countOf, lineConditions, maxLength, badLength, noEnd, conditions}
+use Rattle.lists.specs.Lists.{tabulate}
+use Rattle.deck.specs.DeckCase.{valueOf, slotSpelled, recordOf, recordsOf, caseWith, caseOf}
+use Rattle.cases.specs.Cases.{noSlot, noRecord, valueAt, guidanceOf, clearYear, caseWithoutYear}
+use Rattle.deck.specs.Guidance.{yearWord, is2005, withoutYear}
+use Rattle.spelling.specs.declared.Word.{Word}
+use Rattle.spelling.specs.declared.Word.the-variants.{Blank, Dash, Number, Other}
+use Rattle.cases.specs.declared.Filled.{Filled}
+use Rattle.cases.specs.declared.Record.{Record}
+use Rattle.cases.specs.declared.Status.{Status}
+use Rattle.cases.specs.declared.Status.the-variants.{Read, Stopped}
+use Rattle.spelling.proofs.Leading.{within-yes}
+use Rattle.lists.proofs.Booleans.{both}
+use Rattle.spelling.proofs.DigitLaws.{within-bounds, digit-first, leading-le, leading-take}
+use Rattle.spelling.proofs.WordLaws.{exponent-four}
+use Rattle.deck.proofs.PartLaws.{line-is}
+use Rattle.lists.proofs.Tabulated.{length-tabulate, filled-at, tabulate-same}
+use Rattle.deck.proofs.SpelledWords.{choose}
+use Rattle.cases.proofs.FirstMet.{orElse, first-append, upTo-each}
 use Rattle.deck.proofs.Scan.{line-read}
-use Rattle.deck.proofs.Places.{upTo-each, may-follow}
-
--- ---- parts of two lists whose first elements agree
-drop-take : (k m : ℕ) (s : List ℕ) → drop k (take (k + m) s) ≡ take m (drop k s)
-drop-take zero m s = ap (λ (n : ℕ). take n s) (zero-add m)
-drop-take (suc k) m [] = ap (drop (suc k)) (take-nil (suc k + m)) ∙ sym (take-nil m)
-drop-take (suc k) m (x ∷ xs) = ap (λ (n : ℕ). drop (suc k) (take n (x ∷ xs))) (suc-add k m) ∙ drop-take k m xs
+use Rattle.deck.proofs.LinePlaces.{may-follow}
+use Rattle.lists.proofs.ListLaws.{drop-take}
 
 module _ (n : ℕ) (s t : List ℕ) (e : take n s ≡ take n t) where
   same-front : (m : ℕ) → m ≤ n → take m s ≡ take m t
@@ -305,15 +306,6 @@ module _ (deck : List ℕ) (long : 162 ≤ length deck) where
       let k = kinds-same (suc n) in
       let c = counts-same kind n in
       λ i. cond (eqb (k i) kind) (suc (c i)) (c i)
-
--- ---- the case
-tabulate-same : {A : Type 0} (f g : ℕ → A) (n : ℕ) → ((k : ℕ) → k < n → f k ≡ g k) → tabulate n f ≡ tabulate n g
-unfolding tabulate
-tabulate-same f g zero h = refl
-tabulate-same f g (suc n) h =
-    let t = tabulate-same f g n (λ k l. h k (omega arith)) in
-    let e = h n (omega arith) in
-    λ i. t i ++ (e i ∷ [])
 
 module _ {A : Type 0} (f : ℕ → A) (n : ℕ) (rest : List A) where
   tabulate-last : tabulate (suc n) f ++ rest ≡ tabulate n f ++ (f n ∷ rest)

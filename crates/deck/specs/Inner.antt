@@ -7,17 +7,17 @@ use mathlib.Core.Bool.{cond}
 use mathlib.Core.List.{List}
 use lib.Dec.{eqb}
 use lib.IntN.{ℤ, subℕ}
-use Rattle.deck.specs.Parts.{leading, fieldIn, fieldOf}
-use Rattle.deck.specs.Numbers.{wordOf}
-use Rattle.deck.specs.Kinds.{maxChemicals, mostReceptors, siteLines, recordLines}
-use Rattle.deck.specs.Ranges.{above, below}
-use Rattle.deck.specs.Ranged.{Spelled}
-use Rattle.deck.specs.Cases.{tabulate}
-use Rattle.slots.specs.Slots.{fieldsPerLine}
-use Rattle.deck.specs.declared.Word.{Word}
-use Rattle.deck.specs.declared.Word.the-variants.{Blank, Dash, Number, Other}
-use Rattle.deck.specs.declared.Value.{Value}
-use Rattle.deck.specs.declared.Value.the-variants.{Absent, Printed}
+use Rattle.spelling.specs.Columns.{leading}
+use Rattle.deck.specs.Parts.{fieldIn, fieldOf}
+use Rattle.spelling.specs.Spelling.{wordOf}
+use Rattle.sizes.specs.Sizes.{maxChemicals, mostStages, siteLines, recordLines, fieldsPerLine}
+use Rattle.powers.specs.Powers.{above, below}
+use Rattle.cases.specs.Ranged.{Spelled}
+use Rattle.lists.specs.Lists.{tabulate}
+use Rattle.spelling.specs.declared.Word.{Word}
+use Rattle.spelling.specs.declared.Word.the-variants.{Blank, Dash, Number, Other}
+use Rattle.cases.specs.declared.Value.{Value}
+use Rattle.cases.specs.declared.Value.the-variants.{Absent, Printed}
 
 -- of the first n bytes of a line, count print: all of them, or one of them does not
 pub record Printable (line : List ℕ) (n count : ℕ) : Type 0 where
@@ -56,7 +56,7 @@ packedAt deck i = packedOf (wordOf (fieldOf deck (i / fieldsPerLine + 1) (i % fi
 
 -- the fields of the longest deck
 abbrev pub maxFields : ℕ
-maxFields = fieldsPerLine * (siteLines + recordLines * (maxChemicals + mostReceptors) + 1)
+maxFields = fieldsPerLine * (siteLines + recordLines * (maxChemicals + mostStages) + 1)
 
 -- all of a deck's; those that it lacks have no value
 unfoldable pub packedFields : List ℕ → List ℕ

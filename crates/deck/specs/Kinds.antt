@@ -10,7 +10,6 @@ use Rattle.slots.specs.declared.Owner.{Owner}
 use Rattle.slots.specs.declared.Owner.the-variants.{Site, Chemical, Receptor}
 use Rattle.slots.specs.declared.Rule.{Rule}
 use Rattle.slots.specs.declared.Sort.{Sort}
-use Rattle.slots.specs.declared.Sort.the-variants.{Ordinary, Composite}
 
 -- A kind is columns 1-2 as one number: 256 × the first byte + the second.
 unfoldable pub kindOf : List ℕ → ℕ
@@ -52,25 +51,6 @@ R4 = 256 * 82 + 52
 
 abbrev pub EN : ℕ
 EN = 256 * 69 + 78
-
--- How many chemicals and receptors a deck may have; a composite's has more receptors, the life stages of one person (document 02, P2).
-abbrev pub maxChemicals : ℕ
-maxChemicals = 16
-
-abbrev pub maxReceptors : Sort → ℕ
-maxReceptors Ordinary = 4
-maxReceptors Composite = 8
-
--- the room for them in a case, which has one shape for both sorts
-abbrev pub mostReceptors : ℕ
-mostReceptors = maxReceptors Composite
-
--- lines of the site's record, and of a chemical's or a receptor's
-abbrev pub siteLines : ℕ
-siteLines = 2
-
-abbrev pub recordLines : ℕ
-recordLines = 4
 
 infix 95 _after_
 pub data Follows : Type 0 where

@@ -1,9 +1,6 @@
 pub mod Parts
-pub mod Numbers
 pub mod Kinds
-pub mod Ranges
-pub mod Conditions
-pub mod Cases
-pub mod Ranged
 pub mod Guidance
 pub mod Inner
+pub mod DeckCase
+pub mod DeckConditions

@@ -1,28 +1,15 @@
 -- The parts of a deck (document 01, "Deck"): its lines and their fields, as lists of bytes.
 -- Assumes nothing.
-use Prim.Native.Nat.{ℕ, suc, _+_, _*_, _-_, _/_}
-use mathlib.Core.Bool.{Bool, cond, _&&_}
-use mathlib.Core.List.{List, [], _∷_}
-use lib.Dec.{leb}
+use Prim.Native.Nat.{ℕ, _+_, _*_, _-_, _/_}
+use mathlib.Core.Bool.{cond}
+use mathlib.Core.List.{List, []}
 use lib.ListN.{length, take, drop}
-use Rattle.slots.specs.Slots.{fieldsPerLine}
-
--- the byte b lies from lo to hi
-unfoldable pub within : ℕ → ℕ → ℕ → Bool
-within lo hi b = leb lo b && leb b hi
-
--- how many bytes at the front lie from lo to hi
-unfoldable pub leading : ℕ → ℕ → List ℕ → ℕ
-leading lo hi [] = 0
-leading lo hi (b ∷ bs) = cond (within lo hi b) (suc (leading lo hi bs)) 0
+use Rattle.sizes.specs.Sizes.{fieldsPerLine}
+use Rattle.spelling.specs.Columns.{within, fieldWidth}
 
 -- 80 bytes and a line feed
 abbrev pub deckLineWidth : ℕ
 deckLineWidth = 81
-
--- columns of a field
-abbrev pub fieldWidth : ℕ
-fieldWidth = 12
 
 -- the columns before the first field: kind and id
 abbrev pub fieldsStart : ℕ

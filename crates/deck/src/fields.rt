@@ -1,19 +1,17 @@
 // A line's fields: the rules of their slots, and the conditions 31, 32 and 33.
 ghost use mathlib.Core.Path.{_≡_};
 ghost use mathlib.Core.Bool.{cond};
-ghost use Prim.Native.Nat.{_+_, _*_, _-_, _^_, _<_, _≤_};
+ghost use Prim.Native.Nat.{_+_, _*_, _-_};
 ghost use lib.ListN.{length};
 ghost use Rattle.deck.specs.Parts.{fieldIn};
 ghost use Rattle.deck.specs.Kinds.{rulesOf};
-ghost use Rattle.deck.specs.Ranges.{valueAtMost, valueAtLeast, withinBounds, isYearOf, isYear, inRange};
-ghost use Rattle.slots.specs.Slots.{fieldsPerLine};
-ghost use Rattle.deck.specs.Conditions.{first, upTo, fieldConditions, fieldAt};
-ghost use Rattle.deck.specs.Cases.{tabulate};
+ghost use Rattle.cases.specs.Ranges.{inRange};
+ghost use Rattle.sizes.specs.Sizes.{fieldsPerLine};
+ghost use Rattle.cases.specs.Conditions.{first, upTo};
+ghost use Rattle.deck.specs.DeckConditions.{fieldConditions, fieldAt};
+ghost use Rattle.lists.specs.Lists.{tabulate};
 ghost use Rattle.deck.specs.Inner.{packedIn};
-use crate::FIELD_WIDTH;
 use crate::FIELDS_START;
-use crate::Status;
-use crate::Word;
 use crate::lines::C1;
 use crate::lines::C2;
 use crate::lines::C3;
@@ -25,15 +23,16 @@ use crate::lines::R4;
 use crate::lines::S1;
 use crate::lines::S2;
 use crate::packing::packed;
-use crate::spelling::lowered;
-use crate::spelling::raised;
-use crate::spelling::word;
-use slots::FIELDS;
-use slots::Guidance;
+use cases::Status;
+use cases::in_range;
+use sizes::FIELDS;
 use slots::Owner;
 use slots::Rule;
 use slots::Sort;
 use slots::UNUSED;
+use spelling::FIELD_WIDTH;
+use spelling::Word;
+use spelling::number;
 
 // The rules of the six fields of a line, by its kind.
 fn rules(sort: Sort, kind: u32) -> [Rule; FIELDS]
@@ -52,101 +51,6 @@ fn rules(sort: Sort, kind: u32) -> [Rule; FIELDS]
         R4 => slots::rules(sort, Owner::Receptor, 3),
         _ => [UNUSED, UNUSED, UNUSED, UNUSED, UNUSED, UNUSED],
     }
-}
-
-// 10 ^ n.
-fn ten_to(n: u32) -> u64
-    requires { ⌜ n ≤ 19 ⌝ }
-    ensures { λ r. ⌜ r ≡ 10 ^ n ⌝ }
-{
-    powers::ten_to(n)
-}
-
-// digits × 10 ^ power is at most `most`, which has at most ten figures; the digits have at most twenty. Where a product may not fit, a power
-// above 0 divides `most`, and one below 0 the digits. These lose one first, so that a remainder counts.
-fn at_most(most: u32, digits: u64, power: i32) -> bool
-    requires { ⌜ 0 < digits ⌝ }
-    ensures { λ r. ⌜ r ≡ valueAtMost most digits power ⌝ }
-{
-    let up = raised(power);
-    if 9 < up {
-        return false;
-    }
-    if 0 < up {
-        return digits <= most as u64 / ten_to(up);
-    }
-    let down = lowered(power);
-    if down <= 9 {
-        return digits <= most as u64 * ten_to(down);
-    }
-    if 19 < down {
-        return 0 < most;
-    }
-    (digits - 1) / ten_to(down) < most as u64
-}
-
-// digits × 10 ^ power is at least 1E-20. The digits have at most twenty figures.
-fn at_least(digits: u64, power: i32) -> bool
-    requires { ⌜ 0 < digits ⌝ }
-    ensures { λ r. ⌜ r ≡ valueAtLeast digits power ⌝ }
-{
-    let down = lowered(power);
-    if down <= 20 {
-        return true;
-    }
-    let short = down - 20;
-    if 19 < short {
-        return false;
-    }
-    ten_to(short) <= digits
-}
-
-fn within_bounds(rule: Rule, digits: u64, power: i32) -> bool
-    ensures { λ r. ⌜ r ≡ withinBounds rule digits power ⌝ }
-{
-    if digits == 0 {
-        return rule.zero;
-    }
-    if !at_least(digits, power) {
-        return false;
-    }
-    at_most(rule.most, digits, power)
-}
-
-// digits × 10 ^ power is the year of this guidance. Neither year ends in 0, and a year × 10 ^ 16 is more than the digits can be.
-pub(crate) fn is_year_of(guidance: Guidance, digits: u64, power: i32) -> bool
-    ensures { λ r. ⌜ r ≡ isYearOf guidance digits power ⌝ }
-{
-    if 0 < raised(power) {
-        return false;
-    }
-    let down = lowered(power);
-    if 15 < down {
-        return false;
-    }
-    digits == guidance.year() as u64 * ten_to(down)
-}
-
-// The year of either.
-pub(crate) fn is_year(digits: u64, power: i32) -> bool
-    ensures { λ r. ⌜ r ≡ isYear digits power ⌝ }
-{
-    if is_year_of(Guidance::Of2005, digits, power) {
-        return true;
-    }
-    is_year_of(Guidance::Of2009, digits, power)
-}
-
-fn in_range(rule: Rule, digits: u64, power: i32) -> bool
-    ensures { λ r. ⌜ r ≡ inRange rule digits power ⌝ }
-{
-    if !within_bounds(rule, digits, power) {
-        return false;
-    }
-    if rule.year {
-        return is_year(digits, power);
-    }
-    true
 }
 
 // Field f of a full line.
@@ -220,7 +124,7 @@ pub(crate) fn fields_status(
     while f < FIELDS {
         let rule = rules[f];
         let next = f + 1;
-        let w = word(field_part(line, next));
+        let w = number(field_part(line, next));
         let status = field_status(rule, w, n, next);
         let Status::Read = status else {
             return status;

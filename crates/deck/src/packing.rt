@@ -1,12 +1,13 @@
 // A value as one number: plain numbers can be lent, and values cannot.
 ghost use mathlib.Core.Path.{_≡_};
-ghost use Rattle.deck.specs.Ranged.{Spelled};
+ghost use Prim.Native.Nat.{_%_};
+ghost use lib.IntN.{subℕ};
+ghost use Rattle.cases.specs.Ranged.{Spelled};
 ghost use Rattle.deck.specs.Inner.{Small, packedNumber, packedOf, unpackedOf};
-use crate::Value;
-use crate::Word;
-use crate::spelling::difference;
-use crate::spelling::lowered;
-use crate::spelling::raised;
+use cases::Value;
+use powers::lowered;
+use powers::raised;
+use spelling::Word;
 
 // Room for the digits' power of ten, and what is added to it so that it is not below 0.
 const POWERS: u64 = 256;
@@ -34,6 +35,13 @@ fn packed_number(digits: u64, power: i32) -> u64
     POWERS * digits + shifted as u64
 }
 
+// A packed value's power of ten.
+fn power_in(v: u64) -> i32
+    ensures { λ r. ⌜ r ≡ subℕ (v % 256) 128 ⌝ }
+{
+    (v % POWERS) as i32 - NO_POWER as i32
+}
+
 pub(crate) fn unpacked(v: u64) -> Value
     ensures { λ r. ⌜ r ≡ unpackedOf v ⌝ }
 {
@@ -41,7 +49,7 @@ pub(crate) fn unpacked(v: u64) -> Value
         return Value::Absent;
     }
     Value::Printed {
-        power: difference((v % POWERS) as u32, NO_POWER),
+        power: power_in(v),
         digits: v / POWERS,
     }
 }

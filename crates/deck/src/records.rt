@@ -2,25 +2,26 @@
 ghost use mathlib.Core.Path.{_≡_};
 ghost use Prim.Native.Nat.{_≤_};
 ghost use Rattle.deck.specs.Parts.{lineOf};
-ghost use Rattle.deck.specs.Kinds.{maxChemicals, mostReceptors};
-ghost use Rattle.deck.specs.Conditions.{idOf};
+ghost use Rattle.sizes.specs.Sizes.{maxChemicals, mostStages};
+ghost use Rattle.deck.specs.DeckConditions.{idOf};
 ghost use Rattle.deck.specs.Inner.{packedFields};
-ghost use Rattle.deck.specs.Cases.{recordOf, recordsOf, caseWith, noRecord, chemicalsStart};
-use crate::Case;
-use crate::Chemicals;
-use crate::Filled;
-use crate::MAX_CHEMICALS;
-use crate::MAX_STAGES;
-use crate::RECORD_LINES;
-use crate::Receptors;
-use crate::Record;
-use crate::SITE_LINES;
-use crate::Value;
+ghost use Rattle.deck.specs.DeckCase.{recordOf, recordsOf, caseWith, chemicalsStart};
+ghost use Rattle.cases.specs.Cases.{noRecord};
 use crate::line;
 use crate::lines::id_of;
 use crate::packing::unpacked;
-use slots::FIELDS;
-use slots::SLOTS;
+use cases::Case;
+use cases::Chemicals;
+use cases::Filled;
+use cases::Receptors;
+use cases::Record;
+use cases::Value;
+use sizes::FIELDS;
+use sizes::MAX_CHEMICALS;
+use sizes::MAX_STAGES;
+use sizes::RECORD_LINES;
+use sizes::SITE_LINES;
+use sizes::SLOTS;
 
 // The line after the site's.
 const CHEMICALS_START: usize = SITE_LINES + 1;
@@ -88,7 +89,7 @@ fn chemicals(deck: &[u8], values: &[u64], count: usize) -> [Record; MAX_CHEMICAL
 fn receptors(deck: &[u8], values: &[u64], n: usize, count: usize) -> [Record; MAX_STAGES]
     requires { ⌜ now values ≡ packedFields (now deck) ⌝ }
     requires { ⌜ ((1 ≤ n) × (n ≤ 67)) × (count ≤ 8) ⌝ }
-    ensures { λ r. ⌜ r ≡ recordsOf (now (deck .entry)) n count mostReceptors ⌝ }
+    ensures { λ r. ⌜ r ≡ recordsOf (now (deck .entry)) n count mostStages ⌝ }
 {
     let none = no_record();
     let mut records = [none; MAX_STAGES];

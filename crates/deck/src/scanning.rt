@@ -6,13 +6,13 @@ ghost use mathlib.Core.List.{[], _∷_, _++_};
 ghost use Prim.Native.Nat.{_+_, _≤_, _<_};
 ghost use Rattle.deck.specs.Parts.{linesOf};
 ghost use Rattle.deck.specs.Kinds.{C1, R1, EN};
-ghost use Rattle.deck.specs.Conditions.{at, first, upTo, lineConditions, noEnd, countOf, maxLength, badLength};
+ghost use Rattle.cases.specs.Conditions.{at, first, upTo};
+ghost use Rattle.deck.specs.DeckConditions.{lineConditions, noEnd, countOf, maxLength, badLength};
 ghost use lib.ListN.{length, replicate};
 ghost use Rattle.deck.specs.Inner.{maxFields, packedFields};
 use crate::LINE_WIDTH;
 use crate::MAX_COMPOSITE_LENGTH;
 use crate::MAX_LENGTH;
-use crate::Status;
 use crate::line;
 use crate::lines::EN;
 use crate::lines::START;
@@ -20,7 +20,8 @@ use crate::lines::Seen;
 use crate::lines::id_of;
 use crate::lines::kind_of;
 use crate::lines::line_status;
-use slots::FIELDS;
+use cases::Status;
+use sizes::FIELDS;
 use slots::Sort;
 
 // The first condition of the lines and the deck's end that holds; where none does, how many chemicals and receptors there are.

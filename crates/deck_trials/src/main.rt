@@ -3,13 +3,13 @@
 //
 // A stored deck is a line of five numbers in 6 columns each, then its bytes: its length; the number, line and field of the
 // refusal, or 0 and how many chemicals and receptors there are; and a checksum of the case.
-use deck::Case;
-use deck::MAX_RECEPTORS;
-use deck::MAX_STAGES;
+use cases::Case;
+use sizes::MAX_RECEPTORS;
+use sizes::MAX_STAGES;
 use deck::Reading;
-use deck::Record;
-use deck::Value;
-use deck::Word;
+use cases::Record;
+use cases::Value;
+use spelling::Word;
 use libc::STDOUT_FILENO;
 use slots::Sort;
 ghost use Prim.Native.Nat.{_+_, _<_, _≤_};
@@ -54,7 +54,7 @@ fn column(head: &[u8], k: usize) -> u64
     if head.len() < to {
         return 0;
     }
-    let word = deck::number(&head[from..to]);
+    let word = spelling::number(&head[from..to]);
     match word {
         Word::Number { digits, power: _ } => digits,
         _ => 0,
@@ -87,8 +87,8 @@ fn mixed_value(sum: u64, value: Value) -> u64
         Value::Printed { digits, power } => {
             // The remainder first: a sum with all of the digits may not fit.
             let with_digits = mixed(sum, digits % MODULUS);
-            let with_raised = mixed(with_digits, deck::raised(power) as u64);
-            mixed(with_raised, deck::lowered(power) as u64)
+            let with_raised = mixed(with_digits, powers::raised(power) as u64);
+            mixed(with_raised, powers::lowered(power) as u64)
         }
     }
 }
@@ -142,7 +142,7 @@ fn mixed_receptors(sum: u64, case: Case, room: usize) -> u64
 // The line and the field of a refusal, or how many chemicals and receptors the case has.
 fn agrees(expected: Stored, reading: Reading, sort: Sort) -> bool {
     let status = reading.status;
-    let told = deck::tell(status);
+    let told = cases::tell(status);
     if told.number as u64 != expected.number {
         return false;
     }

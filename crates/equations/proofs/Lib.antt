@@ -9,7 +9,6 @@ pub mod Tail
 mod Sharper
 mod SeriesTerms
 mod SeriesLaws
-pub mod Refusals
 pub mod EarlyStop
 pub mod Limits
 mod Large
@@ -17,5 +16,6 @@ mod FastLaws
 mod GrowthLaws
 pub mod LineLaws
 pub mod Rising
-pub mod Figures
 pub mod ValueLaws
+pub mod PageRefusals
+pub mod SeriesFigures

@@ -2,7 +2,7 @@
 //! definitions and laws are in specs/ and proofs/; the crates above work them.
 use pair::Answer;
 use pair::Pair;
-use slots::SLOTS;
+use sizes::SLOTS;
 ghost use mathlib.Core.Path.{_≡_};
 ghost use Rattle.pair.specs.Calls.{answer, is};
 ghost use Rattle.equations.specs.Readings.{valueIn};

@@ -1,2 +1,2 @@
 -- The checked figures hold, jointly (`Figures`). Assumes nothing.
-pub mod Figures
+pub mod CheckedFigures

@@ -14,8 +14,8 @@ use Rattle.pair.specs.Calls.{Outcome, is, mapped, afterOne, entry, oneMinus, on
 use Rattle.pair.specs.Figures.{_⊘_, whole, bothEnds}
 use Rattle.equations.specs.declared.Pathway.the-variants.{Air, SoilWinter}
 use Rattle.equations.specs.declared.Effect.the-variants.{Hazard, Cancer}
-use Rattle.years.specs.declared.Years.{Years}
-use Rattle.years.specs.Years as years
+use Rattle.times.specs.declared.Years.{Years}
+use Rattle.times.specs.Times as years
 use Rattle.slots.specs.Slots.{Slot, placeOf}
 use Rattle.equations.specs.declared.Values.{Values}
 use Rattle.equations.specs.Formula.{pairs}
@@ -25,13 +25,13 @@ use Rattle.equations.specs.Page.{x, C, soil, AT}
 use Rattle.equations.specs.Readings.{worked, inputs}
 use Rattle.media.specs.Media.{ofSlots, ofMedia, growthAt}
 use Rattle.pathway.specs.Lines.{workedFor, factorOf}
-use Rattle.deck.specs.declared.Status.the-variants.{Read}
-use Rattle.deck.specs.Conditions.{first}
+use Rattle.cases.specs.declared.Status.the-variants.{Read}
+use Rattle.cases.specs.Conditions.{first}
 use Rattle.totals.specs.declared.Columns.{Columns}
 use Rattle.totals.specs.declared.Columns.the-variants.{Absent, Counted}
 use Rattle.text.specs.declared.Row.{Row}
 use Rattle.text.specs.Text.{linesText}
-use Rattle.sheet.specs.Values.{orNone, stayIn, pairsAt}
+use Rattle.scenario.specs.Scenario.{orNone, stayIn, pairsAt}
 use Rattle.sheet.specs.Sheet.{columnsAt}
 use Rattle.composite.specs.Composite.{composed, yearsTogether, composite}
 use Rattle.report.specs.Report.{rowsOf, ordinary, scenarioOf, allConditions, outcomeOf}

@@ -10,7 +10,7 @@ use Rattle.equations.specs.Series.{Series, phi, psi, step, terms}
 use Rattle.equations.specs.Page.{gWith, growth}
 use Rattle.equations.specs.Readings.{paceOf, pairGrowing}
 use Rattle.equations.proofs.EarlyStop.{series-refused}
-use Rattle.equations.proofs.Figures.{first-is}
+use Rattle.equations.proofs.SeriesFigures.{first-is}
 use Rattle.media.specs.Media.{growthAt}
 use Rattle.media.specs.Inner.{paced}
 

@@ -5,4 +5,4 @@ mod Sofar
 mod Growing
 mod Soils
 pub mod Means
-pub mod Figures
+pub mod MediaFigures

@@ -17,7 +17,7 @@ use Rattle.pair.proofs.Partials.{partial-worked, partial-refused}
 use Rattle.equations.specs.Formula.{pairs}
 use Rattle.equations.specs.Series.{Series, phi, psi, step, terms, fromZero, pairSeries}
 use Rattle.equations.proofs.EarlyStop.{reach, step-plain, series-stopped, series-refused}
-use Rattle.equations.proofs.Figures.{firstPair, first-is, series-at-zero}
+use Rattle.equations.proofs.SeriesFigures.{firstPair, first-is, series-at-zero}
 use Rattle.media.specs.Inner.{Moderate}
 use Rattle.media.proofs.Moderate.{high-above, moderate-within, at-most-by}
 use Rattle.media.proofs.Passing.{is-not-refused}

@@ -1,5 +1,4 @@
 -- The crate's laws. `Promises` is what the crates above may count on, with `Refusals`. Assumes nothing.
-pub mod Figures
 mod Exponents
 mod Powers
 mod Excess
@@ -25,3 +24,4 @@ mod Worked
 mod Steps
 pub mod Partials
 pub mod Settling
+pub mod PairFigures

@@ -1,2 +1,3 @@
 -- What follows from the definition. Assumes nothing.
-pub mod Laws
+pub mod PowerLaws
+pub mod Signed

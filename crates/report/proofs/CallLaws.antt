@@ -7,26 +7,25 @@ use Prim.Native.Nat.{ℕ, _≤_, _<_}
 use borrow.Author.Tests.{lt-ltb, le-ltb}
 use lib.Dec.{ltb}
 use lib.ListN.{length, drop}
-use Rattle.deck.specs.declared.Case.{Case}
+use Rattle.cases.specs.declared.Case.{Case}
 use Rattle.deck.specs.declared.Reading.{Reading}
-use Rattle.deck.specs.declared.Status.{Status}
-use Rattle.deck.specs.declared.Status.the-variants.{Read, Stopped}
-use Rattle.deck.specs.declared.Told.{Told}
-use Rattle.deck.specs.Conditions.{Condition, at, first, conditions}
-use Rattle.deck.specs.Cases.{caseOf, caseFor, readOf, toldOf}
-use Rattle.deck.proofs.First.{orElse, first-append}
-use Rattle.deck.proofs.Scan.{first-read}
+use Rattle.cases.specs.declared.Status.{Status}
+use Rattle.cases.specs.declared.Status.the-variants.{Read, Stopped}
+use Rattle.cases.specs.declared.Told.{Told}
+use Rattle.cases.specs.Conditions.{Condition, at, first, toldOf}
+use Rattle.deck.specs.DeckConditions.{conditions}
+use Rattle.deck.specs.DeckCase.{caseOf, caseFor, readOf}
+use Rattle.cases.proofs.FirstMet.{orElse, first-append, first-read}
 use Rattle.text.specs.declared.Row.{Row}
 use Rattle.text.specs.Text.{linesText}
-use Rattle.sheet.specs.Values.{Scenario, scenarioWith}
-use Rattle.sheet.specs.declared.Receptors.{Receptors}
+use Rattle.scenario.specs.Scenario.{Scenario, scenarioWith, Exact}
+use Rattle.scenario.specs.declared.Receptors.{Receptors}
 use Rattle.sheet.specs.Sheet.{largeLines}
-use Rattle.sheet.specs.DemandThree.{Exact}
 use Rattle.sheet.specs.Counts.{tooMany, cellsOf, cellsFor, sheetStatus, sheetCells}
 use Rattle.report.specs.Report.{rowsOf, lengthOf, reportConditions, Call, scenarioOf, exactOf, allConditions, statusOf, outcomeFor, outcomeOf, bufferWith, bufferFor, bufferOf}
-use Rattle.report.specs.Scenario.{reportIn, writtenRows, writtenConditions, writtenStatus, writtenOutcome, writtenBuffer}
-use Rattle.sheet.proofs.Sound.{Sound}
-use Rattle.sheet.proofs.CaseLaws.{few-records, conditions-agree}
+use Rattle.report.specs.InMemory.{reportIn, writtenRows, writtenConditions, writtenStatus, writtenOutcome, writtenBuffer}
+use Rattle.scenario.proofs.Sound.{Sound}
+use Rattle.sheet.proofs.SheetCaseLaws.{few-records, conditions-agree}
 use Rattle.report.proofs.ReportLaws.{rows-held}
 
 -- ---- two lists of conditions, one after the other

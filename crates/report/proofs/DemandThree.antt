@@ -1,6 +1,6 @@
 -- Demand 3 of document 01, for every accepted deck of any call whose scenarios are sound. Assumes nothing.
-use Rattle.deck.specs.declared.Case.{Case}
-use Rattle.sheet.proofs.DemandThree.{scenario-demand-3}
+use Rattle.cases.specs.declared.Case.{Case}
+use Rattle.sheet.proofs.SheetDemandThree.{scenario-demand-3}
 use Rattle.report.specs.Report.{Call, ordinary, scenarioOf}
 use Rattle.report.specs.DemandTwo.{Entered}
 use Rattle.report.specs.DemandThree.{Demand3}

@@ -14,35 +14,36 @@ use Rattle.slots.specs.declared.Sort.{Sort}
 use Rattle.slots.specs.declared.Sort.the-variants.{Ordinary}
 use Rattle.slots.specs.Slots.{Slot, placeOf, atMostOne}
 use Rattle.equations.specs.declared.Effect.{Effect}
-use Rattle.deck.specs.declared.Case.{Case}
-use Rattle.deck.specs.declared.Status.{Status}
-use Rattle.deck.specs.declared.Status.the-variants.{Read, Stopped}
-use Rattle.deck.specs.Conditions.{Condition, at, first, NoneHolds, conditions}
-use Rattle.deck.specs.declared.Value.the-variants as Values
-use Rattle.deck.specs.Cases.{caseOf, valueAt, chemicalAt, receptorAt}
-use Rattle.deck.specs.Ranged.{Ranged}
+use Rattle.cases.specs.declared.Case.{Case}
+use Rattle.cases.specs.declared.Status.{Status}
+use Rattle.cases.specs.declared.Status.the-variants.{Read, Stopped}
+use Rattle.cases.specs.Conditions.{Condition, at, first, NoneHolds}
+use Rattle.deck.specs.DeckConditions.{conditions}
+use Rattle.cases.specs.declared.Value.the-variants as Values
+use Rattle.deck.specs.DeckCase.{caseOf}
+use Rattle.cases.specs.Cases.{valueAt, chemicalAt, receptorAt}
+use Rattle.cases.specs.Ranged.{Ranged}
 use Rattle.deck.proofs.Accepted.{accepted}
-use Rattle.deck.proofs.Exactly.{read-none}
-use Rattle.deck.proofs.Scan.{never, first-read}
-use Rattle.deck.proofs.Places.{append-read}
+use Rattle.cases.proofs.FirstMet.{read-none, never, first-read, append-read}
 use Rattle.text.specs.declared.Row.{Row}
 use Rattle.text.specs.Text.{rowText, linesText}
 use Rattle.text.proofs.Rows.{length-row, length-lines, lines-append}
-use Rattle.sheet.specs.declared.Receptor as receptors
-use Rattle.sheet.specs.declared.Receptors.{Receptors}
-use Rattle.sheet.specs.Values.{Scenario, chemicalIn, receptorIn, stayIn, printedIn, pairsAt, printedYears, depositionOf, receptorWith, scenarioWith, entered, enteredFrom, ordinaryOf, exactAt}
-use Rattle.sheet.specs.DemandThree.{Exact}
-use Rattle.sheet.specs.Sheet.{pathwayAt, hasReference, chained, linesPerReceptor, largeLines}
+use Rattle.scenario.specs.declared.Receptor as receptors
+use Rattle.scenario.specs.declared.Receptors.{Receptors}
+use Rattle.scenario.specs.Scenario.{Scenario, chemicalIn, receptorIn, stayIn, printedIn, pairsAt, printedYears, depositionOf, receptorWith, scenarioWith, entered, enteredFrom, ordinaryOf, exactAt, Exact}
+use Rattle.sheet.specs.Sheet.{pathwayAt, hasReference, linesPerReceptor, largeLines}
+use Rattle.lists.specs.Lists.{chained}
 use Rattle.report.specs.Report.{rowAt, totalRow, rowsAt, rowsOf, linesOfReport, lengthOf, reportConditions, Call, ordinary, scenarioOf, exactOf, allConditions, statusOf, outcomeFor, outcomeOf, bufferWith, bufferFor, bufferOf}
 use Rattle.report.specs.DemandTwo.{lineIn, ByRule, Printed, Reported, Refused, Demand2, Exposed, Entered}
-use Rattle.sheet.proofs.CaseLaws.{line-by-rule}
-use Rattle.sheet.proofs.Sound.{Sound}
-use Rattle.sheet.proofs.Inputs.{source-entered, source-rested}
-use Rattle.sheet.proofs.ExposureLaws.{deposition-told}
-use Rattle.sheet.proofs.Entered.{entered-at, exposure-told, ordinary-sound, receptor-entered}
+use Rattle.sheet.proofs.SheetCaseLaws.{line-by-rule}
+use Rattle.scenario.proofs.Sound.{Sound}
+use Rattle.scenario.proofs.InputLaws.{source-entered, source-rested}
+use Rattle.scenario.proofs.DepositionLaws.{deposition-told}
+use Rattle.scenario.proofs.Entered.{entered-at, exposure-told, ordinary-sound, receptor-entered}
 use Rattle.report.proofs.Exposures.{exposed}
-use Rattle.sheet.proofs.Chains.{chained-split, chained-length}
-use Rattle.report.proofs.Fitting.{SmallIds, small-ids, row-fits, total-row-fits}
+use Rattle.lists.proofs.Chained.{chained-split, chained-length}
+use Rattle.deck.proofs.DeckIds.{small-ids}
+use Rattle.report.proofs.Fitting.{SmallIds, row-fits, total-row-fits}
 
 -- ---- the first condition that holds
 record Met (cs : List Condition) (number line field : ℕ) : Type 0 where

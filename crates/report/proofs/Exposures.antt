@@ -7,11 +7,11 @@ use lib.Dec.{leb}
 use borrow.Author.Tests.{leb-false}
 use Rattle.pair.specs.declared.Pair.{Pair}
 use Rattle.pair.specs.Calls.{Outcome, is}
-use Rattle.years.specs.declared.Years.{Years}
-use Rattle.years.specs.Years as years
-use Rattle.years.specs.Years.{amount, isYears}
-use Rattle.years.proofs.Promises.{at-most-told, beyond-answered}
-use Rattle.sheet.specs.Values.{orOne, stayIf, laterIf}
+use Rattle.times.specs.declared.Years.{Years}
+use Rattle.times.specs.Times as years
+use Rattle.times.specs.Times.{amount, isYears}
+use Rattle.times.proofs.TimePromises.{at-most-told, beyond-answered}
+use Rattle.scenario.specs.Scenario.{orOne, stayIf, laterIf}
 use Rattle.report.specs.DemandTwo.{isBeyond, Exposed}
 
 taken : (o : Outcome Pair) (p : Pair) → o ≡ is p → o ≡ is (orOne o)

@@ -7,6 +7,6 @@ pub mod Fitting
 pub mod Exposures
 pub mod DemandTwo
 pub mod DemandThree
-pub mod Never
 mod YearRows
-pub mod Guidance
+pub mod ReportGuidance
+pub mod ReportNever

@@ -4,19 +4,19 @@ use mathlib.Core.List.{List, [], _∷_, _++_}
 use Prim.Native.Nat.{ℕ, _+_, _*_, _/_, _%_, _<_}
 use native.Mathlib.Numerals.{add-one}
 use Rattle.equations.specs.declared.Effect.the-variants.{Hazard, Cancer}
-use Rattle.deck.specs.declared.Status.the-variants.{Read}
-use Rattle.deck.specs.Conditions.{first}
+use Rattle.cases.specs.declared.Status.the-variants.{Read}
+use Rattle.cases.specs.Conditions.{first}
 use Rattle.text.specs.declared.Row.{Row}
-use Rattle.sheet.specs.Values.{Scenario, chemicalIn, receptorIn}
-use Rattle.sheet.specs.DemandThree.{Exact}
-use Rattle.sheet.specs.Sheet.{chained, largeLines}
+use Rattle.scenario.specs.Scenario.{Scenario, chemicalIn, receptorIn, Exact}
+use Rattle.lists.specs.Lists.{chained}
+use Rattle.sheet.specs.Sheet.{largeLines}
 use Rattle.sheet.specs.Counts.{cellsOf}
 use Rattle.report.specs.Report.{rowAt, totalRow, rowsAt, rowsOf}
-use Rattle.report.specs.Scenario.{rowIn, totalRowIn, linesIn, rowsIn, reportIn}
-use Rattle.sheet.proofs.Sound.{Sound}
+use Rattle.report.specs.InMemory.{rowIn, totalRowIn, linesIn, rowsIn, reportIn}
+use Rattle.scenario.proofs.Sound.{Sound}
 use Rattle.sheet.proofs.Held.{columns-held}
-use Rattle.sheet.proofs.CaseLaws.{total-held}
-use Rattle.sheet.proofs.Chains.{chained-same, flat}
+use Rattle.sheet.proofs.SheetCaseLaws.{total-held}
+use Rattle.lists.proofs.Chained.{chained-same, flat}
 
 module _ (scenario : Scenario) {exact : Exact} (sound : Sound scenario exact) (small : first (largeLines scenario) ≡ Read) where
   module _ (j : ℕ) (here : j < scenario .receptors .count) where

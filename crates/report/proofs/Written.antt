@@ -7,18 +7,18 @@ use native.Mathlib.Numerals.{add-one}
 use native.Mathlib.Omega.{arith}
 use lib.ListN.{length, getD, take, drop, length-append}
 use Rattle.equations.proofs.ValueLaws.{read-any}
-use Rattle.deck.specs.declared.Chemicals.{Chemicals}
-use Rattle.deck.specs.declared.Record.{Record}
-use Rattle.deck.specs.Cases.{noRecord}
+use Rattle.cases.specs.declared.Chemicals.{Chemicals}
+use Rattle.cases.specs.declared.Record.{Record}
+use Rattle.cases.specs.Cases.{noRecord}
 use Rattle.text.specs.declared.Row.{Row}
 use Rattle.text.specs.Text.{rowText, linesText, lineAfter}
-use Rattle.text.proofs.Places.{grown, lent}
+use Rattle.lists.proofs.Placed.{grown, lent}
 use Rattle.text.proofs.Rows.{length-lines, length-one, lines-append, one-line, last-line, line-own}
-use Rattle.sheet.specs.declared.Receptor.{Receptor}
-use Rattle.sheet.specs.Values.{noReceptor}
-use Rattle.sheet.specs.Sheet.{chained}
-use Rattle.report.specs.Scenario.{rowIn, totalRowIn, linesIn, rowsIn, reportIn}
-use Rattle.sheet.proofs.Chains.{chained-more, chained-length}
+use Rattle.scenario.specs.declared.Receptor.{Receptor}
+use Rattle.scenario.specs.Scenario.{noReceptor}
+use Rattle.lists.specs.Lists.{chained}
+use Rattle.report.specs.InMemory.{rowIn, totalRowIn, linesIn, rowsIn, reportIn}
+use Rattle.lists.proofs.Chained.{chained-more, chained-length}
 
 -- parts of a report, each of so many bytes, one after the other
 module _ (f : ℕ → List Row) (width : ℕ) (each : (k : ℕ) → length (linesText (f k)) ≡ width) where

@@ -3,9 +3,9 @@
 use mathlib.Core.Path.{_≡_, refl}
 use Prim.Native.Nat.{ℕ}
 use Rattle.slots.specs.declared.Guidance.the-variants.{Of2005}
-use Rattle.sheet.specs.Values.{Scenario, chemicalIn, receptorIn, guidanceIn}
+use Rattle.scenario.specs.Scenario.{Scenario, chemicalIn, receptorIn, guidanceIn}
 use Rattle.sheet.specs.Sheet.{linesPerReceptor}
-use Rattle.sheet.proofs.Chains.{chained-same}
+use Rattle.lists.proofs.Chained.{chained-same}
 use Rattle.sheet.proofs.YearLaws.{yearBlank, columns-same, total-same, large-same}
 use Rattle.report.specs.Report.{rowAt, totalRow, rowsAt, rowsOf, linesOfReport, lengthOf, reportConditions}
 

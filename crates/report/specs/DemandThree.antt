@@ -3,8 +3,8 @@ use mathlib.Core.Path.{_≡_}
 use mathlib.Core.List.{List}
 use Prim.Native.Nat.{ℕ, _≤_, _<_}
 use Rattle.equations.specs.declared.Effect.{Effect}
-use Rattle.deck.specs.declared.Status.the-variants.{Read}
-use Rattle.deck.specs.Conditions.{first}
+use Rattle.cases.specs.declared.Status.the-variants.{Read}
+use Rattle.cases.specs.Conditions.{first}
 use Rattle.sheet.specs.Sheet.{totalAt}
 use Rattle.sheet.specs.DemandThree.{TotalHolds, linesAdded, exactTotal}
 use Rattle.report.specs.Report.{Call, scenarioOf, exactOf, allConditions}

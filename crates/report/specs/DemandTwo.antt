@@ -14,21 +14,23 @@ use Rattle.pair.specs.Number.{isPair}
 use Rattle.pair.specs.Calls.{is, inUnits, entry, oneMinusEntry}
 use Rattle.slots.specs.Slots.{Slot, ownerOf, placeOf, atMostOne}
 use Rattle.slots.specs.declared.Owner.the-variants.{Receptor}
-use Rattle.years.specs.declared.Years.{Years}
-use Rattle.years.specs.Years as years
+use Rattle.times.specs.declared.Years.{Years}
+use Rattle.times.specs.Times as years
 use Rattle.equations.specs.declared.Stay.{Stay}
 use Rattle.equations.specs.declared.Stay.the-variants.{Within, Beyond}
 use Rattle.equations.specs.declared.Effect.{Effect}
 use Rattle.equations.specs.declared.Pathway.{Pathway}
-use Rattle.deck.specs.declared.Case.{Case}
-use Rattle.deck.specs.declared.Value.{Value}
-use Rattle.deck.specs.declared.Value.the-variants as Values
-use Rattle.deck.specs.Conditions.{Condition, NoneHolds}
-use Rattle.deck.specs.Cases.{caseOf, valueAt, receptorAt}
+use Rattle.cases.specs.declared.Case.{Case}
+use Rattle.cases.specs.declared.Value.{Value}
+use Rattle.cases.specs.declared.Value.the-variants as Values
+use Rattle.cases.specs.Conditions.{Condition, NoneHolds}
+use Rattle.deck.specs.DeckCase.{caseOf}
+use Rattle.cases.specs.Cases.{valueAt, receptorAt}
 use Rattle.totals.specs.declared.Columns.the-variants as Cols
 use Rattle.text.specs.Text.{reportLineWidth, rowText, FitsColumns}
-use Rattle.sheet.specs.Values.{Scenario, stayIn, printedIn, pairsAt, printedYears, depositionOf, ordinaryOf}
-use Rattle.sheet.specs.Sheet.{pathwaysPerChemical, pathwayAt, hasReference, figureAt, unitOf, columnsAt, linesPerReceptor}
+use Rattle.scenario.specs.Scenario.{Scenario, stayIn, printedIn, pairsAt, printedYears, depositionOf, ordinaryOf}
+use Rattle.sizes.specs.Sizes.{pathwaysPerChemical}
+use Rattle.sheet.specs.Sheet.{pathwayAt, hasReference, figureAt, unitOf, columnsAt, linesPerReceptor}
 use Rattle.report.specs.Report.{rowAt, totalRow, Call, scenarioOf, allConditions, lengthOf, outcomeOf, bufferOf}
 
 -- line l of a report, counted from 0

@@ -10,12 +10,12 @@ use Rattle.equations.specs.declared.Effect.{Effect}
 use Rattle.equations.specs.declared.Pathway.{Pathway}
 use Rattle.equations.specs.Page.{intakeLine}
 use Rattle.equations.specs.Readings.{worked, pacesOf, exactly}
-use Rattle.deck.specs.declared.Word.the-variants.{Blank}
+use Rattle.spelling.specs.declared.Word.the-variants.{Blank}
 use Rattle.deck.specs.Parts.{deckLineWidth}
-use Rattle.deck.specs.Kinds.{siteLines}
-use Rattle.deck.specs.Conditions.{fieldConditions}
+use Rattle.sizes.specs.Sizes.{siteLines}
+use Rattle.deck.specs.DeckConditions.{fieldConditions}
 use Rattle.deck.specs.Guidance.{yearWord, is2005, withoutYear}
-use Rattle.sheet.specs.Values.{stayIn, pairsAt}
+use Rattle.scenario.specs.Scenario.{stayIn, pairsAt}
 use Rattle.sheet.specs.Sheet.{hasReference, figureAt}
 use Rattle.sheet.specs.DemandThree.{inUnitsOf, nothing, exactLine}
 use Rattle.report.specs.Report.{Call, scenarioOf, exactOf, outcomeOf, bufferOf}

@@ -5,21 +5,24 @@ use mathlib.Core.List.{List, [], _∷_, _++_}
 use lib.Dec.{ltb}
 use lib.ListN.{length, drop}
 use Rattle.equations.specs.declared.Effect.the-variants.{Hazard, Cancer}
-use Rattle.deck.specs.declared.Case.{Case}
-use Rattle.deck.specs.declared.Status.{Status}
-use Rattle.deck.specs.declared.Status.the-variants.{Read, Stopped}
-use Rattle.deck.specs.declared.Told.{Told}
-use Rattle.deck.specs.Conditions.{Condition, at, first, conditions}
-use Rattle.deck.specs.Cases.{caseOf}
+use Rattle.cases.specs.declared.Case.{Case}
+use Rattle.cases.specs.declared.Status.{Status}
+use Rattle.cases.specs.declared.Status.the-variants.{Read, Stopped}
+use Rattle.cases.specs.declared.Told.{Told}
+use Rattle.cases.specs.Conditions.{Condition, at, first}
+use Rattle.deck.specs.DeckConditions.{conditions}
+use Rattle.deck.specs.DeckCase.{caseOf}
 use Rattle.pair.specs.Fraction.{Fraction}
 use Rattle.slots.specs.declared.Sort.{Sort}
 use Rattle.slots.specs.declared.Sort.the-variants.{Ordinary}
 use Rattle.slots.specs.Slots.{Slot}
 use Rattle.text.specs.declared.Row.{Row}
 use Rattle.text.specs.Text.{reportLineWidth, linesText}
-use Rattle.sheet.specs.declared.Receptors.{Receptors}
-use Rattle.sheet.specs.Values.{Scenario, chemicalIn, receptorIn, scenarioWith, enteredFrom, exactFrom, exactWith}
-use Rattle.sheet.specs.Sheet.{pathwaysPerChemical, pathwayAt, columnsAt, totalAt, chained, linesPerReceptor, largeLines}
+use Rattle.scenario.specs.declared.Receptors.{Receptors}
+use Rattle.scenario.specs.Scenario.{Scenario, chemicalIn, receptorIn, scenarioWith, enteredFrom, exactFrom, exactWith}
+use Rattle.sizes.specs.Sizes.{pathwaysPerChemical}
+use Rattle.sheet.specs.Sheet.{pathwayAt, columnsAt, totalAt, linesPerReceptor, largeLines}
+use Rattle.lists.specs.Lists.{chained}
 
 -- ---- the lines: of receptor j, chemical i and pathway p, all counted from 0; pathways are printed from 1
 unfoldable pub rowAt : Scenario → ℕ → ℕ → ℕ → Row

@@ -2,24 +2,24 @@
 mod rows;
 
 use crate::rows::write_rows;
-use deck::Chemicals;
-use deck::MAX_CHEMICALS;
-use deck::MAX_RECEPTORS;
-use deck::Record;
-use deck::Status;
-use deck::Told;
+use cases::Chemicals;
+use cases::Record;
+use cases::Status;
+use cases::Told;
+use scenario::Receptors;
 use sheet::CELLS;
-use sheet::PATHWAYS;
-use sheet::Receptors;
+use sizes::MAX_CHEMICALS;
+use sizes::MAX_RECEPTORS;
+use sizes::PATHWAYS;
 use slots::Sort;
 use text::LINE_WIDTH;
 ghost use mathlib.Core.Path.{_≡_};
 ghost use Prim.Native.Nat.{_*_, _≤_};
 ghost use lib.ListN.{length};
 ghost use Rattle.text.specs.Text.{reportLineWidth};
-ghost use Rattle.sheet.specs.Values.{scenarioFrom};
+ghost use Rattle.scenario.specs.Scenario.{scenarioFrom};
 ghost use Rattle.report.specs.Report.{ordinary, outcomeOf, bufferOf};
-ghost use Rattle.report.specs.Scenario.{perReceptor, writtenOutcome, writtenBuffer};
+ghost use Rattle.report.specs.InMemory.{perReceptor, writtenOutcome, writtenBuffer};
 
 // The longest report: 388 lines.
 pub const MAX_REPORT: usize = LINE_WIDTH * MAX_RECEPTORS * (MAX_CHEMICALS * PATHWAYS + 1);
@@ -71,7 +71,7 @@ pub fn write_report(
     let mut cells = [0u64; CELLS];
     let worked = sheet::counts_of(site, chemicals, receptors, &mut cells);
     let Status::Read = worked else {
-        return deck::tell(worked);
+        return cases::tell(worked);
     };
     write_rows(out, &cells, chemicals, receptors);
     Told {
@@ -89,8 +89,8 @@ pub fn report(deck: &[u8], out: &mut [u8]) -> Told
     let reading = deck::read(deck, Sort::Ordinary);
     let status = reading.status;
     let Status::Read = status else {
-        return deck::tell(status);
+        return cases::tell(status);
     };
-    let receptors = sheet::entered_from(reading.case);
+    let receptors = scenario::entered_from(reading.case);
     write_report(reading.case.site, reading.case.chemicals, receptors, out)
 }

@@ -1,8 +1,8 @@
 // The report's lines, from the cells that hold their counts into a lent buffer.
-use deck::Chemicals;
+use cases::Chemicals;
 use equations::Effect;
-use sheet::PATHWAYS;
-use sheet::Receptors;
+use scenario::Receptors;
+use sizes::PATHWAYS;
 use text::LINE_WIDTH;
 use text::Row;
 use text::put_row;
@@ -11,7 +11,7 @@ ghost use mathlib.Core.List.{_++_};
 ghost use Prim.Native.Nat.{_*_, _≤_};
 ghost use lib.ListN.{length, drop};
 ghost use Rattle.text.specs.Text.{reportLineWidth, linesText};
-ghost use Rattle.report.specs.Scenario.{perReceptor, rowIn, totalRowIn, rowsIn, reportIn};
+ghost use Rattle.report.specs.InMemory.{perReceptor, rowIn, totalRowIn, rowsIn, reportIn};
 
 // Line q of a receptor, which has this id, of the chemical that has this id.
 fn row_of(cells: &[u64], receptor: usize, id: u32, chemical: u32, q: usize) -> Row

@@ -4,8 +4,8 @@
 // A stored deck is a line of five numbers in 6 columns each, the deck's bytes and the report's bytes. The numbers: the deck's length, the
 // buffer's length, and the number, line and field that the call tells. There are report bytes only where the number is 0; the line is then
 // how many.
-use deck::Told;
-use deck::Word;
+use cases::Told;
+use spelling::Word;
 use libc::STDOUT_FILENO;
 use slots::Sort;
 ghost use Prim.Native.Nat.{_<_};
@@ -50,7 +50,7 @@ fn column(head: &[u8], k: usize) -> u32
     if head.len() < to {
         return 0;
     }
-    let word = deck::number(&head[from..to]);
+    let word = spelling::number(&head[from..to]);
     match word {
         // Six columns hold six digits at most.
         Word::Number { digits, power: _ } => (digits % 1_000_000) as u32,

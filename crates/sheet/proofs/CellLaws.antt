@@ -14,13 +14,12 @@ use lib.Seq.{ext-getD, getD-set-same, getD-set-other}
 use Rattle.equations.specs.declared.Effect.{Effect}
 use Rattle.equations.specs.declared.Effect.the-variants.{Hazard, Cancer}
 use Rattle.equations.specs.declared.Values.{Values}
-use Rattle.deck.proofs.Accepted.{tabulated}
-use Rattle.deck.proofs.CaseLaws.{length-tabulate}
+use Rattle.lists.proofs.Tabulated.{tabulated, length-tabulate}
 use Rattle.totals.specs.declared.Columns.{Columns}
-use Rattle.sheet.specs.declared.Receptor.{Receptor}
-use Rattle.sheet.specs.declared.Site.{Site}
+use Rattle.scenario.specs.declared.Receptor.{Receptor}
+use Rattle.scenario.specs.declared.Site.{Site}
 use Rattle.sheet.specs.declared.Sources.{Sources}
-use Rattle.sheet.specs.Values.{noReceptor}
+use Rattle.scenario.specs.Scenario.{noReceptor}
 use Rattle.sheet.specs.Counts.{Part, Mark, Low, High, cellOf, sideOf, noCells}
 use Rattle.sheet.specs.Inner.{withCounts, columnsWorked, partOf, CellsHold, CellsEmpty, CellsFilled, SameBelow, SameBut, ZeroFrom}
 

@@ -20,23 +20,23 @@ use Rattle.media.specs.Media.{found, grounded, mediaInputs, groundOf}
 use Rattle.pathway.specs.declared.Absorbed.{Absorbed}
 use Rattle.pathway.specs.declared.References.{References}
 use Rattle.pathway.specs.Lines.{absorbedOf}
-use Rattle.deck.specs.declared.Chemicals.{Chemicals}
-use Rattle.deck.specs.declared.Record.{Record}
-use Rattle.deck.specs.declared.Status.{Status}
-use Rattle.deck.specs.declared.Status.the-variants.{Read, Stopped}
-use Rattle.deck.specs.Kinds.{maxChemicals}
-use Rattle.deck.specs.Conditions.{first}
-use Rattle.deck.specs.Cases.{noRecord}
-use Rattle.deck.proofs.Accepted.{filled-at}
-use Rattle.sheet.specs.declared.Receptor.{Receptor}
-use Rattle.sheet.specs.declared.Receptors.{Receptors}
+use Rattle.cases.specs.declared.Chemicals.{Chemicals}
+use Rattle.cases.specs.declared.Record.{Record}
+use Rattle.cases.specs.declared.Status.{Status}
+use Rattle.cases.specs.declared.Status.the-variants.{Read, Stopped}
+use Rattle.sizes.specs.Sizes.{maxChemicals}
+use Rattle.cases.specs.Conditions.{first}
+use Rattle.cases.specs.Cases.{noRecord}
+use Rattle.lists.proofs.Tabulated.{filled-at}
+use Rattle.scenario.specs.declared.Receptor.{Receptor}
+use Rattle.scenario.specs.declared.Receptors.{Receptors}
 use Rattle.sheet.specs.declared.Source.{Source}
-use Rattle.sheet.specs.Values.{valuesOf, particlesOf, noReceptor}
-use Rattle.sheet.specs.Sheet.{chained}
-use Rattle.sheet.specs.Counts.{isRefused, meanWith, anyOf, stopsAt}
+use Rattle.scenario.specs.Scenario.{valuesOf, particlesOf, noReceptor}
+use Rattle.lists.specs.Lists.{chained, anyOf}
+use Rattle.sheet.specs.Counts.{isRefused, meanWith, stopsAt}
 use Rattle.sheet.specs.Inner.{mediaFrom, groundWith, meansOf, referencesOf, sourceWith, sourceFrom, sourceOf, noSource, sourcesOf, sourceAt, stopsWith, refusedSource}
-use Rattle.sheet.proofs.AnyLaws.{any-of}
-use Rattle.sheet.proofs.Chains as chains
+use Rattle.lists.proofs.AnyOf.{any-of}
+use Rattle.cases.proofs.FirstMet as chains
 
 -- ---- a receptor's mean after another
 module _ (site′ chemical′ : Values) (list : List Receptor) (ground : Ground) (blank : Receptor) (j : ℕ) (here : j < length list) (r : Found)

@@ -5,12 +5,14 @@ use mathlib.Core.List.{[]}
 use Prim.Native.Nat.{ℕ, suc, _+_, _*_, _<_}
 use Rattle.equations.specs.declared.Effect.{Effect}
 use Rattle.equations.specs.declared.Effect.the-variants.{Hazard, Cancer}
-use Rattle.deck.specs.declared.Status.the-variants.{Read}
-use Rattle.deck.specs.Conditions.{at, first}
-use Rattle.deck.proofs.Scan.{first-read, neither}
-use Rattle.sheet.specs.Values.{Scenario}
-use Rattle.sheet.specs.Sheet.{pathwayAt, pathwaysPerChemical, chained, linesPerReceptor, overCap, lineTooLarge, largeLines}
-use Rattle.sheet.proofs.Chains.{chained-each}
+use Rattle.cases.specs.declared.Status.the-variants.{Read}
+use Rattle.cases.specs.Conditions.{at, first}
+use Rattle.cases.proofs.FirstMet.{first-read, chained-each}
+use Rattle.lists.proofs.Booleans.{neither}
+use Rattle.scenario.specs.Scenario.{Scenario}
+use Rattle.sheet.specs.Sheet.{pathwayAt, linesPerReceptor, overCap, lineTooLarge, largeLines}
+use Rattle.sizes.specs.Sizes.{pathwaysPerChemical}
+use Rattle.lists.specs.Lists.{chained}
 
 either : (e : Effect) (f : Effect → Bool) → (f Hazard || f Cancer) ≡ false → f e ≡ false
 either Hazard f h = neither (f Hazard) (f Cancer) h .0

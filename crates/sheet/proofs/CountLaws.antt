@@ -13,22 +13,21 @@ use Rattle.equations.specs.declared.Effect.{Effect}
 use Rattle.equations.specs.declared.Effect.the-variants.{Hazard, Cancer}
 use Rattle.equations.specs.declared.Values.{Values}
 use Rattle.pathway.specs.Lines.{Figured}
-use Rattle.deck.specs.declared.Status.{Status}
-use Rattle.deck.specs.declared.Status.the-variants.{Read, Stopped}
-use Rattle.deck.specs.Conditions.{at, first}
-use Rattle.deck.proofs.First.{orElse, first-append}
-use Rattle.deck.proofs.Scan.{first-read}
-use Rattle.deck.proofs.Accepted.{tabulated}
-use Rattle.deck.proofs.CaseLaws.{length-tabulate}
+use Rattle.cases.specs.declared.Status.{Status}
+use Rattle.cases.specs.declared.Status.the-variants.{Read, Stopped}
+use Rattle.cases.specs.Conditions.{at, first}
+use Rattle.cases.proofs.FirstMet.{orElse, first-append, first-read, chained-each}
+use Rattle.lists.proofs.Tabulated.{tabulated, length-tabulate}
 use Rattle.totals.specs.declared.Columns.the-variants as Cols
-use Rattle.sheet.specs.Values.{Scenario, valuesOf, chemicalIn, receptorIn}
-use Rattle.sheet.specs.declared.Site.{Site}
+use Rattle.scenario.specs.Scenario.{Scenario, valuesOf, chemicalIn, receptorIn, noGuidance, siteOf}
+use Rattle.scenario.specs.declared.Site.{Site}
 use Rattle.sheet.specs.declared.Source.{Source}
 use Rattle.sheet.specs.declared.Sources.{Sources}
-use Rattle.sheet.specs.Sheet.{chained, pathwayAt, columnsAt, overCap, linesPerReceptor, lineTooLarge, largeLines}
-use Rattle.sheet.specs.Counts.{tooMany, noGuidance, groundFor, meanFor, stopsAt, noMediaAt, sheetConditions, Part, cellOf, sideOf, effectAt, partAt, lineColumns, cellAt, cellsOf, noCells, cellsFor, sheetStatus, sheetCells}
-use Rattle.sheet.specs.Inner.{columnsOf, aboveCap, groundWith, sourceOf, sourcesOf, sourceAt, stopsWith, refusedSource, siteOf, figuresFrom, figureFor, figuresWorked, columnsWorked, isLarge, largeLine, largeChemical, largeWorked, perReceptor, allLarge, partOf, CellsFilled, ZeroFrom}
-use Rattle.sheet.proofs.Chains.{chained-same, chained-each}
+use Rattle.lists.specs.Lists.{chained}
+use Rattle.sheet.specs.Sheet.{pathwayAt, columnsAt, overCap, linesPerReceptor, lineTooLarge, largeLines}
+use Rattle.sheet.specs.Counts.{tooMany, groundFor, meanFor, stopsAt, noMediaAt, sheetConditions, Part, cellOf, sideOf, effectAt, partAt, lineColumns, cellAt, cellsOf, noCells, cellsFor, sheetStatus, sheetCells}
+use Rattle.sheet.specs.Inner.{columnsOf, aboveCap, groundWith, sourceOf, sourcesOf, sourceAt, stopsWith, refusedSource, figuresFrom, figureFor, figuresWorked, columnsWorked, isLarge, largeLine, largeChemical, largeWorked, perReceptor, allLarge, partOf, CellsFilled, ZeroFrom}
+use Rattle.lists.proofs.Chained.{chained-same}
 use Rattle.sheet.proofs.ChemicalLaws.{source-at}
 use Rattle.sheet.proofs.SourceLaws.{line-figures}
 

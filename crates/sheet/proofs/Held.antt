@@ -13,19 +13,19 @@ use lib.Seq.{getD-drop, take-suc}
 use Rattle.pair.specs.Calls.{is}
 use Rattle.equations.specs.declared.Effect.{Effect}
 use Rattle.equations.specs.declared.Effect.the-variants.{Hazard, Cancer}
-use Rattle.deck.specs.declared.Status.{Status}
-use Rattle.deck.specs.declared.Status.the-variants.{Read, Stopped}
-use Rattle.deck.proofs.Digits.{both}
-use Rattle.deck.proofs.Accepted.{tabulated}
-use Rattle.deck.proofs.CaseLaws.{length-tabulate}
+use Rattle.cases.specs.declared.Status.{Status}
+use Rattle.cases.specs.declared.Status.the-variants.{Read, Stopped}
+use Rattle.lists.proofs.Booleans.{both}
+use Rattle.lists.proofs.Tabulated.{tabulated, length-tabulate}
 use Rattle.totals.specs.declared.Columns.{Columns}
 use Rattle.totals.specs.declared.Columns.the-variants as Cols
 use Rattle.totals.specs.Totals.{_added_, totalOf, listSum, allAtMost}
-use Rattle.sheet.specs.Values.{Scenario}
-use Rattle.sheet.specs.Sheet.{chained, pathwayAt, columnsAt, addedOver, totalAt}
+use Rattle.scenario.specs.Scenario.{Scenario}
+use Rattle.lists.specs.Lists.{chained}
+use Rattle.sheet.specs.Sheet.{pathwayAt, columnsAt, addedOver, totalAt}
 use Rattle.sheet.specs.Counts.{Part, Mark, Low, High, cellOf, effectAt, partAt, lineColumns, cellAt, cellsOf, noCells, cellsFor, sheetStatus, sheetCells, columnsFrom, sideOf, isHeld, columnsFound, columnsIn, totalledFrom, totalFound, totalIn}
 use Rattle.sheet.specs.Inner.{partOf, CellsHold}
-use Rattle.sheet.proofs.Chains.{chained-length, flat}
+use Rattle.lists.proofs.Chained.{chained-length, flat}
 use Rattle.sheet.proofs.CellLaws.{side-small, part-small}
 
 -- ---- columns added up

@@ -22,13 +22,13 @@ use Rattle.equations.specs.declared.Effect.the-variants.{Hazard, Cancer}
 use Rattle.equations.specs.Page.{line}
 use Rattle.equations.specs.Readings.{pacesOf, exactly}
 use Rattle.equations.proofs.LineLaws.{Works, line-works, line-narrow}
-use Rattle.deck.specs.Ranges.{above, below}
+use Rattle.powers.specs.Powers.{above, below}
 use Rattle.totals.specs.declared.Columns.the-variants as Cols
-use Rattle.sheet.specs.Values.{Scenario, stayIn, guidanceIn, pairsAt}
+use Rattle.scenario.specs.Scenario.{Scenario, stayIn, guidanceIn, pairsAt, Exact}
 use Rattle.sheet.specs.Sheet.{hasReference, figureAt, unitOf, capOf, counted, countedIn, columnsAt, isAbove, highAbove, overCap}
-use Rattle.sheet.specs.DemandThree.{Exact, Enclosed, unitsPerOne, inUnitsOf, nothing, exactLine, lineCounts}
-use Rattle.sheet.proofs.Sound.{Sound}
-use Rattle.sheet.proofs.Inputs.{ten-above, place-power}
+use Rattle.sheet.specs.DemandThree.{Enclosed, unitsPerOne, inUnitsOf, nothing, exactLine, lineCounts}
+use Rattle.scenario.proofs.Sound.{Sound}
+use Rattle.scenario.proofs.InputLaws.{ten-above, place-power}
 use Rattle.sheet.proofs.TotalLaws.{Totals, totals-none}
 
 -- ---- bounds

@@ -14,18 +14,19 @@ use Rattle.equations.proofs.ValueLaws.{read-any}
 use Rattle.media.specs.declared.Media.{Media}
 use Rattle.media.specs.Media.{noMedia}
 use Rattle.pathway.specs.Lines.{Figured, Shared, habitsOf, figuresWith}
-use Rattle.deck.specs.declared.Status.{Status}
-use Rattle.deck.specs.declared.Status.the-variants.{Read, Stopped}
-use Rattle.deck.specs.Conditions.{first}
+use Rattle.cases.specs.declared.Status.{Status}
+use Rattle.cases.specs.declared.Status.the-variants.{Read, Stopped}
+use Rattle.cases.specs.Conditions.{first}
 use Rattle.totals.specs.declared.Columns.{Columns}
-use Rattle.sheet.specs.declared.Receptor.{Receptor}
-use Rattle.sheet.specs.declared.Site.{Site}
+use Rattle.scenario.specs.declared.Receptor.{Receptor}
+use Rattle.scenario.specs.declared.Site.{Site}
 use Rattle.sheet.specs.declared.Source.{Source}
 use Rattle.sheet.specs.declared.Sources.{Sources}
-use Rattle.sheet.specs.Values.{noReceptor}
-use Rattle.sheet.specs.Sheet.{chained, pathwayAt}
+use Rattle.scenario.specs.Scenario.{noReceptor}
+use Rattle.lists.specs.Lists.{chained}
+use Rattle.sheet.specs.Sheet.{pathwayAt}
 use Rattle.sheet.specs.Inner.{noSource, sourceAt, columnsOf, meanAt, figuresFrom, figureFor, figuresWorked, columnsFrom, columnsWorked, isLarge, largeLine, largeChemical, largeWorked, perReceptor, allLarge}
-use Rattle.sheet.proofs.Chains.{goes-on, stops}
+use Rattle.cases.proofs.FirstMet.{goes-on, stops}
 
 -- A chemical's line, as it is worked from what its receptor's lines share.
 module _ (site′ : Site) (j : ℕ) (r : Values) (source : Source) (blank : Media) (here : j < length (source .means)) (h : Shared) (p : ℕ) (w : Pathway) (figured′ : Figured) (own : h ≡ habitsOf (site′ .guidance) r) (way : w ≡ pathwayAt p)

@@ -31,19 +31,19 @@ use Rattle.pathway.specs.declared.References.{References}
 use Rattle.pathway.specs.Lines.{Optional, some, none, Figured, workedFor, workedOf, factorOf, concentrationFor, doseOf, figureOf, rfdGiven, csfGiven, rfdValue, csfValue, rfcGiven, unitRiskGiven, rfcValue, unitRiskValue, asRfc, asUnitRisk, timeShareOf, exposureOf, inAirOf, airFigureIfGiven, airFiguresWith, airReferencesOf, breathedBy, absorbedOf, habitsOf, figureIfGiven, doseFiguresWith, figuresBy, figuresWith}
 use Rattle.pathway.proofs.HabitLaws.{own-factor}
 use Rattle.pathway.proofs.AirLaws.{time-share-alike, air-figure-page}
-use Rattle.deck.specs.declared.Record.{Record}
-use Rattle.deck.specs.declared.Value.{Value}
-use Rattle.deck.specs.declared.Value.the-variants.{Absent, Printed}
-use Rattle.deck.specs.Cases.{valueAt}
+use Rattle.cases.specs.declared.Record.{Record}
+use Rattle.cases.specs.declared.Value.{Value}
+use Rattle.cases.specs.declared.Value.the-variants.{Absent, Printed}
+use Rattle.cases.specs.Cases.{valueAt}
 use Rattle.totals.specs.declared.Columns.the-variants as Cols
 use Rattle.sheet.specs.declared.Source.{Source}
-use Rattle.sheet.specs.Values.{Scenario, pairOf, restOf, valuesOf, particlesOf, noReceptor, chemicalIn, receptorIn, stayIn, guidanceIn, printedIn, pairsAt}
+use Rattle.scenario.specs.Scenario.{Scenario, pairOf, restOf, valuesOf, particlesOf, noReceptor, chemicalIn, receptorIn, stayIn, guidanceIn, printedIn, pairsAt, siteOf}
 use Rattle.sheet.specs.Sheet.{isPrinted, hasReference, figureAt, unitOf, capOf, countedIn, columnsAt, highAbove, overCap}
 use Rattle.sheet.specs.Counts.{isRefused, groundFor, meanWith, meanFor, stopsAt}
-use Rattle.sheet.specs.Inner.{columnsOf, aboveCap, mediaFrom, groundWith, meansOf, rfdOf, csfOf, referencesOf, sourceWith, sourceFrom, sourceOf, siteOf, meanAt, figuresFrom, figureFor}
-use Rattle.deck.proofs.Accepted.{filled-at}
-use Rattle.sheet.proofs.AnyLaws.{none-of}
-use Rattle.sheet.proofs.Inputs.{OfSource, pair-printed}
+use Rattle.sheet.specs.Inner.{columnsOf, aboveCap, mediaFrom, groundWith, meansOf, rfdOf, csfOf, referencesOf, sourceWith, sourceFrom, sourceOf, meanAt, figuresFrom, figureFor}
+use Rattle.lists.proofs.Tabulated.{filled-at}
+use Rattle.lists.proofs.AnyOf.{none-of}
+use Rattle.scenario.proofs.InputLaws.{OfSource, pair-printed}
 
 -- ---- the media: a chemical's ground and the means from it, where it does not stop the scenario
 not-refused : {A : Type 0} (o : Outcome A) → isRefused o ≡ false → (y : A) × (o ≡ is y)

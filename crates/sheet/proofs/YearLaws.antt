@@ -2,9 +2,9 @@
 -- 42 that it has with that slot blank. Assumes nothing.
 use mathlib.Core.Path.{_≡_, refl, sym, _∙_, ap, ap₂, subst}
 use mathlib.Core.Bool.{Bool, true, false, cond, false≢true}
-use mathlib.Core.List.{List, [], _∷_, map}
-use Prim.Native.Nat.{ℕ, zero, suc}
-use lib.ListN.{getD, set}
+use mathlib.Core.List.{map}
+use Prim.Native.Nat.{ℕ}
+use lib.ListN.{getD}
 use lib.Seq.{getD-set-other}
 use Rattle.pair.specs.declared.Pair.{Pair}
 use Rattle.pair.specs.Calls.{Outcome}
@@ -13,7 +13,7 @@ use Rattle.slots.specs.declared.Guidance.the-variants.{Of2005, Of2009}
 use Rattle.slots.specs.declared.Owner.{Owner}
 use Rattle.slots.specs.declared.Owner.the-variants.{Site, Chemical, Receptor}
 use Rattle.slots.specs.Slots.{Slot, table, same, isIn, placeIn, ownerOf, placeOf}
-use Rattle.slots.proofs.Laws.{nameOf, spelled}
+use Rattle.slots.proofs.SlotLaws.{nameOf, spelled}
 use Rattle.equations.specs.declared.Pathway.{Pathway}
 use Rattle.equations.specs.declared.Effect.{Effect}
 use Rattle.equations.specs.declared.Effect.the-variants.{Hazard, Cancer}
@@ -22,27 +22,22 @@ use Rattle.equations.specs.Page.{line, byGuidance, referenceSlot}
 use Rattle.equations.specs.Readings.{worked, valueIn, byOwner, inputs}
 use Rattle.equations.proofs.Guided.{guided}
 use Rattle.equations.proofs.Rising.{Alike, worked-same, theYear, year-free, year-steady}
-use Rattle.deck.specs.declared.Value.{Value}
-use Rattle.deck.specs.declared.Value.the-variants.{Absent}
-use Rattle.deck.specs.declared.Filled.{Filled}
-use Rattle.deck.specs.declared.Record.{Record}
-use Rattle.deck.specs.declared.Case.{Case}
-use Rattle.deck.specs.Cases.{noSlot, valueAt, receptorAt, guidanceOf}
-use Rattle.deck.specs.Guidance.{clearYear, caseWithoutYear}
+use Rattle.cases.specs.declared.Value.{Value}
+use Rattle.cases.specs.declared.Value.the-variants.{Absent}
+use Rattle.cases.specs.declared.Filled.{Filled}
+use Rattle.cases.specs.declared.Record.{Record}
+use Rattle.cases.specs.declared.Case.{Case}
+use Rattle.cases.specs.Cases.{noSlot, valueAt, receptorAt, guidanceOf, clearYear, caseWithoutYear}
 use Rattle.totals.specs.declared.Columns.the-variants as Cols
-use Rattle.sheet.specs.Values.{Scenario, scenarioFrom, pairOf, restOf, valuesOf, chemicalIn, receptorIn, stayIn, guidanceIn, printedIn, pairsAt, printedYears, depositionOf, enteredFrom}
-use Rattle.sheet.specs.Sheet.{isPrinted, hasReference, figureAt, unitOf, countedIn, columnsAt, totalAt, linesPerReceptor, overCap, chained, lineTooLarge, largeLines}
-use Rattle.sheet.proofs.Inputs.{value-at}
+use Rattle.scenario.specs.Scenario.{Scenario, scenarioFrom, pairOf, restOf, valuesOf, chemicalIn, receptorIn, stayIn, guidanceIn, printedIn, pairsAt, printedYears, depositionOf, enteredFrom}
+use Rattle.sheet.specs.Sheet.{isPrinted, hasReference, figureAt, unitOf, countedIn, columnsAt, totalAt, linesPerReceptor, overCap, lineTooLarge, largeLines}
+use Rattle.lists.specs.Lists.{chained}
+use Rattle.scenario.proofs.InputLaws.{value-at}
+use Rattle.lists.proofs.ListLaws.{blank-at}
 
 -- the scenario with the year's slot blank
 abbrev pub yearBlank : Scenario → Scenario
 yearBlank s = scenarioFrom (clearYear (s .site)) (s .chemicals) (s .receptors)
-
--- what is set to the default reads as the default, within the list or not
-blank-at : {A : Type 0} (l : List A) (k : ℕ) (d : A) → getD (set l k d) k d ≡ d
-blank-at [] k d = refl
-blank-at (x ∷ l) zero d = refl
-blank-at (x ∷ l) (suc k) d = blank-at l k d
 
 -- ---- the year's slot is the only one at its place of the site
 of-site : (a b : Bool) → cond a Site (cond b Chemical Receptor) ≡ Site → a ≡ true

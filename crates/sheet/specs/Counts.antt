@@ -2,7 +2,7 @@
 -- and every list of cells has its answer.
 use mathlib.Core.Bool.{Bool, true, false, cond, _&&_, _||_}
 use mathlib.Core.List.{List, [], _∷_, _++_}
-use Prim.Native.Nat.{ℕ, zero, suc, _+_, _*_, _/_, _%_, _≤_}
+use Prim.Native.Nat.{ℕ, suc, _+_, _*_, _/_, _%_, _≤_}
 use lib.Dec.{eqb, ltb}
 use lib.ListN.{length, getD, take, drop}
 use Rattle.pair.specs.Calls.{Outcome, is, refused}
@@ -14,26 +14,23 @@ use Rattle.equations.specs.Readings.{valueIn}
 use Rattle.media.specs.declared.Media.{Media}
 use Rattle.media.specs.declared.Ground.{Ground}
 use Rattle.media.specs.Media.{mediaInputs, groundOf, meanMedia}
-use Rattle.sheet.specs.declared.Receptor.{Receptor}
-use Rattle.deck.specs.declared.Status.{Status}
-use Rattle.deck.specs.declared.Status.the-variants.{Read, Stopped}
-use Rattle.deck.specs.Kinds.{maxChemicals}
-use Rattle.deck.specs.Conditions.{Condition, at, first}
-use Rattle.deck.specs.Cases.{tabulate, valueAt, isOtherYear}
+use Rattle.scenario.specs.declared.Receptor.{Receptor}
+use Rattle.cases.specs.declared.Status.{Status}
+use Rattle.cases.specs.declared.Status.the-variants.{Read, Stopped}
+use Rattle.sizes.specs.Sizes.{maxChemicals, mostReceptors, pathwaysPerChemical, mostLines}
+use Rattle.cases.specs.Conditions.{Condition, at, first}
+use Rattle.lists.specs.Lists.{tabulate, chained, anyOf}
 use Rattle.totals.specs.declared.Columns.{Columns}
 use Rattle.totals.specs.declared.Columns.the-variants as Cols
 use Rattle.totals.specs.Totals.{totalOf}
-use Rattle.sheet.specs.Values.{Scenario, mostWorked, valuesOf, particlesOf, chemicalIn, receptorIn}
-use Rattle.sheet.specs.Sheet.{pathwaysPerChemical, pathwayAt, columnsAt, chained, largeLines}
+use Rattle.scenario.specs.Scenario.{Scenario, valuesOf, particlesOf, chemicalIn, receptorIn, noGuidance}
+use Rattle.sheet.specs.Sheet.{pathwayAt, columnsAt, largeLines}
 
 -- ---- what stops a scenario: more records than a deck holds (21), a year of no guidance (33), a chemical whose media are refused (53), those of
 -- one receptor's cancer among them, a line above its cap (42). In a scenario whose values lie in their ranges there is no such year and no media
 -- are refused (`none-refused`).
 unfoldable pub tooMany : Scenario → Bool
-tooMany scenario = ltb maxChemicals (scenario .chemicals .count) || ltb mostWorked (scenario .receptors .count)
-
-unfoldable pub noGuidance : Scenario → Bool
-noGuidance scenario = isOtherYear (valueAt (scenario .site) (placeOf "year"))
+tooMany scenario = ltb maxChemicals (scenario .chemicals .count) || ltb mostReceptors (scenario .receptors .count)
 
 unfoldable pub isRefused : {A : Type 0} → Outcome A → Bool
 isRefused (is m) = false
@@ -49,11 +46,6 @@ meanWith site′ chemical′ r ground = meanMedia ground site′ chemical′ (r 
 unfoldable pub meanFor : Scenario → ℕ → ℕ → Ground → Outcome Media
 meanFor scenario i j ground = meanWith (valuesOf (scenario .site)) (valuesOf (chemicalIn scenario i)) (receptorIn scenario j) ground
 
--- f 0 or f 1 .. or f (n − 1)
-unfoldable pub anyOf : (ℕ → Bool) → ℕ → Bool
-anyOf f zero = false
-anyOf f (suc n) = anyOf f n || f n
-
 -- a ground is refused, or a receptor's media from it
 unfoldable pub stopsAt : Outcome Ground → (ℕ → Ground → Outcome Media) → ℕ → Bool
 stopsAt (is ground) means n = anyOf (λ j. isRefused (means j ground)) n
@@ -65,11 +57,6 @@ noMediaAt scenario i = at 53 (suc i) 0 (stopsAt (groundFor scenario i) (meanFor 
 unfoldable pub sheetConditions : Scenario → List Condition
 sheetConditions scenario = at 21 0 0 (tooMany scenario) ∷ at 33 0 0 (noGuidance scenario) ∷ chained (noMediaAt scenario) (scenario .chemicals .count) ++ largeLines scenario
 
--- ---- cells: a receptor has six columns of 96, hazard's and cancer's: 1 for each line that has counts, the low and the high counts; all
--- three are 0 for -, and where there is no line
-abbrev pub mostLines : ℕ
-mostLines = maxChemicals * pathwaysPerChemical
-
 abbrev pub effectCells : ℕ
 effectCells = 3 * mostLines
 
@@ -77,7 +64,7 @@ abbrev pub receptorCells : ℕ
 receptorCells = 2 * effectCells
 
 abbrev pub allCells : ℕ
-allCells = mostWorked * receptorCells
+allCells = mostReceptors * receptorCells
 
 pub data Part : Type 0 where
   Mark Low High : Part
@@ -138,7 +125,7 @@ columnStart j e = receptorCells * j + effectCells * sideOf e
 
 -- the cells are those of a scenario, and hold receptor j's lines
 unfoldable pub isHeld : List ℕ → ℕ → Bool
-isHeld cells j = eqb (length cells) allCells && ltb j mostWorked
+isHeld cells j = eqb (length cells) allCells && ltb j mostReceptors
 
 unfoldable pub columnsFound : List ℕ → ℕ → Columns
 columnsFound cells k = columnsFrom (getD cells k 0) (getD cells (k + mostLines) 0) (getD cells (k + 2 * mostLines) 0)

@@ -10,16 +10,16 @@ use Rattle.equations.specs.declared.Effect.{Effect}
 use Rattle.equations.specs.declared.Effect.the-variants.{Hazard, Cancer}
 use Rattle.equations.specs.Page.{line}
 use Rattle.equations.specs.Readings.{pacesOf, exactly}
-use Rattle.deck.specs.declared.Case.{Case}
-use Rattle.deck.specs.declared.Status.the-variants.{Read}
-use Rattle.deck.specs.Conditions.{first}
-use Rattle.deck.specs.Ranged.{Ranged}
+use Rattle.cases.specs.declared.Case.{Case}
+use Rattle.cases.specs.declared.Status.the-variants.{Read}
+use Rattle.cases.specs.Conditions.{first}
+use Rattle.cases.specs.Ranged.{Ranged}
 use Rattle.slots.specs.declared.Sort.the-variants.{Ordinary}
-use Rattle.slots.specs.Slots.{Slot}
 use Rattle.totals.specs.declared.Columns.{Columns}
 use Rattle.totals.specs.declared.Columns.the-variants as Cols
-use Rattle.sheet.specs.Values.{Scenario, stayIn, guidanceIn, pairsAt, ordinaryOf, exactAt}
-use Rattle.sheet.specs.Sheet.{pathwayAt, pathwaysPerChemical, hasReference, totalAt, largeLines}
+use Rattle.scenario.specs.Scenario.{Scenario, stayIn, guidanceIn, pairsAt, ordinaryOf, exactAt, Exact}
+use Rattle.sheet.specs.Sheet.{pathwayAt, hasReference, totalAt, largeLines}
+use Rattle.sizes.specs.Sizes.{pathwaysPerChemical}
 
 -- a fraction in units of 1E-12, or of 1E-15
 unfoldable pub unitsPerOne : Effect → ℕ
@@ -31,10 +31,6 @@ inUnitsOf e x = record { num = x .num * unitsPerOne e; den = x .den }
 
 unfoldable pub nothing : Fraction
 nothing = record { num = 0; den = 1 }
-
--- the exact value of each slot, for receptor j and chemical i, both counted from 0
-abbrev pub Exact : Type 0
-Exact = ℕ → ℕ → Slot → Fraction
 
 -- a line's exact fraction, where it counts
 unfoldable pub exactLine : Effect → Scenario → Exact → ℕ → ℕ → ℕ → Pathway → Fraction

@@ -22,23 +22,24 @@ use Rattle.pathway.specs.declared.GivenCsf.{GivenCsf}
 use Rattle.pathway.specs.declared.GivenCsf.the-variants as Csfs
 use Rattle.pathway.specs.declared.References.{References}
 use Rattle.pathway.specs.Lines.{Optional, some, none, Figured, absorbedOf, habitsOf, figuresWith}
-use Rattle.deck.specs.declared.Chemicals.{Chemicals}
-use Rattle.deck.specs.declared.Record.{Record}
-use Rattle.deck.specs.declared.Value.{Value}
-use Rattle.deck.specs.declared.Value.the-variants.{Absent, Printed}
-use Rattle.deck.specs.Kinds.{maxChemicals}
-use Rattle.deck.specs.Conditions.{Condition, at}
-use Rattle.deck.specs.Cases.{noRecord, valueAt, guidanceOf, tabulate}
+use Rattle.cases.specs.declared.Chemicals.{Chemicals}
+use Rattle.cases.specs.declared.Record.{Record}
+use Rattle.cases.specs.declared.Value.{Value}
+use Rattle.cases.specs.declared.Value.the-variants.{Absent, Printed}
+use Rattle.sizes.specs.Sizes.{maxChemicals, mostReceptors, pathwaysPerChemical, mostLines}
+use Rattle.cases.specs.Conditions.{Condition, at}
+use Rattle.cases.specs.Cases.{noRecord, valueAt}
+use Rattle.lists.specs.Lists.{tabulate, chained}
 use Rattle.totals.specs.declared.Columns.{Columns}
 use Rattle.totals.specs.declared.Columns.the-variants as Cols
-use Rattle.sheet.specs.declared.Receptor.{Receptor}
-use Rattle.sheet.specs.declared.Receptors.{Receptors}
-use Rattle.sheet.specs.declared.Site.{Site}
+use Rattle.scenario.specs.declared.Receptor.{Receptor}
+use Rattle.scenario.specs.declared.Receptors.{Receptors}
+use Rattle.scenario.specs.declared.Site.{Site}
 use Rattle.sheet.specs.declared.Source.{Source}
 use Rattle.sheet.specs.declared.Sources.{Sources}
-use Rattle.sheet.specs.Values.{mostWorked, pairOf, valuesOf, particlesOf, noReceptor}
-use Rattle.sheet.specs.Sheet.{pathwayAt, pathwaysPerChemical, unitOf, capOf, countedIn, highAbove, chained}
-use Rattle.sheet.specs.Counts.{Part, Mark, Low, High, cellOf, sideOf, mostLines, effectCells, receptorCells, meanWith, stopsAt}
+use Rattle.scenario.specs.Scenario.{pairOf, valuesOf, particlesOf, noReceptor}
+use Rattle.sheet.specs.Sheet.{pathwayAt, unitOf, capOf, countedIn, highAbove}
+use Rattle.sheet.specs.Counts.{Part, Mark, Low, High, cellOf, sideOf, effectCells, receptorCells, meanWith, stopsAt}
 
 -- for each of 4 receptors at most six lines for each of 16 chemicals, and a total line: 388
 abbrev pub maxRows : ℕ
@@ -66,10 +67,10 @@ groundWith site′ chemical′ = groundOf (mediaInputs site′ (valuesOf chemica
 -- the receptors' means, and none where there is no receptor
 unfoldable pub meansOf : Values → Values → Receptors → Ground → List Media
 meansOf site′ chemical′ receptors′ ground =
-    tabulate (receptors′ .count) (λ j. mediaFrom (meanWith site′ chemical′ (getD (receptors′ .list) j noReceptor) ground)) ++ replicate (mostWorked - receptors′ .count) noMedia
+    tabulate (receptors′ .count) (λ j. mediaFrom (meanWith site′ chemical′ (getD (receptors′ .list) j noReceptor) ground)) ++ replicate (mostReceptors - receptors′ .count) noMedia
 
 unfoldable pub noMeans : List Media
-noMeans = replicate mostWorked noMedia
+noMeans = replicate mostReceptors noMedia
 
 unfoldable pub rfdOf : Value → GivenRfd
 rfdOf Absent = Rfds.Absent
@@ -119,10 +120,6 @@ stopsWith site′ receptors′ chemical′ =
 
 unfoldable pub refusedSource : Values → Receptors → List Record → ℕ → List Condition
 refusedSource site′ receptors′ records i = at 53 (suc i) 0 (stopsWith site′ receptors′ (getD records i noRecord)) ∷ []
-
--- ---- a site as the lines take it: its year's guidance and its values
-unfoldable pub siteOf : Record → Site
-siteOf r = record { guidance = guidanceOf (valueAt r (placeOf "year")); values = valuesOf r }
 
 -- ---- a line's figures, of the receptor at place j with these values
 unfoldable pub meanAt : Source → ℕ → Media

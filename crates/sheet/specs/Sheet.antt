@@ -1,7 +1,7 @@
 -- The lines of a scenario, their counts and totals (document 01, "Units and totals"), and 42 of "Where a deck stops". Receptor j,
 -- chemical i and pathway p come in this order and are counted from 0.
 use mathlib.Core.Bool.{Bool, true, false, cond, not, _&&_, _||_}
-use mathlib.Core.List.{List, [], _∷_, _++_}
+use mathlib.Core.List.{List, [], _∷_}
 use Prim.Native.Nat.{ℕ, zero, suc, _+_, _*_}
 use lib.IntN.{ℤ, negsuc}
 use Rattle.pair.specs.declared.Number.{Number}
@@ -14,16 +14,15 @@ use Rattle.equations.specs.declared.Effect.{Effect}
 use Rattle.equations.specs.declared.Effect.the-variants.{Hazard, Cancer}
 use Rattle.equations.specs.Page.{line, referenceSlot}
 use Rattle.equations.specs.Readings.{worked}
-use Rattle.deck.specs.declared.Value.{Value}
-use Rattle.deck.specs.declared.Value.the-variants.{Absent, Printed}
-use Rattle.deck.specs.Conditions.{Condition, at}
+use Rattle.cases.specs.declared.Value.{Value}
+use Rattle.cases.specs.declared.Value.the-variants.{Absent, Printed}
+use Rattle.cases.specs.Conditions.{Condition, at}
 use Rattle.totals.specs.declared.Columns.{Columns}
 use Rattle.totals.specs.declared.Columns.the-variants as Cols
 use Rattle.totals.specs.Totals.{_added_}
-use Rattle.sheet.specs.Values.{Scenario, stayIn, guidanceIn, printedIn, pairsAt}
-
-abbrev pub pathwaysPerChemical : ℕ
-pathwaysPerChemical = 6
+use Rattle.scenario.specs.Scenario.{Scenario, stayIn, guidanceIn, printedIn, pairsAt}
+use Rattle.sizes.specs.Sizes.{pathwaysPerChemical}
+use Rattle.lists.specs.Lists.{chained}
 
 unfoldable pub pathwayAt : ℕ → Pathway
 pathwayAt zero = Air
@@ -70,12 +69,6 @@ addedOver f (suc n) = addedOver f n added f n
 -- a receptor's total, over its lines that have the reference value
 unfoldable pub totalAt : Effect → Scenario → ℕ → Columns
 totalAt e scenario j = addedOver (λ i. addedOver (λ p. columnsAt e scenario j i (pathwayAt p)) pathwaysPerChemical) (scenario .chemicals .count)
-
--- ---- 42
--- f 0 ++ f 1 ++ .. ++ f (n − 1)
-unfoldable pub chained : {A : Type 0} → (ℕ → List A) → ℕ → List A
-chained f zero = []
-chained f (suc n) = chained f n ++ f n
 
 -- lines of one receptor, its total line included
 unfoldable pub linesPerReceptor : Scenario → ℕ

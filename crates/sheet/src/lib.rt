@@ -1,63 +1,32 @@
 //! The sheet of a scenario (document 01, "Units and totals"): each line's quotient and risk counted in units, 42, and a receptor's totals.
 mod chemicals;
 mod counting;
-mod exposure;
 mod lines;
-mod ordinary;
 mod reading;
-mod values;
+mod references;
 
 use crate::chemicals::sources_of;
-pub use crate::exposure::deposition_of;
-pub use crate::exposure::printed_years;
-pub use crate::exposure::receptor_with;
 use crate::lines::clear;
 use crate::lines::put_all;
-pub use crate::ordinary::entered_from;
 use crate::reading::columns_found;
 use crate::reading::total_found;
-use crate::values::has_no_guidance;
-pub use crate::values::or_one;
-pub use crate::values::pair_of;
-use crate::values::site_of;
-use deck::Chemicals;
-use deck::MAX_CHEMICALS;
-use deck::MAX_RECEPTORS;
-use deck::Record;
-use deck::Status;
+use cases::Chemicals;
+use cases::Record;
+use cases::Status;
 use equations::Effect;
-use equations::Stay;
-use equations::Values;
 use media::Media;
-use pair::Pair;
 use pathway::Absorbed;
 use pathway::References;
-use slots::Guidance;
+use scenario::Receptors;
+use scenario::has_no_guidance;
+use scenario::site_of;
+use sizes::MAX_CHEMICALS;
+use sizes::MAX_RECEPTORS;
+use sizes::MOST_LINES;
 use totals::Columns;
 ghost use mathlib.Core.Path.{_≡_};
-ghost use Rattle.sheet.specs.Values.{scenarioFrom};
+ghost use Rattle.scenario.specs.Scenario.{scenarioFrom};
 ghost use Rattle.sheet.specs.Counts.{sheetStatus, sheetCells, sideOf, columnsIn, totalIn};
-
-// Pathways of a chemical.
-pub const PATHWAYS: usize = 6;
-
-// A receptor's lines but its total line, at most: 96.
-pub const MOST_LINES: usize = MAX_CHEMICALS * PATHWAYS;
-
-// A receptor as the equations take it: its id, the values of its slots as pairs, and its exposure T2 against the deposition tD, with
-// T2 − tD where it is above 0. Whether they were printed or made of life stages, nothing after this asks.
-pub struct Receptor {
-    pub id: u32,
-    pub values: Values,
-    pub stay: Stay,
-    pub later: Pair,
-}
-
-// The first count receptors of the list, in deck order.
-pub struct Receptors {
-    pub count: usize,
-    pub list: [Receptor; MAX_RECEPTORS],
-}
 
 // The counts of a scenario's lines stand in cells. An effect has three columns of 96 cells: 1 for each line that has counts, the low and the
 // high counts; all three are 0 where the line has -, and where there is none. A receptor has hazard's columns, then cancer's.
@@ -66,12 +35,6 @@ pub const EFFECT_CELLS: usize = 3 * MOST_LINES;
 pub const RECEPTOR_CELLS: usize = 2 * EFFECT_CELLS;
 
 pub const CELLS: usize = MAX_RECEPTORS * RECEPTOR_CELLS;
-
-// A site as the lines take it: the guidance that its year names, and its values.
-pub struct Site {
-    pub guidance: Guidance,
-    pub values: Values,
-}
 
 // What a chemical's lines take, for every receptor: the shares absorbed, what it leaves in the media, hazard's and each receptor's for
 // cancer, and its reference values.

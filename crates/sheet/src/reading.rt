@@ -4,8 +4,9 @@ use totals::Sum;
 ghost use mathlib.Core.Path.{_≡_};
 ghost use Prim.Native.Nat.{_+_, _*_, _<_, _≤_};
 ghost use lib.ListN.{length};
-ghost use Rattle.sheet.specs.Counts.{mostLines, effectCells, columnsFrom, columnsFound, totalFound};
-use crate::MOST_LINES;
+ghost use Rattle.sizes.specs.Sizes.{mostLines};
+ghost use Rattle.sheet.specs.Counts.{effectCells, columnsFrom, columnsFound, totalFound};
+use sizes::MOST_LINES;
 
 // Two columns: - where no line has counts.
 fn columns_from(lines: u64, low: u64, high: u64) -> Columns

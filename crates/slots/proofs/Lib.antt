@@ -1,2 +1,2 @@
 -- What follows from the table of slots.
-pub mod Laws
+pub mod SlotLaws

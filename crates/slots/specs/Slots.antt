@@ -15,6 +15,7 @@ use Rattle.slots.specs.declared.Guidance.the-variants.{Of2005, Of2009}
 use Rattle.slots.specs.declared.Rule.{Rule}
 use Rattle.slots.specs.declared.Sort.{Sort}
 use Rattle.slots.specs.declared.Sort.the-variants.{Ordinary, Composite}
+use Rattle.sizes.specs.Sizes.{fieldsPerLine}
 
 -- A slot is named as in document 01.
 abbrev pub Slot : Type 0
@@ -122,10 +123,6 @@ ruleIn Composite (name inComposite rule) = rule
 -- the rule of a record's place, from 0
 unfoldable pub ruleAt : Sort → Owner → ℕ → Rule
 ruleAt sort o k = getD (map (ruleIn sort) (table o)) k unused
-
--- slots are filled line by line: the rules of the six fields of a record's line n, from 0
-abbrev pub fieldsPerLine : ℕ
-fieldsPerLine = 6
 
 unfoldable pub lineRules : Sort → Owner → ℕ → List Rule
 lineRules sort o n =

@@ -1,5 +1,6 @@
 //! The slots of a deck's records (document 01, "Deck"): for the code, each slot's place and rule. specs/Slots.antt is the table that both
 //! are held to.
+use sizes::FIELDS;
 ghost use mathlib.Core.Path.{_≡_};
 ghost use Rattle.slots.specs.Slots.{lineRules, yearOf};
 
@@ -43,12 +44,6 @@ pub struct Rule {
     pub most: u32,
     pub year: bool,
 }
-
-// Slots of a record, those that no record of its kind has included.
-pub const SLOTS: usize = 24;
-
-// Fields of a line, and so slots.
-pub const FIELDS: usize = 6;
 
 // The places of a site's slots.
 pub const ZS: usize = 0;

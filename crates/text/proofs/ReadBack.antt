@@ -3,43 +3,24 @@
 use mathlib.Core.Path.{_≡_, refl, sym, ap, _∙_}
 use mathlib.Core.List.{List, [], _∷_, _++_, append-assoc}
 use Prim.Native.Nat.{ℕ, _-_, _/_, _^_, _<_}
-use native.Mathlib.Nat.{suc-inj}
 use native.Mathlib.Omega.{arith}
 use lib.Dec.{lit<}
 use lib.ListN.{length, replicate}
 use Rattle.totals.specs.declared.Columns.{Columns}
 use Rattle.totals.specs.declared.Columns.the-variants.{Absent, Counted}
 use Rattle.text.specs.declared.Row.{Row}
-use Rattle.text.specs.Text.{idWidth, pathwayWidth, countWidth, digit, digits, decimal, justified, number, dash, columnsText, rowText, CountsFit, FitsColumns}
-use Rattle.text.proofs.Filling.{length-number, length-justified}
+use Rattle.spelling.specs.Columns.{idWidth, digitsValue, digit, digits, decimal, justified, number, dash}
+use Rattle.text.specs.Text.{pathwayWidth, countWidth, columnsText, rowText, CountsFit, FitsColumns}
+use Rattle.spelling.proofs.Filling.{length-number, length-justified}
 use Rattle.text.proofs.Rows.{length-columns}
-use Rattle.text.proofs.Spelling.{read, number-read}
-
--- texts after texts of equal length
-parts : (a b c d : List ℕ) → length a ≡ length b → a ++ c ≡ b ++ d → (a ≡ b) × (c ≡ d)
-parts [] [] c d l e = (refl, e)
-parts [] (y ∷ b) c d l e = absurd (omega arith)
-parts (x ∷ a) [] c d l e = absurd (omega arith)
-parts (x ∷ a) (y ∷ b) c d l e =
-    let r = parts a b c d (suc-inj l) (cc) in
-    let h : x ≡ y = cc in
-    (cc, r .1)
+use Rattle.spelling.proofs.NumberRead.{number-read}
+use Rattle.lists.proofs.ListLaws.{parts, last, last-snoc}
 
 -- a number and the text after it, in columns of any width
 number-first : (w m n : ℕ) (t u : List ℕ) → 0 < w → m < 10 ^ w → n < 10 ^ w → number w m ++ t ≡ number w n ++ u → (m ≡ n) × (t ≡ u)
 number-first w m n t u some hm hn e =
     let p = parts (number w m) (number w n) t u (length-number w m some ∙ sym (length-number w n some)) e in
-    (sym (number-read w m some hm) ∙ ap (read 0) (p .0) ∙ number-read w n some hn, p .1)
-
--- the last byte of a text
-last : ℕ → List ℕ → ℕ
-last a [] = a
-last a (x ∷ xs) = last x xs
-
-last-snoc : (a : ℕ) (xs : List ℕ) (x : ℕ) → last a (xs ++ (x ∷ [])) ≡ x
-unfolding last
-last-snoc a [] x = refl
-last-snoc a (y ∷ xs) x = last-snoc y xs x
+    (sym (number-read w m some hm) ∙ ap (digitsValue 0) (p .0) ∙ number-read w n some hn, p .1)
 
 last-of-number : (w n : ℕ) → last 0 (number w n) ≡ digit n
 unfolding number justified decimal

@@ -12,10 +12,11 @@ use lib.Seq.{drop-cons, set-at}
 use Rattle.totals.specs.declared.Columns.{Columns}
 use Rattle.totals.specs.declared.Columns.the-variants.{Absent, Counted}
 use Rattle.text.specs.declared.Row.{Row}
-use Rattle.text.specs.Text.{reportLineWidth, number, justified, dash, columnsText, rowText, linesText, lineTold, lineAfter}
-use Rattle.text.specs.Inner.{placed}
-use Rattle.text.proofs.Filling.{length-number, length-justified}
-use Rattle.text.proofs.Places.{grown, placed-two}
+use Rattle.text.specs.Text.{reportLineWidth, columnsText, rowText, linesText, lineTold, lineAfter}
+use Rattle.spelling.specs.Columns.{number, justified, dash}
+use Rattle.lists.specs.Lists.{placed}
+use Rattle.spelling.proofs.Filling.{length-number, length-justified}
+use Rattle.lists.proofs.Placed.{grown, placed-two}
 
 pub length-columns : (columns : Columns) → length (columnsText columns) ≡ 40
 unfolding columnsText

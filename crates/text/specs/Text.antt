@@ -2,20 +2,17 @@
 -- right-justified, and a line feed: 95 bytes.
 -- Bytes: 10 is a line feed, 32 a space, 45 -, 48 to 57 the digits.
 -- Assumes nothing.
-use Prim.Native.Nat.{ℕ, zero, suc, _+_, _*_, _-_, _/_, _%_, _^_, _<_}
+use Prim.Native.Nat.{ℕ, _+_, _*_, _^_, _<_}
 use mathlib.Core.Bool.{cond}
 use mathlib.Core.List.{List, [], _∷_, _++_}
-use lib.Dec.{eqb, ltb}
-use lib.ListN.{length, drop, replicate}
+use lib.Dec.{ltb}
+use lib.ListN.{length, drop}
 use Rattle.totals.specs.declared.Columns.{Columns}
 use Rattle.totals.specs.declared.Columns.the-variants.{Absent, Counted}
 use Rattle.text.specs.declared.Row.{Row}
 use Rattle.text.specs.declared.Written.{Written}
 use Rattle.text.specs.declared.Written.the-variants.{Whole, Short}
-
--- columns of the ids, of the pathway, and of each count
-abbrev pub idWidth : ℕ
-idWidth = 6
+use Rattle.spelling.specs.Columns.{idWidth, justified, number, dash}
 
 abbrev pub pathwayWidth : ℕ
 pathwayWidth = 2
@@ -26,30 +23,6 @@ countWidth = 20
 -- a line with its line feed: 95 bytes
 abbrev pub reportLineWidth : ℕ
 reportLineWidth = 2 * idWidth + pathwayWidth + 4 * countWidth + 1
-
--- the last digit of n, as a byte
-abbrev pub digit : ℕ → ℕ
-digit n = 48 + n % 10
-
--- the digits of n without leading zeros, at most k of them; none of 0
-unfoldable pub digits : ℕ → ℕ → List ℕ
-digits zero n = []
-digits (suc k) n = cond (eqb n 0) [] (digits k (n / 10) ++ (digit n ∷ []))
-
--- n in decimal, at most w digits: the last digit, so that 0 is "0", after those before it
-unfoldable pub decimal : ℕ → ℕ → List ℕ
-decimal w n = digits (w - 1) (n / 10) ++ (digit n ∷ [])
-
--- a text after spaces, in w columns
-unfoldable pub justified : ℕ → List ℕ → List ℕ
-justified w text = replicate (w - length text) 32 ++ text
-
-unfoldable pub number : ℕ → ℕ → List ℕ
-number w n = justified w (decimal w n)
-
--- what stands for an absent value
-abbrev pub dash : List ℕ
-dash = 45 ∷ []
 
 -- low and high
 unfoldable pub columnsText : Columns → List ℕ

@@ -2,6 +2,7 @@
 mod lines;
 
 use crate::lines::put_line;
+use spelling::ID_WIDTH;
 use totals::Columns;
 ghost use mathlib.Core.Path.{_≡_};
 ghost use lib.ListN.{length};
@@ -22,9 +23,7 @@ pub enum Written {
     Short,
 }
 
-// Columns of a report line, and the bytes of one: its columns and a line feed.
-pub const ID_WIDTH: usize = 6;
-
+// Columns of a report line beside its ids, and the bytes of one: its columns and a line feed.
 pub const PATHWAY_WIDTH: usize = 2;
 
 pub const COUNT_WIDTH: usize = 20;

@@ -3,13 +3,14 @@ ghost use mathlib.Core.Path.{_≡_};
 ghost use mathlib.Core.List.{[], _∷_, _++_};
 ghost use Prim.Native.Nat.{_+_, _*_, _-_, _/_, _%_, _<_, _≤_};
 ghost use lib.ListN.{length, drop, replicate};
-ghost use Rattle.text.specs.Text.{digits, justified, number, dash, columnsText, rowText, countWidth, reportLineWidth};
-ghost use Rattle.text.specs.Inner.{placed};
+ghost use Rattle.spelling.specs.Columns.{digits, justified, number, dash};
+ghost use Rattle.text.specs.Text.{columnsText, rowText, countWidth, reportLineWidth};
+ghost use Rattle.lists.specs.Lists.{placed};
 use crate::COUNT_WIDTH;
-use crate::ID_WIDTH;
 use crate::LINE_WIDTH;
 use crate::PATHWAY_WIDTH;
 use crate::Row;
+use spelling::ID_WIDTH;
 use totals::Columns;
 
 const CHEMICAL_START: usize = ID_WIDTH;
@@ -24,59 +25,12 @@ const LINE_FEED_AT: usize = LINE_WIDTH - 1;
 
 const LINE_FEED: u8 = 10;
 
-const SPACE: u8 = 32;
-
-const DASH: u8 = 45;
-
-const ZERO: u8 = 48;
-
-// The last digit of n, which is 10 × tens and that digit.
-fn digit(n: u64, tens: u64) -> u8
-    requires { ⌜ tens ≡ n / 10 ⌝ }
-    ensures { λ r. ⌜ r ≡ 48 + n % 10 ⌝ }
-{
-    ZERO + (n - 10 * tens) as u8
-}
-
-// Spaces in the first count bytes.
-fn put_spaces(part: &mut [u8], count: usize)
-    requires { ⌜ count ≤ length (now part) ⌝ }
-    ensures { λ _. ⌜ now (part .exit) ≡ replicate count 32 ++ drop count (now (part .entry)) ⌝ }
-{
-    let mut k: usize = 0;
-    while k < count {
-        part[k] = SPACE;
-        k += 1;
-    }
-}
-
-// Fills the part from the right: last, before it the digits of n, none of 0, and spaces.
-fn fill(part: &mut [u8], n: u64, last: u8)
-    requires { ⌜ 0 < length (now part) ⌝ }
-    ensures { λ _. ⌜ now (part .exit) ≡ justified (length (now (part .entry))) (digits (length (now (part .entry)) - 1) n ++ (last ∷ [])) ⌝ }
-{
-    let mut at = part.len() - 1;
-    part[at] = last;
-    let mut left = n;
-    while 0 < left {
-        if at == 0 {
-            return;
-        }
-        at -= 1;
-        let tens = left / 10;
-        part[at] = digit(left, tens);
-        left = tens;
-    }
-    put_spaces(part, at);
-}
-
 // The number n in width columns from at.
 fn put_number(line: &mut [u8], at: usize, width: usize, n: u64)
     requires { ⌜ (0 < width) × (at + width ≤ length (now line)) ⌝ }
     ensures { λ _. ⌜ now (line .exit) ≡ placed (now (line .entry)) at (number width n) ⌝ }
 {
-    let tens = n / 10;
-    fill(&mut line[at..at + width], tens, digit(n, tens));
+    spelling::put_number(&mut line[at..at + width], n);
 }
 
 // A lone - in width columns from at.
@@ -84,7 +38,7 @@ fn put_dash(line: &mut [u8], at: usize, width: usize)
     requires { ⌜ (0 < width) × (at + width ≤ length (now line)) ⌝ }
     ensures { λ _. ⌜ now (line .exit) ≡ placed (now (line .entry)) at (justified width dash) ⌝ }
 {
-    fill(&mut line[at..at + width], 0, DASH);
+    spelling::put_dash(&mut line[at..at + width]);
 }
 
 // Low and high, from at.

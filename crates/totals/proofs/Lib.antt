@@ -1,2 +1,2 @@
 -- The crate's laws. Assumes nothing.
-mod Sums
+pub mod TotalSums

@@ -5,6 +5,7 @@ use mathlib.Core.Bool.{Bool, true, cond, _&&_}
 use mathlib.Core.List.{List, [], _∷_}
 use lib.Dec.{leb}
 use lib.ListN.{length}
+use Rattle.sizes.specs.Sizes.{mostLines}
 use Rattle.pair.specs.Calls.{Outcome, is, refused}
 use Rattle.totals.specs.declared.Columns.{Columns}
 use Rattle.totals.specs.declared.Columns.the-variants.{Absent, Counted}
@@ -19,10 +20,7 @@ Counted l h added Absent = Counted l h
 Counted l h added Counted k g = Counted (l + k) (h + g)
 
 -- ---- the totals call
--- at most so many numbers, each at most 1E+16
-abbrev pub mostNumbers : ℕ
-mostNumbers = 96
-
+-- each of the numbers is at most 1E+16
 abbrev pub largestNumber : ℕ
 largestNumber = 10 ^ 16
 
@@ -40,6 +38,6 @@ unfoldable pub allAtMost : ℕ → List ℕ → Bool
 allAtMost most [] = true
 allAtMost most (n ∷ ns) = leb n most && allAtMost most ns
 
--- the sum; 52 for more than 96 numbers, or one above 1E+16
+-- the sum; 52 for more numbers than a receptor has lines, 96, or one above 1E+16
 unfoldable pub totalOf : List ℕ → Outcome ℕ
-totalOf list = cond (leb (length list) mostNumbers && allAtMost largestNumber list) (is (listSum list)) (refused 52)
+totalOf list = cond (leb (length list) mostLines && allAtMost largestNumber list) (is (listSum list)) (refused 52)

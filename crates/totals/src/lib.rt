@@ -1,4 +1,5 @@
 //! A report line's counts, and totals over a caller's list of units (document 01, "Units and totals").
+use sizes::MOST_LINES;
 ghost use mathlib.Core.Path.{_≡_};
 ghost use Rattle.totals.specs.Totals.{totalled, totalOf};
 
@@ -14,15 +15,13 @@ pub enum Sum {
     Refused,
 }
 
-pub const MOST_NUMBERS: usize = 96;
-
 pub const LARGEST_NUMBER: u64 = 10_000_000_000_000_000;
 
 // The sum of the list, or a refusal: more than 96 numbers, or one above 1E+16.
 pub fn total(list: &[u64]) -> Sum
     ensures { λ r. ⌜ totalled r ≡ totalOf (now (list .entry)) ⌝ }
 {
-    if MOST_NUMBERS < list.len() {
+    if MOST_LINES < list.len() {
         return Sum::Refused;
     }
     let mut sum: u64 = 0;

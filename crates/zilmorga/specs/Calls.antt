@@ -7,8 +7,9 @@ use Rattle.pair.specs.declared.Pair.{Pair}
 use Rattle.pair.specs.declared.Units.{Units}
 use Rattle.pair.specs.Calls.{Outcome, is, refused, after, afterOne, inUnits}
 use Rattle.slots.specs.declared.Sort.{Sort}
-use Rattle.deck.specs.declared.Told.{Told}
-use Rattle.deck.specs.Cases.{readOf, toldOf}
+use Rattle.cases.specs.declared.Told.{Told}
+use Rattle.deck.specs.DeckCase.{readOf}
+use Rattle.cases.specs.Conditions.{toldOf}
 use Rattle.zilmorga.specs.Numbers.{entryAt, andThen, numberOf, pairFrom, comparedIf, numbersOf}
 
 pub record Left (A : Type 0) : Type 0 where

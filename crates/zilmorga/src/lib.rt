@@ -18,7 +18,7 @@ use crate::numbers::number_of;
 use crate::numbers::pair_from;
 use crate::numbers::put;
 use crate::numbers::put_order;
-use deck::Told;
+use cases::Told;
 use pair::Answer;
 use pair::Count;
 use pair::Pair;
@@ -70,7 +70,7 @@ fn read_alone(deck: &[u8], sort: Sort, line: &mut usize, field: &mut usize) -> u
 {
     let reading = deck::read(deck, sort);
     let status = reading.status;
-    put_told(deck::tell(status), line, field)
+    put_told(cases::tell(status), line, field)
 }
 
 // An ordinary deck read alone.

@@ -3,8 +3,8 @@ use mathlib.Core.Path.{ap}
 use borrow.Author.Needs.{needs}
 use denote.Ref.{now}
 use Rattle.deck.specs.declared.Reading.{Reading}
-use Rattle.deck.specs.Cases.{readOf}
-use Rattle.sheet.specs.Values.{scenarioWith}
+use Rattle.deck.specs.DeckCase.{readOf}
+use Rattle.scenario.specs.Scenario.{scenarioWith}
 use Rattle.report.proofs.CallLaws.{deck-stops, deck-read, answers}
 use Rattle.composite.specs.Composite.{composite}
 use Rattle.composite.proofs.Demands.{composite-sounds, stages-few}

@@ -1,7 +1,7 @@
 -- `deck::field` meets its contract: a deck that lacks the line lacks the field.
 -- Assumes nothing.
 use borrow.Author.Needs.{needs}
-use Rattle.deck.proofs.CaseLaws.{line-full, field-none, field-some}
+use Rattle.deck.proofs.DeckCaseLaws.{line-full, field-none, field-some}
 use denote.Ref.{now}
 use Rattle.deck.proofs.field.Statement.{statement}
 use Rattle.deck.proofs.field.Tie as tie

@@ -7,7 +7,7 @@ use native.Mathlib.Omega.{arith}
 use mathlib.Core.Path.{ap, sym, _∙_}
 use lib.ListN.{take, drop}
 use denote.Ref.{now}
-use Rattle.deck.proofs.Parts.{line-zero, line-past, line-is}
+use Rattle.deck.proofs.PartLaws.{line-zero, line-past, line-is}
 use Rattle.deck.proofs.line.Statement.{statement}
 use Rattle.deck.proofs.line.Tie as tie
 

@@ -3,7 +3,7 @@
 use borrow.Author.Needs.{needs}
 use native.Mathlib.Omega.{arith}
 use mathlib.Core.Path.{refl, _∙_}
-use Rattle.deck.proofs.CaseLaws.{empty-case}
+use Rattle.deck.proofs.DeckCaseLaws.{empty-case}
 use Rattle.deck.proofs.Packed.{none-kept}
 use Rattle.deck.proofs.stopped.Statement.{statement}
 use Rattle.deck.proofs.stopped.Tie as tie

@@ -3,7 +3,7 @@ use mathlib.Core.Path.{_≡_, sym, ap}
 use Prim.Native.Nat.{ℕ, _+_, _^_, _≤_, min}
 use native.Mathlib.Omega.{arith}
 use Rattle.powers.specs.Powers.{tenTo}
-use Rattle.powers.proofs.Laws.{ten-to-most}
+use Rattle.powers.proofs.PowerLaws.{ten-to-most}
 use Rattle.powers.proofs.ten_to.Statement.{statement}
 use Rattle.powers.proofs.ten_to.Tie as tie
 

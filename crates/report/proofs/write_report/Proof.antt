@@ -3,7 +3,7 @@ use mathlib.Core.Path.{sym, ap, _∙_}
 use borrow.Author.Needs.{needs}
 use denote.Ref.{now}
 use lib.ListN.{length}
-use Rattle.sheet.specs.Values.{scenarioFrom}
+use Rattle.scenario.specs.Scenario.{scenarioFrom}
 use Rattle.sheet.specs.Sheet.{linesPerReceptor}
 use Rattle.report.specs.Report.{linesOfReport, lengthOf}
 use Rattle.sheet.proofs.Held.{cells-many}

@@ -4,7 +4,7 @@ use Prim.Native.Nat.{ℕ, _+_, _*_, _<_}
 use borrow.Author.Tests.{eq-eqb, ne-eqb, le-ltb, lt-ltb}
 use borrow.Author.Needs.{needs}
 use Rattle.sheet.specs.Counts.{isHeld, columnsFound, columnsIn}
-use Rattle.sheet.proofs.ValueLaws.{side-small}
+use Rattle.sheet.proofs.TotalsTold.{side-small}
 use Rattle.sheet.proofs.columns.Statement.{statement}
 use Rattle.sheet.proofs.columns.Tie as tie
 

@@ -1,11 +1,11 @@
 -- `sheet::counts_of` meets its contract: 21, then 33, then 53 by chemical, then 42 by line, or every line's counts. Assumes nothing.
 use mathlib.Core.Path.{sym, subst, _∙_}
 use borrow.Author.Needs.{needs}
-use Rattle.sheet.specs.Values.{scenarioFrom}
-use Rattle.sheet.specs.Counts.{noGuidance, noCells}
+use Rattle.scenario.specs.Scenario.{scenarioFrom, noGuidance}
+use Rattle.sheet.specs.Counts.{noCells}
 use Rattle.sheet.specs.Inner.{ZeroFrom}
 use Rattle.sheet.proofs.CellLaws.{zeros}
-use Rattle.sheet.proofs.ValueLaws.{all-alike}
+use Rattle.lists.proofs.Tabulated.{all-alike}
 use Rattle.sheet.proofs.CountLaws.{many-chemicals, many-receptors, other-year, chemical-stops, sources-few, line-stops, all-counted}
 use Rattle.sheet.proofs.counts_of.Statement.{statement}
 use Rattle.sheet.proofs.counts_of.Tie as tie

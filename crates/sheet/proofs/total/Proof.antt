@@ -5,7 +5,7 @@ use native.Mathlib.Omega.{arith}
 use borrow.Author.Tests.{eq-eqb, ne-eqb, le-ltb, lt-ltb}
 use borrow.Author.Needs.{needs}
 use Rattle.sheet.specs.Counts.{isHeld, totalFound, totalIn}
-use Rattle.sheet.proofs.ValueLaws.{side-small}
+use Rattle.sheet.proofs.TotalsTold.{side-small}
 use Rattle.sheet.proofs.total.Statement.{statement}
 use Rattle.sheet.proofs.total.Tie as tie
 

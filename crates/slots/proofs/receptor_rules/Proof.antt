@@ -4,7 +4,7 @@ use mathlib.Core.Path.{ap, sym, _∙_}
 use native.Mathlib.Omega.{arith}
 use Rattle.slots.specs.declared.Owner.the-variants.{Receptor}
 use Rattle.slots.specs.Slots.{lineRules, ruleAt, ruleIn, table}
-use Rattle.slots.proofs.Laws.{later-line}
+use Rattle.slots.proofs.SlotLaws.{later-line}
 use Rattle.slots.proofs.receptor_rules.Statement.{statement}
 use Rattle.slots.proofs.receptor_rules.Tie as tie
 

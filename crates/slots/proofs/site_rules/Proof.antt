@@ -3,7 +3,7 @@ use mathlib.Core.Path.{ap, sym}
 use native.Mathlib.Omega.{arith}
 use Rattle.slots.specs.declared.Owner.the-variants.{Site}
 use Rattle.slots.specs.Slots.{lineRules, ruleAt, ruleIn, table}
-use Rattle.slots.proofs.Laws.{later-line}
+use Rattle.slots.proofs.SlotLaws.{later-line}
 use Rattle.slots.proofs.site_rules.Statement.{statement}
 use Rattle.slots.proofs.site_rules.Tie as tie
 

@@ -5,9 +5,8 @@ use Prim.Native.Nat.{_+_, _*_, _-_, _≤_}
 use native.Mathlib.Omega.{arith}
 use borrow.Author.Needs.{needs}
 use lib.ListN.{length, drop}
-use Rattle.totals.specs.Totals.{largestNumber, allAtMost}
-use Rattle.totals.specs.Totals.{listSum as sumOf}
-use Rattle.totals.proofs.Sums.{sum-from, all-past, too-many, too-large, summed}
+use Rattle.totals.specs.Totals.{largestNumber, allAtMost, listSum as sumOf}
+use Rattle.totals.proofs.TotalSums.{sum-from, all-past, too-many, too-large, summed}
 use Rattle.totals.proofs.total.Statement.{statement}
 use Rattle.totals.proofs.total.Tie as tie
 

@@ -1,9 +1,9 @@
 -- `composite::stages::added` meets its contract. Assumes nothing.
 use mathlib.Core.Path.{refl}
 use borrow.Author.Needs.{needs}
-use Rattle.years.specs.Years as years
-use Rattle.years.specs.Years.{time}
-use Rattle.sheet.specs.Values.{orNone}
+use Rattle.times.specs.Times as years
+use Rattle.times.specs.Times.{time}
+use Rattle.scenario.specs.Scenario.{orNone}
 use Rattle.composite.proofs.stages.added.Statement.{statement}
 use Rattle.composite.proofs.stages.added.Tie as tie
 

@@ -8,9 +8,9 @@ use lib.ListN.{replicate}
 use Rattle.pair.specs.Number.{one}
 use Rattle.pair.specs.Calls.{onePair, answer}
 use Rattle.equations.specs.Formula.{pairs}
-use Rattle.deck.specs.Cases.{tabulate}
-use Rattle.deck.proofs.CaseLaws.{filled-start, filled-more}
-use Rattle.sheet.specs.Values.{orOne}
+use Rattle.lists.specs.Lists.{tabulate}
+use Rattle.lists.proofs.Tabulated.{filled-start, filled-more}
+use Rattle.scenario.specs.Scenario.{orOne}
 use Rattle.composite.specs.Composite.{composed}
 use Rattle.composite.specs.Inner.{stageIn, composedIn}
 use Rattle.composite.proofs.StageLaws.{years-summed}

@@ -2,7 +2,7 @@
 use mathlib.Core.Path.{refl}
 use Rattle.pair.specs.Number.{one}
 use Rattle.pair.specs.Calls.{onePair}
-use Rattle.sheet.specs.Values.{pairOf, valuesOf, noReceptor}
+use Rattle.scenario.specs.Scenario.{pairOf, valuesOf, noReceptor}
 use Rattle.composite.proofs.stages.no_receptor.Statement.{statement}
 use Rattle.composite.proofs.stages.no_receptor.Tie as tie
 

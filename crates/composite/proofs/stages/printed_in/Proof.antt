@@ -1,7 +1,7 @@
 -- `composite::stages::printed_in` meets its contract. Assumes nothing.
 use borrow.Author.Needs.{needs}
 use Rattle.slots.specs.Slots.{table, same, isIn, placeIn, ownerOf, placeOf}
-use Rattle.deck.specs.Cases.{valueAt}
+use Rattle.cases.specs.Cases.{valueAt}
 use Rattle.composite.proofs.stages.printed_in.Statement.{statement}
 use Rattle.composite.proofs.stages.printed_in.Tie as tie
 

@@ -1,6 +1,6 @@
 -- `composite::stages::value_in` meets its contract. Assumes nothing.
 use borrow.Author.Needs.{needs}
-use Rattle.deck.specs.Cases.{valueAt}
+use Rattle.cases.specs.Cases.{valueAt}
 use Rattle.composite.proofs.stages.value_in.Statement.{statement}
 use Rattle.composite.proofs.stages.value_in.Tie as tie
 

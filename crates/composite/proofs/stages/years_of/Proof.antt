@@ -8,8 +8,8 @@ use lib.ListN.{length, replicate, length-map}
 use Rattle.pair.specs.Number.{one}
 use Rattle.pair.specs.Calls.{onePair}
 use Rattle.slots.specs.Slots.{table, same, isIn, placeIn, ownerOf, placeOf}
-use Rattle.deck.specs.Cases.{tabulate}
-use Rattle.deck.proofs.CaseLaws.{filled-start, filled-more}
+use Rattle.lists.specs.Lists.{tabulate}
+use Rattle.lists.proofs.Tabulated.{filled-start, filled-more}
 use Rattle.composite.specs.Inner.{pairIn, yearsIn}
 use Rattle.composite.proofs.StageLaws.{value-is}
 use Rattle.composite.proofs.stages.years_of.Statement.{statement}

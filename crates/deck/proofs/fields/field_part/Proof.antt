@@ -7,7 +7,7 @@ use mathlib.Core.Path.{ap, sym, _∙_}
 use native.Mathlib.Nat.{add-sub-cancel-left}
 use lib.ListN.{take, drop}
 use denote.Ref.{now}
-use Rattle.deck.proofs.Parts.{field-zero, field-past, field-is}
+use Rattle.deck.proofs.PartLaws.{field-zero, field-past, field-is}
 use Rattle.deck.proofs.fields.field_part.Statement.{statement}
 use Rattle.deck.proofs.fields.field_part.Tie as tie
 

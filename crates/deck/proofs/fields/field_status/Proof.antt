@@ -2,7 +2,7 @@
 -- Assumes nothing.
 use borrow.Author.Needs.{needs}
 use mir.Facts.{toZ-ofZ}
-use Rattle.deck.proofs.First.{field-other, field-missing, field-blank, field-dash, field-no-dash, field-number, field-later}
+use Rattle.deck.proofs.FieldLaws.{field-other, field-missing, field-blank, field-dash, field-no-dash, field-number, field-later}
 use Rattle.deck.proofs.fields.field_status.Statement.{statement}
 use Rattle.deck.proofs.fields.field_status.Tie as tie
 

@@ -7,14 +7,14 @@ use borrow.Author.Needs.{needs}
 use mathlib.Core.Path.{_≡_, refl, sym, ap, _∙_, subst}
 use lib.ListN.{length, take, length-set}
 use denote.Ref.{now}
-use Rattle.deck.specs.Numbers.{wordOf}
-use Rattle.deck.specs.Conditions.{first, upTo}
-use Rattle.deck.specs.Cases.{tabulate}
+use Rattle.spelling.specs.Spelling.{wordOf}
+use Rattle.cases.specs.Conditions.{first, upTo}
+use Rattle.lists.specs.Lists.{tabulate}
 use Rattle.deck.specs.Inner.{Small, packedIn}
-use Rattle.deck.specs.declared.Status.the-variants.{Read}
-use Rattle.deck.proofs.First.{turn-on, turn-out, fieldBy, field-turn, fields-by}
-use Rattle.deck.proofs.Scan.{never}
-use Rattle.deck.proofs.Accepted.{field-small}
+use Rattle.cases.specs.declared.Status.the-variants.{Read}
+use Rattle.cases.proofs.FirstMet.{turn-on, turn-out, never}
+use Rattle.deck.proofs.FieldLaws.{fieldBy, field-turn, fields-by}
+use Rattle.deck.proofs.SpelledWords.{field-small}
 use Rattle.deck.proofs.Packed.{fields-more, fields-all}
 use Rattle.deck.proofs.fields.fields_status.Statement.{statement}
 use Rattle.deck.proofs.fields.fields_status.Tie as tie
@@ -45,8 +45,8 @@ add-next c = omega arith
 field-part-requires : tie.Need-field-part-requires Inv-loop μ-loop
 field-part-requires c κs = c .before .before .before .before .before .before .pre .0
 
-word-requires : tie.Need-word-requires Inv-loop μ-loop
-word-requires c κs = search needs
+number-requires : tie.Need-number-requires Inv-loop μ-loop
+number-requires c κs = search needs
 
 field-status-requires : tie.Need-field-status-requires Inv-loop μ-loop
 field-status-requires c κs = search needs
@@ -65,7 +65,7 @@ returns c =
     let a = c .before .before .before .before .before .before .before .before .before .before .before .args in
     let l = c .before .before .before .before .before .before .before .loop in
     let rules = c .before .before .before .before .before .before .before .before .rules in
-    let w = c .before .before .before .word .ensures ∙ ap wordOf (c .before .before .before .before .field-part .ensures) in
+    let w = c .before .before .before .number .ensures .0 ∙ ap wordOf (c .before .before .before .before .field-part .ensures) in
     let turn = field-turn (a .n) (l .f) (now (a .line)) _ (rules .result) _ _ (omega arith) w (c .before .before .field-status .ensures) in (
       turn-out (fieldBy (rules .result) (now (a .line)) (a .n)) (l .f) 6 (c .before .before .before .before .before .before .loop-test .taken) (l .inv .1) _ turn _ _ _ (c .enum-told2 .given .1)
           ∙ fields-by (a .sort) (a .kind) (a .n) (now (a .line)) _ (rules .ensures) 6,
@@ -74,7 +74,7 @@ returns c =
 
 packed-requires : tie.Need-packed-requires Inv-loop μ-loop
 packed-requires c κs =
-    subst Small (sym (c .before .before .before .word .ensures ∙ ap wordOf (c .before .before .before .before .field-part .ensures))) (field-small _ _)
+    subst Small (sym (c .before .before .before .number .ensures .0 ∙ ap wordOf (c .before .before .before .before .field-part .ensures))) (field-small _ _)
 
 mul-values : tie.Need-mul-values Inv-loop μ-loop
 mul-values c = omega arith
@@ -90,7 +90,7 @@ loop-again c =
     let a = c .before .before .before .before .before .before .before .before .before .before .before .before .args in
     let l = c .before .before .before .before .before .before .before .before .loop in
     let rules = c .before .before .before .before .before .before .before .before .before .rules in
-    let w = c .before .before .before .before .word .ensures ∙ ap wordOf (c .before .before .before .before .before .field-part .ensures) in
+    let w = c .before .before .before .before .number .ensures .0 ∙ ap wordOf (c .before .before .before .before .before .field-part .ensures) in
     let turn = field-turn (a .n) (l .f) (now (a .line)) _ (rules .result) _ _ (omega arith) w (c .before .before .before .field-status .ensures) in (
       omega arith,
       turn-on (fieldBy (rules .result) (now (a .line)) (a .n)) (l .f) (l .inv .1) _ turn (c .before .enum-told .given .1),
@@ -123,7 +123,7 @@ fields-status-spec =
     array-copy-out-rule
     add-next
     field-part-requires
-    word-requires
+    number-requires
     field-status-requires
     enum-told
     enum-told-2

@@ -3,7 +3,7 @@
 use borrow.Author.Needs.{needs}
 use mathlib.Core.Path.{_∙_, sym, ap}
 use mir.Facts.{toZ-ofZ}
-use Rattle.deck.specs.Ranges.{inRange}
+use Rattle.cases.specs.Ranges.{inRange}
 use Rattle.deck.proofs.fields.range_status.Statement.{statement}
 use Rattle.deck.proofs.fields.range_status.Tie as tie
 

@@ -1,6 +1,6 @@
 -- `deck::lines::bad_bytes` meets its contract: the columns first, then the line feed.
 -- Assumes nothing.
-use Rattle.deck.proofs.LineLaws.{bytes-count, bytes-feed}
+use Rattle.deck.proofs.LineConditionLaws.{bytes-count, bytes-feed}
 use borrow.Author.Needs.{needs}
 use Rattle.deck.proofs.lines.bad_bytes.Statement.{statement}
 use Rattle.deck.proofs.lines.bad_bytes.Tie as tie

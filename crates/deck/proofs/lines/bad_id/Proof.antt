@@ -1,7 +1,7 @@
 -- `deck::lines::bad_id` meets its contract. EN, or any other kind.
 -- Assumes nothing.
 use borrow.Author.Needs.{needs}
-use Rattle.deck.proofs.LineLaws.{end-blank, other-id}
+use Rattle.deck.proofs.LineConditionLaws.{end-blank, other-id}
 use denote.Ref.{now}
 use Rattle.deck.proofs.lines.bad_id.Statement.{statement}
 use Rattle.deck.proofs.lines.bad_id.Tie as tie

@@ -1,7 +1,7 @@
 -- `deck::lines::bad_kind` meets its contract: one law for each way out.
 -- Assumes nothing.
 use borrow.Author.Needs.{needs}
-use Rattle.deck.proofs.LineLaws.{kind-out, kind-chemical, kind-receptor, kind-other}
+use Rattle.deck.proofs.LineConditionLaws.{kind-out, kind-chemical, kind-receptor, kind-other}
 use Rattle.deck.proofs.lines.bad_kind.Statement.{statement}
 use Rattle.deck.proofs.lines.bad_kind.Tie as tie
 

@@ -1,8 +1,8 @@
 -- `deck::lines::begins_record` meets its contract: one of three kinds.
 -- Assumes nothing.
 use borrow.Author.Needs.{needs}
-use Rattle.deck.specs.Conditions.{begins}
-use Rattle.deck.proofs.LineLaws.{among-first, among-later}
+use Rattle.deck.specs.DeckConditions.{begins}
+use Rattle.deck.proofs.LineConditionLaws.{among-first, among-later}
 use Rattle.deck.proofs.lines.begins_record.Statement.{statement}
 use Rattle.deck.proofs.lines.begins_record.Tie as tie
 

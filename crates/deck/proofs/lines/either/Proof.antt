@@ -1,6 +1,6 @@
 -- `deck::lines::either` meets its contract: the first or the second.
 -- Assumes nothing.
-use Rattle.deck.proofs.LineLaws.{among-first, among-later, among-one}
+use Rattle.deck.proofs.LineConditionLaws.{among-first, among-later, among-one}
 use Rattle.deck.proofs.lines.either.Statement.{statement}
 use Rattle.deck.proofs.lines.either.Tie as tie
 

@@ -1,7 +1,7 @@
 -- `deck::lines::id_of` meets its contract: columns 3-8.
 -- Assumes nothing.
 use borrow.Author.Needs.{needs}
-use Rattle.deck.specs.Conditions.{idOf}
+use Rattle.deck.specs.DeckConditions.{idOf}
 use Rattle.deck.proofs.lines.id_of.Statement.{statement}
 use Rattle.deck.proofs.lines.id_of.Tie as tie
 

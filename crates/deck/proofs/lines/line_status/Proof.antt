@@ -1,8 +1,8 @@
 -- `deck::lines::line_status` meets its contract: the conditions in their order.
 -- Assumes nothing.
 use borrow.Author.Needs.{needs}
-use Rattle.deck.proofs.LineLaws.{line-bytes, line-kind, line-id, line-fields}
-use Rattle.deck.proofs.Scan.{never}
+use Rattle.deck.proofs.LineConditionLaws.{line-bytes, line-kind, line-id, line-fields}
+use Rattle.cases.proofs.FirstMet.{never}
 use mathlib.Core.Path.{refl}
 use denote.Ref.{now}
 use Rattle.deck.proofs.lines.line_status.Statement.{statement}

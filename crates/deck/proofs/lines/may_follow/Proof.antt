@@ -4,7 +4,7 @@ use borrow.Author.Needs.{needs}
 use mathlib.Core.Path.{sym, ap, _∙_}
 use Prim.Native.Nat.{ℕ}
 use Rattle.deck.specs.Kinds.{befores, kindOrder, among}
-use Rattle.deck.proofs.LineLaws.{among-one, follows-none}
+use Rattle.deck.proofs.LineConditionLaws.{among-one, follows-none}
 use Rattle.deck.proofs.lines.may_follow.Statement.{statement}
 use Rattle.deck.proofs.lines.may_follow.Tie as tie
 

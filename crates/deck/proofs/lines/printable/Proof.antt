@@ -6,7 +6,7 @@ use borrow.Author.Needs.{needs}
 use mathlib.Core.Path.{_≡_}
 use denote.Ref.{now}
 use Rattle.deck.specs.Inner.{Printable}
-use Rattle.deck.proofs.LineLaws.{printable-none, printable-more}
+use Rattle.deck.proofs.LineConditionLaws.{printable-none, printable-more}
 use Rattle.deck.proofs.lines.printable.Statement.{statement}
 use Rattle.deck.proofs.lines.printable.Tie as tie
 

@@ -1,6 +1,6 @@
 -- `deck::lines::prints` meets its contract: by the tests.
 -- Assumes nothing.
-use Rattle.deck.proofs.Leading.{within-yes, within-low, within-high}
+use Rattle.spelling.proofs.Leading.{within-yes, within-low, within-high}
 use Rattle.deck.proofs.lines.prints.Statement.{statement}
 use Rattle.deck.proofs.lines.prints.Tie as tie
 

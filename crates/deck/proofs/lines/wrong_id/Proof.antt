@@ -1,7 +1,7 @@
 -- `deck::lines::wrong_id` meets its contract: one law for each way out.
 -- Assumes nothing.
 use borrow.Author.Needs.{needs}
-use Rattle.deck.proofs.LineLaws.{id-none, id-rises, id-first, id-same}
+use Rattle.deck.proofs.LineConditionLaws.{id-none, id-rises, id-first, id-same}
 use Rattle.deck.proofs.lines.wrong_id.Statement.{statement}
 use Rattle.deck.proofs.lines.wrong_id.Tie as tie
 

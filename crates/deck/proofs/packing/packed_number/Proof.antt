@@ -4,7 +4,7 @@ use borrow.Author.Needs.{needs}
 use native.Mathlib.Omega.{arith}
 use mathlib.Core.Path.{ap, _∙_}
 use mir.Facts.{toZ-ofZ}
-use Rattle.deck.specs.Ranges.{above, below}
+use Rattle.powers.specs.Powers.{above, below}
 use Rattle.deck.proofs.packing.packed_number.Statement.{statement}
 use Rattle.deck.proofs.packing.packed_number.Tie as tie
 

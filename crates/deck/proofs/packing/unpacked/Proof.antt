@@ -5,7 +5,7 @@ use Prim.Native.Nat.{_/_}
 use borrow.Author.Tests.{eq-eqb, ne-eqb}
 use mathlib.Core.Path.{ap, _∙_}
 use Rattle.deck.specs.Inner.{unpackedOf}
-use Rattle.deck.specs.declared.Value.the-variants.{Printed}
+use Rattle.cases.specs.declared.Value.the-variants.{Printed}
 use mir.Facts.{toZ-ofZ}
 use lib.IntN.{ℤ}
 use Rattle.deck.proofs.packing.unpacked.Statement.{statement}
@@ -15,16 +15,13 @@ returns : tie.Need-returns
 unfolding unpackedOf
 returns c = simp (eq-eqb _ _ (c .if1 .taken))
 
-cast-difference : tie.Need-cast-difference
-cast-difference c = search needs
-
-difference-requires : tie.Need-difference-requires
-difference-requires c κs = search needs
+power-in-requires : tie.Need-power-in-requires
+power-in-requires c κs = search needs
 
 returns-2 : tie.Need-returns-2
 unfolding unpackedOf
 returns-2 c =
-    simp (ne-eqb _ _ (c .before .if1 .left)) (ap (λ (z : ℤ). Printed z (c .before .before .args .v / 256)) (toZ-ofZ (record { sfits = c .difference .ok }) ∙ c .difference .ensures))
+    simp (ne-eqb _ _ (c .before .if1 .left)) (ap (λ (z : ℤ). Printed z (c .before .before .args .v / 256)) (toZ-ofZ (record { sfits = c .power-in .ok }) ∙ c .power-in .ensures))
 
 pub unpacked-spec : {M : Type 1} → statement M
-unpacked-spec = tie.close (tie.spec returns cast-difference difference-requires returns-2)
+unpacked-spec = tie.close (tie.spec returns power-in-requires returns-2)

@@ -1,7 +1,7 @@
 -- `deck::records::case_with` meets its contract: the site, the chemicals and the receptors, each by its own contract.
 -- Assumes nothing.
 use borrow.Author.Needs.{needs}
-use Rattle.deck.proofs.CaseLaws.{case-is}
+use Rattle.deck.proofs.DeckCaseLaws.{case-is}
 use denote.Ref.{now}
 use Rattle.deck.proofs.records.case_with.Statement.{statement}
 use Rattle.deck.proofs.records.case_with.Tie as tie

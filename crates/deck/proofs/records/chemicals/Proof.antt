@@ -1,6 +1,7 @@
 -- `deck::records::chemicals` meets its contract. The invariant: the records so far, then empty ones.
 -- Assumes nothing.
-use Rattle.deck.proofs.CaseLaws.{filled-start, filled-more, records-are}
+use Rattle.lists.proofs.Tabulated.{filled-start, filled-more}
+use Rattle.deck.proofs.DeckCaseLaws.{records-are}
 use denote.Ref.{now}
 use native.Mathlib.Omega.{arith}
 use borrow.Author.Needs.{needs}
@@ -8,7 +9,9 @@ use mathlib.Core.Path.{_≡_, ap, _∙_}
 use Prim.Native.Nat.{_-_, _≤_, _+_, _*_}
 use mathlib.Core.List.{_++_}
 use lib.ListN.{replicate}
-use Rattle.deck.specs.Cases.{tabulate, recordOf, noRecord}
+use Rattle.lists.specs.Lists.{tabulate}
+use Rattle.deck.specs.DeckCase.{recordOf}
+use Rattle.cases.specs.Cases.{noRecord}
 use Rattle.deck.proofs.records.chemicals.Statement.{statement}
 use Rattle.deck.proofs.records.chemicals.Tie as tie
 

@@ -1,10 +1,10 @@
 -- `deck::records::id_at` meets its contract: a line that the deck lacks has no id.
 -- Assumes nothing.
 use borrow.Author.Needs.{needs}
-use Rattle.deck.proofs.CaseLaws.{line-full, id-lacking}
+use Rattle.deck.proofs.DeckCaseLaws.{line-full, id-lacking}
 use denote.Ref.{now}
 use mathlib.Core.Path.{ap, _∙_}
-use Rattle.deck.specs.Conditions.{idOf}
+use Rattle.deck.specs.DeckConditions.{idOf}
 use Rattle.deck.proofs.records.id_at.Statement.{statement}
 use Rattle.deck.proofs.records.id_at.Tie as tie
 

@@ -1,7 +1,8 @@
 -- `deck::records::record_at` meets its contract. The invariant: the slots so far, then empty ones.
 -- Assumes nothing.
 use Rattle.deck.proofs.Packed.{kept-length, slot-kept}
-use Rattle.deck.proofs.CaseLaws.{filled-start, filled-more, record-is}
+use Rattle.lists.proofs.Tabulated.{filled-start, filled-more}
+use Rattle.deck.proofs.DeckCaseLaws.{record-is}
 use denote.Ref.{now}
 use native.Mathlib.Omega.{arith}
 use borrow.Author.Needs.{needs}
@@ -9,7 +10,9 @@ use mathlib.Core.Path.{_≡_}
 use Prim.Native.Nat.{_-_, _≤_, _<_, _*_}
 use mathlib.Core.List.{_++_}
 use lib.ListN.{replicate}
-use Rattle.deck.specs.Cases.{tabulate, slotSpelled, noSlot}
+use Rattle.lists.specs.Lists.{tabulate}
+use Rattle.deck.specs.DeckCase.{slotSpelled}
+use Rattle.cases.specs.Cases.{noSlot}
 use Rattle.deck.proofs.records.record_at.Statement.{statement}
 use Rattle.deck.proofs.records.record_at.Tie as tie
 

@@ -1,7 +1,8 @@
 -- `deck::scanning::scan_lines` meets its contract. The invariant: what is carried is what the lines before say, and none of their conditions holds.
 -- Assumes nothing.
 use Rattle.deck.proofs.Packed.{Kept, kept-none, kept-room, kept-more, kept-all}
-use Rattle.deck.proofs.Scan.{all, in-room, Scanned, scanned-start, scan-out, scan-on, scan-end, scan-counts, never, line-whole}
+use Rattle.deck.proofs.Scan.{all, in-room, Scanned, scanned-start, scan-out, scan-on, scan-end, scan-counts, line-whole}
+use Rattle.cases.proofs.FirstMet.{never}
 use denote.Ref.{now}
 use native.Mathlib.Omega.{arith}
 use mathlib.Core.Path.{_≡_, sym, ap, _∙_}

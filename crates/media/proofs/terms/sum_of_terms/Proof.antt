@@ -10,7 +10,7 @@ use Rattle.pair.specs.Number.{one}
 use Rattle.pair.specs.Calls.{Outcome, is, answer, after, onePair, entry, sum, product, quotient, partial, nextTerm}
 use Rattle.equations.specs.Formula.{pairs}
 use Rattle.equations.specs.Series.{phi, step}
-use Rattle.equations.proofs.Figures.{firstPair}
+use Rattle.equations.proofs.SeriesFigures.{firstPair}
 use Rattle.media.proofs.Sofar.{Sofar, nextOf, start, at-none, entered, step-refused, again, stopped, done}
 use Rattle.media.proofs.terms.sum_of_terms.Statement.{statement}
 use Rattle.media.proofs.terms.sum_of_terms.Tie as tie

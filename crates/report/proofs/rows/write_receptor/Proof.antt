@@ -8,8 +8,8 @@ use borrow.Author.Needs.{needs}
 use borrow.Rule.Slice.PartMut.{mid-len, same-len-mid}
 use lib.ListN.{length, drop, length-map}
 use Rattle.text.specs.Text.{linesText}
-use Rattle.sheet.specs.Sheet.{chained}
-use Rattle.report.specs.Scenario.{linesIn}
+use Rattle.lists.specs.Lists.{chained}
+use Rattle.report.specs.InMemory.{linesIn}
 use Rattle.report.proofs.Written.{line-more, total-more}
 use Rattle.report.proofs.rows.write_receptor.Statement.{statement}
 use Rattle.report.proofs.rows.write_receptor.Tie as tie

@@ -9,8 +9,8 @@ use borrow.Author.Needs.{needs}
 use borrow.Rule.Slice.PartMut.{mid-len, same-len-mid}
 use lib.ListN.{length, drop, length-map}
 use Rattle.text.specs.Text.{linesText}
-use Rattle.sheet.specs.Sheet.{chained}
-use Rattle.report.specs.Scenario.{reportIn}
+use Rattle.lists.specs.Lists.{chained}
+use Rattle.report.specs.InMemory.{reportIn}
 use Rattle.report.proofs.Written.{within, receptor-more}
 use Rattle.report.proofs.rows.write_rows.Statement.{statement}
 use Rattle.report.proofs.rows.write_rows.Tie as tie

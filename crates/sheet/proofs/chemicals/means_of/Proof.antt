@@ -6,11 +6,10 @@ use Prim.Native.Nat.{_+_, _-_, _≤_, _<_}
 use native.Mathlib.Omega.{arith}
 use borrow.Author.Needs.{needs}
 use lib.ListN.{length, getD, replicate, length-map}
-use Rattle.deck.specs.Cases.{tabulate}
-use Rattle.deck.proofs.CaseLaws.{filled-start, filled-more}
+use Rattle.lists.specs.Lists.{tabulate, anyOf}
+use Rattle.lists.proofs.Tabulated.{filled-start, filled-more}
 use Rattle.media.specs.Media.{found, noMedia}
-use Rattle.sheet.specs.Values.{noReceptor}
-use Rattle.sheet.specs.Counts.{anyOf}
+use Rattle.scenario.specs.Scenario.{noReceptor}
 use Rattle.sheet.specs.Counts.{isRefused, meanWith}
 use Rattle.sheet.specs.Inner.{mediaFrom, meansOf}
 use Rattle.sheet.proofs.ChemicalLaws.{mean-at, mean-on, mean-stops}

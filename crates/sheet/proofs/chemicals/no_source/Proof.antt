@@ -6,8 +6,8 @@ use Rattle.pair.specs.Calls.{onePair}
 use Rattle.slots.specs.Slots.{table, same, isIn, placeIn, ownerOf, placeOf}
 use Rattle.equations.specs.Readings.{valueIn}
 use Rattle.pathway.specs.Lines.{absorbedOf}
-use Rattle.deck.specs.Cases.{valueAt}
-use Rattle.sheet.specs.Values.{pairOf, valuesOf}
+use Rattle.cases.specs.Cases.{valueAt}
+use Rattle.scenario.specs.Scenario.{pairOf, valuesOf}
 use Rattle.sheet.specs.Inner.{noMeans, rfdOf, csfOf, referencesOf, sourceWith, noSource}
 use Rattle.sheet.proofs.chemicals.no_source.Statement.{statement}
 use Rattle.sheet.proofs.chemicals.no_source.Tie as tie

@@ -7,12 +7,12 @@ use native.Mathlib.Omega.{arith}
 use borrow.Author.Needs.{needs}
 use borrow.Author.Tests.{not-true, not-false}
 use lib.ListN.{length, getD, replicate, length-map}
-use Rattle.deck.specs.declared.Status.the-variants.{Read}
-use Rattle.deck.specs.Conditions.{first}
-use Rattle.deck.specs.Cases.{tabulate, noRecord}
-use Rattle.deck.proofs.Scan.{never}
-use Rattle.deck.proofs.CaseLaws.{filled-start, filled-more}
-use Rattle.sheet.specs.Sheet.{chained}
+use Rattle.cases.specs.declared.Status.the-variants.{Read}
+use Rattle.cases.specs.Conditions.{first}
+use Rattle.lists.specs.Lists.{tabulate, chained}
+use Rattle.cases.specs.Cases.{noRecord}
+use Rattle.cases.proofs.FirstMet.{never}
+use Rattle.lists.proofs.Tabulated.{filled-start, filled-more}
 use Rattle.sheet.specs.Inner.{noSource, sourceOf, sourcesOf, refusedSource}
 use Rattle.sheet.proofs.ChemicalLaws.{source-is, goes-on, stops}
 use Rattle.sheet.proofs.chemicals.sources_of.Statement.{statement}

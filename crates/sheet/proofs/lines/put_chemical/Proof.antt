@@ -9,10 +9,10 @@ use borrow.Author.Needs.{needs}
 use lib.ListN.{length, length-map}
 use Rattle.equations.specs.declared.Effect.the-variants.{Hazard, Cancer}
 use Rattle.pathway.specs.Lines.{figured}
-use Rattle.deck.specs.declared.Status.the-variants.{Read}
-use Rattle.deck.specs.Conditions.{first}
-use Rattle.deck.proofs.Scan.{never}
-use Rattle.sheet.specs.Sheet.{chained}
+use Rattle.cases.specs.declared.Status.the-variants.{Read}
+use Rattle.cases.specs.Conditions.{first}
+use Rattle.cases.proofs.FirstMet.{never}
+use Rattle.lists.specs.Lists.{chained}
 use Rattle.sheet.specs.Inner.{figureFor, columnsFrom, largeLine, largeChemical, withCounts, CellsHold, SameBut}
 use Rattle.sheet.proofs.ReceptorLaws.{large-is, columns-are, line-fits, line-stops}
 use Rattle.sheet.proofs.CellLaws.{line-length, line-others, line-held}

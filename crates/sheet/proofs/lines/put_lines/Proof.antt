@@ -6,10 +6,10 @@ use native.Mathlib.Nat.{not-suc-le-zero}
 use native.Mathlib.Omega.{arith}
 use borrow.Author.Needs.{needs}
 use lib.ListN.{length, length-map}
-use Rattle.deck.specs.declared.Status.the-variants.{Read}
-use Rattle.deck.specs.Conditions.{first}
-use Rattle.deck.proofs.Scan.{never}
-use Rattle.sheet.specs.Sheet.{chained}
+use Rattle.cases.specs.declared.Status.the-variants.{Read}
+use Rattle.cases.specs.Conditions.{first}
+use Rattle.cases.proofs.FirstMet.{never}
+use Rattle.lists.specs.Lists.{chained}
 use Rattle.sheet.specs.Counts.{cellOf}
 use Rattle.sheet.specs.Inner.{sourceAt, columnsWorked, largeChemical, largeWorked, CellsHold, CellsEmpty, SameBelow, ZeroFrom}
 use Rattle.sheet.proofs.ReceptorLaws.{lines-are, chemical-on, chemical-stops}

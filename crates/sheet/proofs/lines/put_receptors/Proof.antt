@@ -6,10 +6,10 @@ use native.Mathlib.Nat.{mul-le-mul-right, not-suc-le-zero}
 use native.Mathlib.Omega.{arith}
 use borrow.Author.Needs.{needs}
 use lib.ListN.{length, length-map}
-use Rattle.deck.specs.declared.Status.the-variants.{Read}
-use Rattle.deck.specs.Conditions.{first}
-use Rattle.deck.proofs.Scan.{never}
-use Rattle.sheet.specs.Sheet.{chained}
+use Rattle.cases.specs.declared.Status.the-variants.{Read}
+use Rattle.cases.specs.Conditions.{first}
+use Rattle.cases.proofs.FirstMet.{never}
+use Rattle.lists.specs.Lists.{chained}
 use Rattle.sheet.specs.Inner.{allLarge, CellsFilled, ZeroFrom}
 use Rattle.sheet.proofs.ReceptorLaws.{receptor-is, large-on, large-stops}
 use Rattle.sheet.proofs.CellLaws.{receptor-held}

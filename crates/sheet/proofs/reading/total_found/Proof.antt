@@ -5,7 +5,7 @@ use borrow.Author.Needs.{needs}
 use Rattle.totals.specs.declared.Sum.the-variants.{Is, Refused}
 use Rattle.totals.specs.Totals.{totalled}
 use Rattle.sheet.specs.Counts.{totalledFrom, totalFound}
-use Rattle.sheet.proofs.ValueLaws.{total-told}
+use Rattle.sheet.proofs.TotalsTold.{total-told}
 use Rattle.sheet.proofs.reading.total_found.Statement.{statement}
 use Rattle.sheet.proofs.reading.total_found.Tie as tie
 

@@ -4,54 +4,41 @@ use Prim.Native.Nat.{_+_, _-_}
 use native.Mathlib.Omega.{arith}
 use borrow.Author.Needs.{needs}
 use borrow.Rule.Slice.PartMut.{mid-len}
-use Rattle.text.proofs.Filling.{number-filled, length-number}
-use Rattle.text.proofs.Places.{placed-part}
+use Rattle.spelling.proofs.Filling.{number-in, length-number}
+use Rattle.lists.proofs.Placed.{placed-part}
 use Rattle.text.proofs.lines.put_number.Statement.{statement}
 use Rattle.text.proofs.lines.put_number.Tie as tie
 
-add-fill : tie.Need-add-fill
-add-fill c = search needs
+add-put-number : tie.Need-add-put-number
+add-put-number c = search needs
 
-sub-fill : tie.Need-sub-fill
-sub-fill c = search needs
+sub-put-number : tie.Need-sub-put-number
+sub-put-number c = search needs
 
-part-fill-start : tie.Need-part-fill-start
-part-fill-start c = search needs
+part-put-number-start : tie.Need-part-put-number-start
+part-put-number-start c = search needs
 
-part-fill-end : tie.Need-part-fill-end
-part-fill-end c = search needs
+part-put-number-end : tie.Need-part-put-number-end
+part-put-number-end c = search needs
 
-digit-requires : tie.Need-digit-requires
-digit-requires c κs = search needs
-
-fill-requires : tie.Need-fill-requires
-fill-requires c κs = search needs
+put-number-requires : tie.Need-put-number-requires
+put-number-requires c κs = search needs
 
 same-length : tie.Need-same-length
 same-length c = search needs
 
 returns : tie.Need-returns
 returns c =
-    let a = c .before .before .before .before .before .before .args in
+    let s = c .before .before .before .before .before in
+    let a = s .args in
     let line = a .line .now in
-    let part = c .before .before .fill in
+    let part = c .before .before .put-number in
     let wide : a .at + a .width - a .at ≡ a .width = omega arith in
     placed-part line (part .last .0) _ (a .at) (a .width)
-    (number-filled (part .last .0) (a .width) _ (a .n) _
-    (mid-len (a .at) (a .at + a .width) line (c .before .before .before .before .before .before .pre .1) ∙ wide)
-    (c .before .before .before .digit .ensures)
-    (part .ensures))
-    (length-number (a .width) (a .n) (c .before .before .before .before .before .before .pre .0))
+    (number-in _ (part .last .0) (a .width) (mid-len (a .at) (a .at + a .width) line (s .pre .1) ∙ wide) (s .pre .0) (a .n) (part .ensures))
+    (length-number (a .width) (a .n) (s .pre .0))
 
 pub put-number-spec : {M : Type 1} → statement M
 put-number-spec =
     tie.close
-    (tie.spec
-    add-fill
-    sub-fill
-    part-fill-start
-    part-fill-end
-    digit-requires
-    fill-requires
-    same-length
-    returns)
+    (tie.spec add-put-number sub-put-number part-put-number-start part-put-number-end put-number-requires same-length returns)

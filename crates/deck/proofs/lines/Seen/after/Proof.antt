@@ -2,7 +2,7 @@
 -- Assumes nothing.
 use borrow.Author.Needs.{needs}
 use mathlib.Core.Path.{refl}
-use Rattle.deck.proofs.LineLaws.{count-more, count-same, no-receptor}
+use Rattle.deck.proofs.LineConditionLaws.{count-more, count-same, no-receptor}
 use Rattle.deck.proofs.lines.Seen.after.Statement.{statement}
 use Rattle.deck.proofs.lines.Seen.after.Tie as tie
 

@@ -1,0 +1,143 @@
+-- The first condition that holds, in lists that are put together; and a number that no condition of a list has.
+-- Assumes nothing.
+use Prim.Native.Nat.{ℕ, zero, suc, _+_, _-_, _<_}
+use native.Mathlib.Nat.{add-zero, add-suc, eq-or-lt-of-le, le-of-suc-le-suc, not-suc-le-zero}
+use native.Mathlib.Numerals.{add-one}
+use native.Mathlib.Omega.{arith}
+use mathlib.Core.Path.{_≡_, refl, sym, ap, _∙_, subst}
+use mathlib.Core.Bool.{Bool, true, false, cond}
+use mathlib.Core.List.{List, [], _∷_, _++_}
+use Rattle.cases.specs.Conditions.{Condition, first, upTo, NoneHolds, Without, toldOf}
+use Rattle.cases.specs.declared.Status.{Status}
+use Rattle.cases.specs.declared.Status.the-variants.{Read, Stopped}
+use mathlib.Core.Logic.{⊎-elim, _≢_}
+use Rattle.lists.specs.Lists.{chained}
+use Rattle.lists.proofs.Chained.{chained-more, chained-split}
+
+-- a status, and what comes after it where it goes on
+unfoldable pub orElse : Status → Status → Status
+orElse Read s = s
+orElse (Stopped number line field) s = Stopped number line field
+
+orElse-cond : (b : Bool) (s t u : Status) → orElse s u ≡ s → cond b s (orElse t u) ≡ orElse (cond b s t) u
+orElse-cond true s t u e = sym e
+orElse-cond false s t u e = refl
+
+pub first-append : (xs ys : List Condition) → first (xs ++ ys) ≡ orElse (first xs) (first ys)
+unfolding first orElse
+first-append [] ys = refl
+first-append (c ∷ cs) ys =
+    ap (λ (t : Status). cond (c .holds) (Stopped (c .number) (c .line) (c .field)) t) (first-append cs ys)
+    ∙ orElse-cond (c .holds) (Stopped (c .number) (c .line) (c .field)) (first cs) (first ys) refl
+
+-- ---- f 1, f 2, .. in turn
+module _ (f : ℕ → List Condition) where
+  upTo-next : (k : ℕ) → first (upTo f (k + 1)) ≡ orElse (first (upTo f k)) (first (f (k + 1)))
+  unfolding upTo
+  upTo-next k = rw add-one (first-append (upTo f k) (f (suc k)))
+
+  pub turn-on : (k : ℕ) → first (upTo f k) ≡ Read → (s : Status) → s ≡ first (f (k + 1)) → s ≡ Read → first (upTo f (k + 1)) ≡ Read
+  unfolding orElse
+  turn-on k e s p q = upTo-next k ∙ ap (λ (t : Status). orElse t (first (f (k + 1)))) e ∙ sym p ∙ q
+
+  stays : (k j number line field : ℕ) → first (upTo f k) ≡ Stopped number line field → first (upTo f (k + j)) ≡ Stopped number line field
+  unfolding orElse upTo
+  stays k zero number line field e = rw add-zero e
+  stays k (suc j) number line field e =
+      rw add-suc (first-append (upTo f (k + j)) (f (suc (k + j))) ∙ ap (λ (t : Status). orElse t (first (f (suc (k + j))))) (stays k j number line field e))
+
+  pub turn-out : (k m : ℕ) → k < m → first (upTo f k) ≡ Read → (s : Status) → s ≡ first (f (k + 1)) → (number line field : ℕ) → s ≡ Stopped number line field
+      → s ≡ first (upTo f m)
+  unfolding orElse
+  turn-out k m h e s p number line field q =
+      let here : first (upTo f (k + 1)) ≡ Stopped number line field = upTo-next k ∙ ap (λ (t : Status). orElse t (first (f (k + 1)))) e ∙ sym p ∙ q in
+      let r : k + 1 + (m - (k + 1)) ≡ m = omega arith in
+      q ∙ sym (subst (λ (n : ℕ). first (upTo f n) ≡ Stopped number line field) r (stays (k + 1) (m - (k + 1)) number line field here))
+
+-- ---- where nothing holds
+pub never : (s : Status) (number line field : ℕ) → s ≡ Stopped number line field → s ≡ Read → ⊥
+never s number line field p q = let z : _≡_ {A = ℕ} 0 1 = cc in omega arith
+
+first-cond : (b : Bool) (number line field : ℕ) (s : Status) → cond b (Stopped number line field) s ≡ Read → (b ≡ false) × (s ≡ Read)
+first-cond true number line field s e = absurd (never (Stopped number line field) number line field refl e)
+first-cond false number line field s e = (refl, e)
+
+pub first-read : (c : Condition) (cs : List Condition) → first (c ∷ cs) ≡ Read → (c .holds ≡ false) × (first cs ≡ Read)
+unfolding first
+first-read c cs e = first-cond (c .holds) (c .number) (c .line) (c .field) (first cs) e
+
+-- ---- where none holds
+orElse-read : (s t : Status) → orElse s t ≡ Read → (s ≡ Read) × (t ≡ Read)
+unfolding orElse
+orElse-read Read t e = (refl, e)
+orElse-read (Stopped number line field) t e = absurd (never (Stopped number line field) number line field refl e)
+
+pub append-read : (xs ys : List Condition) → first (xs ++ ys) ≡ Read → (first xs ≡ Read) × (first ys ≡ Read)
+append-read xs ys e = orElse-read (first xs) (first ys) (sym (first-append xs ys) ∙ e)
+
+pub upTo-each : (f : ℕ → List Condition) (m : ℕ) → first (upTo f m) ≡ Read → (k : ℕ) → k < m → first (f (suc k)) ≡ Read
+unfolding upTo
+upTo-each f zero e k h = absurd (not-suc-le-zero h)
+upTo-each f (suc m) e k h =
+    let p = append-read (upTo f m) (f (suc m)) e in
+    ⊎-elim (λ q. subst (λ (n : ℕ). first (f (suc n)) ≡ Read) (sym q) (p .1)) (λ l. upTo-each f m (p .0) k l) (eq-or-lt-of-le (le-of-suc-le-suc h))
+
+pub read-none : (cs : List Condition) → first cs ≡ Read → NoneHolds cs
+read-none [] e = tt
+read-none (c ∷ cs) e = let p = first-read c cs e in (p .0, read-none cs (p .1))
+
+pub none-read : (cs : List Condition) → NoneHolds cs → first cs ≡ Read
+unfolding first
+none-read [] n = refl
+none-read (c ∷ cs) n =
+    ap (λ (b : Bool). cond b (Stopped (c .number) (c .line) (c .field)) (first cs)) (n .0) ∙ none-read cs (n .1)
+
+-- where none of the parts stops
+pub chained-each : (f : ℕ → List Condition) (n : ℕ) → first (chained f n) ≡ Read → (k : ℕ) → k < n → first (f k) ≡ Read
+chained-each f n none k h =
+    let rest : List Condition = chained (λ j. f (k + 1 + j)) (n - (k + 1)) in
+    append-read (f k) rest (append-read (chained f k) (f k ++ rest) (sym (ap first (chained-split f n k h)) ∙ none) .1) .0
+
+-- the next part goes on, or stops the whole
+module _ (f : ℕ → List Condition) (k : ℕ) (none : first (chained f k) ≡ Read) (s : Status) (is-first : s ≡ first (f k)) where
+  pub goes-on : s ≡ Read → first (chained f (k + 1)) ≡ Read
+  unfolding orElse
+  goes-on read =
+      ap first (chained-more f k) ∙ first-append (chained f k) (f k) ∙ ap (λ (t : Status). orElse t (first (f k))) none ∙ sym is-first ∙ read
+
+  pub stops : (m : ℕ) → k < m → (number line field : ℕ) → s ≡ Stopped number line field → s ≡ first (chained f m)
+  unfolding orElse
+  stops m h number line field stop =
+      let rest : List Condition = chained (λ j. f (k + 1 + j)) (m - (k + 1)) in
+      stop
+      ∙ sym
+      (ap first (chained-split f m k h)
+      ∙ first-append (chained f k) (f k ++ rest)
+      ∙ ap (λ (t : Status). orElse t (first (f k ++ rest))) none
+      ∙ first-append (f k) rest
+      ∙ ap (λ (t : Status). orElse t (first rest)) (sym is-first ∙ stop))
+
+module _ (n : ℕ) where
+  pub without-append : (xs ys : List Condition) → Without n xs → Without n ys → Without n (xs ++ ys)
+  without-append [] ys h k = k
+  without-append (c ∷ cs) ys h k = (h .0, without-append cs ys (h .1) k)
+
+  pub without-upTo : (f : ℕ → List Condition) → ((k : ℕ) → Without n (f k)) → (m : ℕ) → Without n (upTo f m)
+  unfolding upTo
+  without-upTo f h zero = tt
+  without-upTo f h (suc m) = without-append (upTo f m) (f (suc m)) (without-upTo f h m) (h (suc m))
+
+  told-either : (b : Bool) (s t : Status) → toldOf s .number ≢ n → toldOf t .number ≢ n → toldOf (cond b s t) .number ≢ n
+  told-either true s t h k = h
+  told-either false s t h k = k
+
+  -- 0 is told where none holds
+  pub told-without : 0 ≢ n → (cs : List Condition) → Without n cs → toldOf (first cs) .number ≢ n
+  unfolding first toldOf
+  told-without z [] h = z
+  told-without z (c ∷ cs) h = told-either (c .holds) (Stopped (c .number) (c .line) (c .field)) (first cs) (h .0) (told-without z cs (h .1))
+
+pub without-chained : (n : ℕ) (f : ℕ → List Condition) → ((k : ℕ) → Without n (f k)) → (m : ℕ) → Without n (chained f m)
+unfolding chained
+without-chained n f h zero = tt
+without-chained n f h (suc m) = without-append n (chained f m) (f m) (without-chained n f h m) (h m)

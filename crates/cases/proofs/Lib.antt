@@ -1,0 +1,3 @@
+pub mod FirstMet
+pub mod FitsLaws
+pub mod RangeLaws

@@ -1,0 +1,77 @@
+-- A case in memory: the site, chemicals and receptors of a deck, read or made; and its values by the names of their slots.
+-- Assumes nothing.
+use Prim.Native.Nat.{ℕ}
+use mathlib.Core.Bool.{Bool, false, cond, not}
+use lib.ListN.{getD, replicate, set}
+use Rattle.slots.specs.Slots.{Slot, ownerOf, placeOf}
+use Rattle.slots.specs.declared.Owner.{Owner}
+use Rattle.slots.specs.declared.Owner.the-variants.{Site, Chemical, Receptor}
+use Rattle.slots.specs.declared.Sort.{Sort}
+use Rattle.slots.specs.declared.Sort.the-variants.{Ordinary, Composite}
+use Rattle.sizes.specs.Sizes.{maxChemicals, mostStages, slotsPerRecord}
+use Rattle.cases.specs.Ranges.{isYearOf, isYear}
+use Rattle.slots.specs.declared.Guidance.{Guidance}
+use Rattle.slots.specs.declared.Guidance.the-variants.{Of2005, Of2009}
+use Rattle.cases.specs.declared.Value.{Value}
+use Rattle.cases.specs.declared.Value.the-variants.{Absent, Printed}
+use Rattle.cases.specs.declared.Filled.{Filled}
+use Rattle.cases.specs.declared.Record.{Record}
+use Rattle.cases.specs.declared.Case.{Case}
+
+abbrev pub maxReceptors : Sort → ℕ
+maxReceptors Ordinary = 4
+maxReceptors Composite = 8
+
+-- a slot past those of the site's two lines, or of a place that has no record
+abbrev pub noSlot : Filled
+noSlot = record { value = Absent }
+
+abbrev pub noRecord : Record
+noRecord = record { id = 0; slots = replicate slotsPerRecord noSlot }
+
+-- no site, chemical or receptor
+unfoldable pub noCase : Case
+noCase =
+    record {
+      site = noRecord;
+      chemicals = record { count = 0; records = replicate maxChemicals noRecord };
+      receptors = record { count = 0; records = replicate mostStages noRecord };
+    }
+
+-- ---- what is printed, by name
+-- slot k of a record, from 0
+unfoldable pub valueAt : Record → ℕ → Value
+valueAt r k = getD (r .slots) k noSlot .value
+
+-- chemical i and receptor j, from 0
+unfoldable pub chemicalAt : Case → ℕ → Record
+chemicalAt case i = getD (case .chemicals .records) i noRecord
+
+unfoldable pub receptorAt : Case → ℕ → Record
+receptorAt case j = getD (case .receptors .records) j noRecord
+
+-- the record that a slot of this owner stands in, for receptor j and chemical i
+unfoldable pub ownersRecord : Owner → Case → ℕ → ℕ → Record
+ownersRecord Site case j i = case .site
+ownersRecord Chemical case j i = chemicalAt case i
+ownersRecord Receptor case j i = receptorAt case j
+
+unfoldable pub printed : Case → ℕ → ℕ → Slot → Value
+printed case j i s = valueAt (ownersRecord (ownerOf s) case j i) (placeOf s)
+
+-- ---- the guidance that a site names by its year (document 02, P6); blank means 2005
+unfoldable pub guidanceOf : Value → Guidance
+guidanceOf Absent = Of2005
+guidanceOf (Printed power digits) = cond (isYearOf Of2009 digits power) Of2009 Of2005
+
+-- a number that is the year of neither, which no deck that is read has
+unfoldable pub isOtherYear : Value → Bool
+isOtherYear Absent = false
+isOtherYear (Printed power digits) = not (isYear digits power)
+
+-- the case with no value in its slot
+unfoldable pub clearYear : Record → Record
+clearYear r = record { id = r .id; slots = set (r .slots) (placeOf "year") noSlot }
+
+unfoldable pub caseWithoutYear : Case → Case
+caseWithoutYear case = record { site = clearYear (case .site); chemicals = case .chemicals; receptors = case .receptors }

@@ -1,0 +1,46 @@
+-- Where a call stops: its conditions as one ordered list. The answer is the first that holds; a call passes exactly where none holds. Each
+-- call's list is its own; a later stage appends its conditions to an earlier one's.
+-- Assumes nothing.
+use mathlib.Core.Path.{_≡_}
+use Prim.Native.Nat.{ℕ, zero, suc, _+_}
+use mathlib.Core.Bool.{Bool, false, cond}
+use mathlib.Core.List.{List, [], _∷_, _++_}
+use mathlib.Core.Logic.{_≢_}
+use Rattle.cases.specs.declared.Status.{Status}
+use Rattle.cases.specs.declared.Status.the-variants.{Read, Stopped}
+use Rattle.cases.specs.declared.Told.{Told}
+
+-- a condition: its number, the line and the field where it is told, and whether it holds
+pub record Condition : Type 0 where
+  pub number : ℕ
+  pub line : ℕ
+  pub field : ℕ
+  pub holds : Bool
+
+abbrev pub at : ℕ → ℕ → ℕ → Bool → Condition
+at n l f b = record { number = n; line = l; field = f; holds = b }
+
+-- the first that holds
+unfoldable pub first : List Condition → Status
+first [] = Read
+first (c ∷ cs) = cond (c .holds) (Stopped (c .number) (c .line) (c .field)) (first cs)
+
+-- none of them holds
+abbrev pub NoneHolds : List Condition → Type 0
+NoneHolds [] = Unit {0}
+NoneHolds (c ∷ cs) = (c .holds ≡ false) × NoneHolds cs
+
+-- none of them has this number
+abbrev pub Without : ℕ → List Condition → Type 0
+Without n [] = Unit {0}
+Without n (c ∷ cs) = (c .number ≢ n) × Without n cs
+
+-- f 1, f 2, .., f n
+unfoldable pub upTo : (ℕ → List Condition) → ℕ → List Condition
+upTo f zero = []
+upTo f (suc n) = upTo f n ++ f (suc n)
+
+-- number, line and field as document 01 tells them; all 0 where the deck is read
+unfoldable pub toldOf : Status → Told
+toldOf Read = record { number = 0; line = 0; field = 0 }
+toldOf (Stopped number line field) = record { number = number; line = line; field = field }

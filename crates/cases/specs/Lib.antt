@@ -1,0 +1,4 @@
+pub mod Cases
+pub mod Conditions
+pub mod Ranged
+pub mod Ranges

@@ -1,0 +1,78 @@
+//! A case in memory (document 01, "Deck"): the values of a site, chemicals and receptors, whether they were read from a deck or made by a
+//! caller; the range of a value; and where a call on a deck or a case stops.
+mod guidance;
+mod ranges;
+
+pub use guidance::guidance_of;
+pub use guidance::is_other_year;
+pub use ranges::in_range;
+use sizes::MAX_CHEMICALS;
+use sizes::MAX_STAGES;
+use sizes::SLOTS;
+ghost use mathlib.Core.Path.{_≡_};
+ghost use Rattle.cases.specs.Conditions.{toldOf};
+
+// A slot's value as printed: digits × 10 ^ power. Absent where a lone - stands, and in slots that no record has. The power stands first, so
+// that a value takes 16 bytes and not 24.
+pub enum Value {
+    Absent,
+    Printed { power: i32, digits: u64 },
+}
+
+// What a slot was filled with.
+pub struct Filled {
+    pub value: Value,
+}
+
+pub struct Record {
+    pub id: u32,
+    pub slots: [Filled; SLOTS],
+}
+
+pub struct Chemicals {
+    pub count: usize,
+    pub records: [Record; MAX_CHEMICALS],
+}
+
+// One shape for both sorts of deck: room for the most that either has.
+pub struct Receptors {
+    pub count: usize,
+    pub records: [Record; MAX_STAGES],
+}
+
+pub struct Case {
+    pub site: Record,
+    pub chemicals: Chemicals,
+    pub receptors: Receptors,
+}
+
+// Read, or the first condition that holds: its number, line and field.
+pub enum Status {
+    Read,
+    Stopped(u32, usize, usize),
+}
+
+// Number, line and field as document 01 tells them; all 0 where the deck is read.
+pub struct Told {
+    pub number: u32,
+    pub line: usize,
+    pub field: usize,
+}
+
+// What document 01 has a refusal return.
+pub fn tell(status: Status) -> Told
+    ensures { λ r. ⌜ r ≡ toldOf status ⌝ }
+{
+    match status {
+        Status::Read => Told {
+            number: 0,
+            line: 0,
+            field: 0,
+        },
+        Status::Stopped(number, line, field) => Told {
+            number,
+            line,
+            field,
+        },
+    }
+}

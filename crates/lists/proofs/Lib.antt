@@ -1,0 +1,6 @@
+pub mod AnyOf
+pub mod Booleans
+pub mod Chained
+pub mod ListLaws
+pub mod Placed
+pub mod Tabulated

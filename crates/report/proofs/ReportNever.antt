@@ -1,0 +1,42 @@
+-- No call on a deck tells 41, nor does the call on a scenario in memory. Assumes nothing.
+use Prim.Native.Nat.{ℕ}
+use native.Mathlib.Omega.{arith}
+use mathlib.Core.Path.{_≡_, refl}
+use mathlib.Core.List.{List}
+use mathlib.Core.Logic.{_≢_}
+use Rattle.cases.specs.declared.Status.{Status}
+use Rattle.cases.specs.declared.Status.the-variants.{Read, Stopped}
+use Rattle.cases.specs.Conditions.{Condition, Without, first, toldOf}
+use Rattle.deck.specs.DeckConditions.{conditions}
+use Rattle.cases.proofs.FirstMet.{without-append, told-without}
+use Rattle.deck.proofs.DeckWithout.{deck-without}
+use Rattle.scenario.specs.Scenario.{Scenario}
+use Rattle.sheet.proofs.SheetWithout.{large-without, sheet-without}
+use Rattle.report.specs.Report.{reportConditions, Call, scenarioOf, allConditions, statusOf, outcomeFor, outcomeOf}
+use Rattle.report.specs.InMemory.{writtenConditions, writtenStatus, writtenOutcome}
+
+same-number : (s : Status) (scenario : Scenario) → outcomeFor s scenario .number ≡ toldOf s .number
+unfolding outcomeFor toldOf
+same-number Read scenario = refl
+same-number (Stopped number line field) scenario = refl
+
+outcome-without : (cs : List Condition) (scenario : Scenario) → Without 41 cs → outcomeFor (first cs) scenario .number ≢ 41
+outcome-without cs scenario h = rw (same-number (first cs) scenario) (told-without 41 (λ e. omega arith) cs h)
+
+report-without : (scenario : Scenario) (room : ℕ) → Without 41 (reportConditions scenario room)
+unfolding reportConditions
+report-without scenario room = (λ e. omega arith, large-without scenario)
+
+-- no condition of a call's list has this number
+pub conditions-without : (call : Call) (deck : List ℕ) (room : ℕ) → Without 41 (allConditions call deck room)
+unfolding allConditions
+conditions-without call deck room =
+    without-append 41 (conditions (call .sort) deck) (reportConditions (scenarioOf call deck) room) (deck-without (call .sort) deck) (report-without (scenarioOf call deck) room)
+
+pub report-never : (call : Call) (deck : List ℕ) (room : ℕ) → outcomeOf call deck room .number ≢ 41
+unfolding outcomeOf statusOf
+report-never call deck room = outcome-without (allConditions call deck room) (scenarioOf call deck) (conditions-without call deck room)
+
+pub written-never : (scenario : Scenario) (room : ℕ) → writtenOutcome scenario room .number ≢ 41
+unfolding writtenOutcome writtenStatus writtenConditions
+written-never scenario room = outcome-without (writtenConditions scenario room) scenario (λ e. omega arith, (λ e. omega arith, sheet-without scenario))

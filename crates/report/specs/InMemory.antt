@@ -1,0 +1,56 @@
+-- The report of a scenario in memory, whatever its values are: its rows from the cells that hold its counts, and where it stops. For the
+-- scenario of a deck that is read these are the report's (Report.antt): `proofs/CallLaws.antt`.
+use Prim.Native.Nat.{ℕ, _+_, _*_, _/_, _%_}
+use mathlib.Core.List.{List, [], _∷_, _++_}
+use lib.Dec.{ltb}
+use lib.ListN.{length, getD}
+use Rattle.equations.specs.declared.Effect.the-variants.{Hazard, Cancer}
+use Rattle.cases.specs.declared.Chemicals.{Chemicals}
+use Rattle.cases.specs.declared.Status.{Status}
+use Rattle.cases.specs.declared.Told.{Told}
+use Rattle.cases.specs.Conditions.{Condition, at, first}
+use Rattle.cases.specs.Cases.{noRecord}
+use Rattle.text.specs.declared.Row.{Row}
+use Rattle.sizes.specs.Sizes.{pathwaysPerChemical}
+use Rattle.lists.specs.Lists.{chained}
+use Rattle.sheet.specs.Counts.{tooMany, sheetConditions, cellsOf, columnsIn, totalIn}
+pub use Rattle.sheet.specs.Inner.{perReceptor}
+use Rattle.scenario.specs.declared.Receptor.{Receptor}
+use Rattle.scenario.specs.Scenario.{Scenario, noReceptor}
+use Rattle.report.specs.Report.{lengthOf, outcomeFor, bufferWith}
+
+-- receptor j's line q, counted from 0, and the total line of its first n lines
+unfoldable pub rowIn : List ℕ → ℕ → ℕ → ℕ → ℕ → Row
+rowIn cells j id′ chemical′ q =
+    record { receptor = id′; chemical = chemical′; pathway = q % pathwaysPerChemical + 1; hazard = columnsIn cells j Hazard q; cancer = columnsIn cells j Cancer q }
+
+unfoldable pub totalRowIn : List ℕ → ℕ → ℕ → ℕ → Row
+totalRowIn cells j id′ n = record { receptor = id′; chemical = 0; pathway = 0; hazard = totalIn cells j Hazard n; cancer = totalIn cells j Cancer n }
+
+-- its first n lines, all of them with the total line, and those of the first receptors
+unfoldable pub linesIn : List ℕ → ℕ → ℕ → Chemicals → ℕ → List Row
+linesIn cells j id′ chemicals′ = chained (λ q. rowIn cells j id′ (getD (chemicals′ .records) (q / pathwaysPerChemical) noRecord .id) q ∷ [])
+
+unfoldable pub rowsIn : List ℕ → ℕ → ℕ → Chemicals → List Row
+rowsIn cells j id′ chemicals′ =
+    let n = chemicals′ .count * pathwaysPerChemical in
+    linesIn cells j id′ chemicals′ n ++ (totalRowIn cells j id′ n ∷ [])
+
+unfoldable pub reportIn : List ℕ → Chemicals → List Receptor → ℕ → List Row
+reportIn cells chemicals′ list = chained (λ j. rowsIn cells j (getD list j noReceptor .id) chemicals′)
+
+unfoldable pub writtenRows : Scenario → List Row
+writtenRows scenario = reportIn (cellsOf scenario) (scenario .chemicals) (scenario .receptors .list) (scenario .receptors .count)
+
+-- 21 for more records than a sheet has room for, 51, then the sheet's own conditions
+unfoldable pub writtenConditions : Scenario → ℕ → List Condition
+writtenConditions scenario room = at 21 0 0 (tooMany scenario) ∷ at 51 0 0 (ltb room (lengthOf scenario)) ∷ sheetConditions scenario
+
+unfoldable pub writtenStatus : Scenario → ℕ → Status
+writtenStatus scenario room = first (writtenConditions scenario room)
+
+unfoldable pub writtenOutcome : Scenario → ℕ → Told
+writtenOutcome scenario room = outcomeFor (writtenStatus scenario room) scenario
+
+unfoldable pub writtenBuffer : Scenario → List ℕ → List ℕ
+writtenBuffer scenario buffer = bufferWith (writtenStatus scenario (length buffer)) (writtenRows scenario) (lengthOf scenario) buffer

@@ -1,0 +1,4 @@
+pub mod DepositionLaws
+pub mod Entered
+pub mod InputLaws
+pub mod Sound

@@ -1,0 +1,27 @@
+-- `scenario::ordinary::enter` meets its contract. Assumes nothing.
+use mathlib.Core.Path.{refl}
+use borrow.Author.Needs.{needs}
+use Rattle.slots.specs.Slots.{table, same, isIn, placeIn, ownerOf, placeOf}
+use Rattle.cases.specs.Cases.{valueAt}
+use Rattle.scenario.specs.Scenario.{entered}
+use Rattle.scenario.proofs.ordinary.enter.Statement.{statement}
+use Rattle.scenario.proofs.ordinary.enter.Tie as tie
+
+element-copy-out-slot : tie.Need-element-copy-out-slot
+element-copy-out-slot c = search needs
+
+values-of-requires : tie.Need-values-of-requires
+values-of-requires c κs = search needs
+
+printed-years-requires : tie.Need-printed-years-requires
+printed-years-requires c κs = search needs
+
+receptor-with-requires : tie.Need-receptor-with-requires
+receptor-with-requires c κs = search needs
+
+returns : tie.Need-returns
+unfolding entered valueAt placeOf ownerOf placeIn isIn same table
+returns c = rw (c .receptor-with .ensures, c .before .printed-years .ensures, c .before .before .values-of .ensures) refl
+
+pub enter-spec : {M : Type 1} → statement M
+enter-spec = tie.close (tie.spec element-copy-out-slot values-of-requires printed-years-requires receptor-with-requires returns)

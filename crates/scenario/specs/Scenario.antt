@@ -1,0 +1,165 @@
+-- What a sheet is worked from: the values of a scenario's slots as pairs, and as exact fractions.
+use Prim.Native.Nat.{ℕ}
+use mathlib.Core.Bool.{Bool, true, false}
+use mathlib.Core.List.{map}
+use lib.IntN.{pos}
+use lib.ListN.{getD}
+use Rattle.pair.specs.declared.Pair.{Pair}
+use Rattle.pair.specs.Fraction.{Fraction}
+use Rattle.pair.specs.Calls.{Outcome, is, refused, entry, oneMinusEntry, zeroPair, onePair}
+use Rattle.pair.specs.Promises.{scaled}
+use Rattle.times.specs.declared.Years.{Years}
+use Rattle.times.specs.Times as years
+use Rattle.slots.specs.declared.Guidance.{Guidance}
+use Rattle.slots.specs.Slots.{Slot, ownerOf, placeOf}
+use Rattle.equations.specs.declared.Values.{Values}
+use Rattle.equations.specs.declared.Stay.{Stay}
+use Rattle.equations.specs.declared.Stay.the-variants.{Within, Beyond}
+use Rattle.equations.specs.Readings.{Inputs, byOwner, inputs}
+use Rattle.cases.specs.declared.Case.{Case}
+use Rattle.cases.specs.declared.Chemicals.{Chemicals}
+use Rattle.cases.specs.declared.Filled.{Filled}
+use Rattle.cases.specs.declared.Record.{Record}
+use Rattle.cases.specs.declared.Value.{Value}
+use Rattle.cases.specs.declared.Value.the-variants.{Absent, Printed}
+use Rattle.cases.specs.Cases.{noRecord, valueAt, chemicalAt, receptorAt, guidanceOf, isOtherYear}
+use Rattle.lists.specs.Lists.{tabulate}
+use Rattle.scenario.specs.declared.Receptor.{Receptor}
+use Rattle.scenario.specs.declared.Receptors.{Receptors}
+use Rattle.sizes.specs.Sizes.{mostReceptors}
+use Rattle.scenario.specs.declared.Site.{Site}
+
+-- as a pair: the entry of what is printed, which an accepted deck always has (DemandTwo.antt of `report`); a missing reference value reads as 1
+unfoldable pub orOne : Outcome Pair → Pair
+orOne (is p) = p
+orOne (refused n) = onePair
+
+unfoldable pub pairOf : Value → Pair
+pairOf (Printed power digits) = orOne (entry digits power)
+pairOf Absent = onePair
+
+-- 1 less it, from what is printed
+unfoldable pub restOf : Value → Pair
+restOf (Printed power digits) = orOne (oneMinusEntry digits power)
+restOf Absent = zeroPair
+
+-- a record's, place by place
+unfoldable pub valuesOf : Record → Values
+valuesOf r = record { list = map (λ (s : Filled). pairOf (s .value)) (r .slots) }
+
+-- the particle share of a chemical, 1 − Fv
+unfoldable pub particlesOf : Record → Pair
+particlesOf r = restOf (valueAt r (placeOf "Fv"))
+
+-- ---- a scenario: a site and chemicals as printed, and receptors made of pairs. Whether a receptor's values were printed or made of life stages,
+-- nothing after this asks.
+pub record Scenario : Type 0 where
+  pub site : Record
+  pub chemicals : Chemicals
+  pub receptors : Receptors
+
+abbrev pub scenarioFrom : Record → Chemicals → Receptors → Scenario
+scenarioFrom site′ chemicals′ receptors′ = record { site = site′; chemicals = chemicals′; receptors = receptors′ }
+
+-- no receptor: every value reads as 1
+unfoldable pub noReceptor : Receptor
+noReceptor = record { id = 0; values = valuesOf noRecord; stay = Within; later = onePair }
+
+-- chemical i and receptor j, from 0
+unfoldable pub chemicalIn : Scenario → ℕ → Record
+chemicalIn scenario i = getD (scenario .chemicals .records) i noRecord
+
+unfoldable pub receptorIn : Scenario → ℕ → Receptor
+receptorIn scenario j = getD (scenario .receptors .list) j noReceptor
+
+unfoldable pub stayIn : Scenario → ℕ → Stay
+stayIn scenario j = receptorIn scenario j .stay
+
+-- the guidance that its site names by the year (document 02, P6)
+unfoldable pub guidanceIn : Scenario → Guidance
+guidanceIn scenario = guidanceOf (valueAt (scenario .site) (placeOf "year"))
+
+-- what is printed in a slot of the site or of chemical i; nothing is printed of a receptor made of pairs
+unfoldable pub printedIn : Scenario → ℕ → Slot → Value
+printedIn scenario i s = byOwner (ownerOf s) (valueAt (scenario .site) (placeOf s)) (valueAt (chemicalIn scenario i) (placeOf s)) Absent
+
+-- every slot's value, 1 less it, and T2 − tD, for receptor j and chemical i, both counted from 0
+unfoldable pub pairsAt : Scenario → ℕ → ℕ → Inputs Pair
+pairsAt scenario j i =
+    record {
+      value = inputs (valuesOf (scenario .site)) (valuesOf (chemicalIn scenario i)) (receptorIn scenario j .values);
+      rest = λ s. restOf (printedIn scenario i s);
+      later = receptorIn scenario j .later;
+    }
+
+-- the site and the chemicals of a case, with these receptors
+unfoldable pub scenarioWith : Case → Receptors → Scenario
+scenarioWith case receptors′ = scenarioFrom (case .site) (case .chemicals) receptors′
+
+-- the exact values: what is printed of the site and of chemical i, and these of receptor j
+unfoldable pub fractionOf : Value → Fraction
+fractionOf (Printed power digits) = scaled digits power
+fractionOf Absent = scaled 1 (pos 0)
+
+unfoldable pub exactWith : Case → (ℕ → Slot → Fraction) → ℕ → ℕ → Slot → Fraction
+exactWith case receptor j i s =
+    byOwner (ownerOf s) (fractionOf (valueAt (case .site) (placeOf s))) (fractionOf (valueAt (chemicalAt case i) (placeOf s))) (receptor j s)
+
+-- ---- the exposure against the deposition (document 02, P4): T2 ≤ tD is decided, and T2 − tD taken, on the printed digits
+-- a printed time, exact; 0 for what no deck prints as a time
+unfoldable pub orNone : Outcome Years → Years
+orNone (is y) = y
+orNone (refused n) = years.none
+
+unfoldable pub printedYears : Value → Years
+printedYears (Printed power digits) = orNone (years.printed digits power)
+printedYears Absent = years.none
+
+unfoldable pub stayIf : Outcome Bool → Stay
+stayIf (is true) = Within
+stayIf (is false) = Beyond
+stayIf (refused n) = Within
+
+unfoldable pub laterIf : Stay → Years → Years → Pair
+laterIf Within exposure deposition = onePair
+laterIf Beyond exposure deposition = orOne (years.beyond exposure deposition)
+
+-- a receptor of these values, exposed for a time that is set against the deposition's
+unfoldable pub receptorWith : ℕ → Values → Years → Years → Receptor
+receptorWith id′ values′ exposure deposition =
+    record {
+      id = id′;
+      values = values′;
+      stay = stayIf (years.atMost exposure deposition);
+      later = laterIf (stayIf (years.atMost exposure deposition)) exposure deposition;
+    }
+
+unfoldable pub depositionOf : Record → Years
+depositionOf site′ = printedYears (valueAt site′ (placeOf "tD"))
+
+-- ---- an ordinary deck's receptors: each slot's pair is the entry of what is printed, its exact value what is printed
+unfoldable pub entered : Years → Record → Receptor
+entered deposition r = receptorWith (r .id) (valuesOf r) (printedYears (valueAt r (placeOf "T2"))) deposition
+
+unfoldable pub enteredFrom : Case → Receptors
+enteredFrom case = record { count = case .receptors .count; list = tabulate mostReceptors (λ j. entered (depositionOf (case .site)) (receptorAt case j)) }
+
+unfoldable pub ordinaryOf : Case → Scenario
+ordinaryOf case = scenarioWith case (enteredFrom case)
+
+unfoldable pub exactFrom : Case → ℕ → Slot → Fraction
+exactFrom case j s = fractionOf (valueAt (receptorAt case j) (placeOf s))
+
+unfoldable pub exactAt : Case → ℕ → ℕ → Slot → Fraction
+exactAt case = exactWith case (exactFrom case)
+
+unfoldable pub noGuidance : Scenario → Bool
+noGuidance scenario = isOtherYear (valueAt (scenario .site) (placeOf "year"))
+
+-- the exact value of each slot, for receptor j and chemical i, both counted from 0
+abbrev pub Exact : Type 0
+Exact = ℕ → ℕ → Slot → Fraction
+
+-- ---- a site as the lines take it: its year's guidance and its values
+unfoldable pub siteOf : Record → Site
+siteOf r = record { guidance = guidanceOf (valueAt r (placeOf "year")); values = valuesOf r }

@@ -1,0 +1,207 @@
+-- A scenario in range: no chemical's media are refused, however fast it is lost, so that the sheet's call stops where documents 01 and 02 say; and
+-- where 42 does not hold, every line with a reference value has its pair and its counts, and all counts and totals are small. Assumes nothing.
+use mathlib.Core.Path.{_≡_, refl, _∙_, ap, subst}
+use mathlib.Core.Bool.{Bool, true, false, cond, _&&_, false≢true}
+use mathlib.Core.List.{List, _++_, append-assoc}
+use Prim.Native.Nat.{ℕ, zero, suc, _+_, _*_, _/_, _%_, _^_, _≤_, _<_}
+use native.Mathlib.Nat.{mul-le-mul-right}
+use native.Mathlib.Omega.{arith}
+use lib.Dec.{lit≤}
+use borrow.Author.Tests.{le-ltb}
+use Rattle.pair.specs.declared.Pair.{Pair}
+use Rattle.pair.specs.declared.Units.{Units}
+use Rattle.pair.specs.Number.{isPair}
+use Rattle.pair.specs.Fraction.{minus}
+use Rattle.pair.specs.Calls.{Outcome, is, refused, inUnits}
+use Rattle.equations.specs.declared.Pathway.{Pathway}
+use Rattle.equations.specs.declared.Pathway.the-variants.{Air, SoilSummer, AboveGround, BelowGround}
+use Rattle.equations.specs.declared.Effect.{Effect}
+use Rattle.equations.specs.declared.Effect.the-variants.{Hazard, Cancer}
+use Rattle.equations.specs.declared.Stay.{Stay}
+use Rattle.equations.specs.declared.Stay.the-variants.{Within}
+use Rattle.equations.specs.Page as page
+use Rattle.equations.specs.Page.{byMedium}
+use Rattle.equations.specs.Readings.{Inputs, pacesOf, exactly, inputs, byOwner}
+use Rattle.equations.proofs.Profile.{Good}
+use Rattle.equations.proofs.LineLaws.{ofLater, Works, medium-works, ground-works}
+use Rattle.slots.specs.Slots.{table, same, isIn, placeIn, ownerOf, placeOf}
+use Rattle.media.specs.declared.Media.{Media}
+use Rattle.media.specs.declared.Ground.{Ground}
+use Rattle.media.specs.Media.{four, mediaIn, groundFrom}
+use Rattle.media.proofs.Means.{ground-page, mean-media}
+use Rattle.cases.specs.declared.Status.the-variants.{Read}
+use Rattle.cases.specs.Conditions.{Condition, at, first}
+use Rattle.totals.specs.declared.Columns.{Columns}
+use Rattle.totals.specs.declared.Columns.the-variants as Cols
+use Rattle.totals.specs.Totals.{_added_}
+use Rattle.scenario.specs.Scenario.{Scenario, restOf, valuesOf, particlesOf, chemicalIn, receptorIn, stayIn, guidanceIn, printedIn, pairsAt, Exact}
+use Rattle.sizes.specs.Sizes.{pathwaysPerChemical}
+use Rattle.sheet.specs.Sheet.{pathwayAt, hasReference, figureAt, unitOf, counted, countedIn, columnsAt, addedOver, totalAt, highAbove, overCap, capOf, largeLines}
+use Rattle.lists.specs.Lists.{chained}
+use Rattle.sheet.specs.Counts.{tooMany, isRefused, groundFor, meanWith, meanFor, stopsAt, noMediaAt, sheetConditions, Part, Mark, Low, High, cellOf, cellsOf, totalIn, CountsMost}
+use Rattle.scenario.proofs.Sound.{Sound}
+use Rattle.lists.proofs.AnyOf.{none-any}
+use Rattle.sheet.proofs.Held.{columns-total}
+use Rattle.sheet.proofs.Clear.{not-large}
+use Rattle.sheet.proofs.LineTotals.{Figure, figure-counted, count-small}
+
+-- ---- the media are told
+four-all : (a c f r : Outcome Pair) (p q s t : Pair) → a ≡ is p → c ≡ is q → f ≡ is s → r ≡ is t → (m : Media) × (four a c f r ≡ is m)
+unfolding four
+four-all a c f r p q s t e₁ e₂ e₃ e₄ =
+    (record { air = record { 0 = p }; soil = record { 0 = q }; «above_ground» = record { 0 = s }; «below_ground» = record { 0 = t } }, rw (e₁, e₂, e₃, e₄) refl)
+
+ground-all : (l b : Outcome Pair) (m n : Outcome Media) (p q : Pair) (s t : Media) → l ≡ is p → b ≡ is q → m ≡ is s → n ≡ is t → isRefused (groundFrom l b m n) ≡ false
+unfolding groundFrom isRefused
+ground-all l b m n p q s t e₁ e₂ e₃ e₄ = rw (e₁, e₂, e₃, e₄) refl
+
+told-not : {A : Type 0} (o : Outcome A) (y : A) → o ≡ is y → isRefused o ≡ false
+unfolding isRefused
+told-not o y e = rw e refl
+
+module _ (scenario : Scenario) {exact : Exact} (sound : Sound scenario exact) (j i : ℕ) (j-small : j < scenario .receptors .count) (i-small : i < scenario .chemicals .count) where
+  env : Inputs Pair
+  env = pairsAt scenario j i
+
+  -- the page's media are told, whatever the exposure is against the deposition
+  media-told : (stay : Stay) → (ofLater stay .answered ≡ true → Good (ofLater stay) (is (env .later)) (minus (exact j i "T2") (exact j i "tD"))) → (e : Effect) → (m : Media) × (mediaIn env (page.soil e stay) ≡ is m)
+  unfolding env mediaIn page.medium byMedium
+  media-told stay later e =
+      let w : (p : Pathway) → (r : Pair) × Works stay env (exact j i) (page.medium e stay p) r = medium-works stay env (exact j i) (sound .inputs j i j-small i-small) later e in
+      four-all _ _ _ _ (w Air .0) (w SoilSummer .0) (w AboveGround .0) (w BelowGround .0) (w Air .1 .told) (w SoilSummer .1 .told) (w AboveGround .1 .told) (w BelowGround .1 .told)
+
+  never-later : ofLater Within .answered ≡ true → Good (ofLater Within) (is (env .later)) (minus (exact j i "T2") (exact j i "tD"))
+  unfolding ofLater
+  never-later h = absurd (false≢true h)
+
+  ground-told : isRefused (groundFor scenario i) ≡ false
+  unfolding env pairsAt groundFor particlesOf printedIn byOwner ownerOf placeOf table same isIn placeIn page.C page.soil page.mean
+  ground-told =
+      let g = ground-works Within env (exact j i) (sound .inputs j i j-small i-small) never-later in
+      let m : (e : Effect) → (m : Media) × (mediaIn env (page.soil e Within) ≡ is m) = media-told Within never-later in
+      ap isRefused (ground-page (valuesOf (scenario .site)) (valuesOf (chemicalIn scenario i)) (receptorIn scenario j .values) (λ s. restOf (printedIn scenario i s)) (receptorIn scenario j .later))
+      ∙ ground-all _ _ _ _ (g .0 .0) (g .1 .0) (m Hazard .0) (m Cancer .0) (g .0 .1 .told) (g .1 .1 .told) (m Hazard .1) (m Cancer .1)
+
+  mean-told : (ground : Ground) → groundFor scenario i ≡ is ground → isRefused (meanFor scenario i j ground) ≡ false
+  unfolding env pairsAt meanFor meanWith stayIn groundFor particlesOf printedIn inputs byOwner ownerOf placeOf table same isIn placeIn page.soil
+  mean-told ground laid =
+      ap isRefused (mean-media (valuesOf (scenario .site)) (valuesOf (chemicalIn scenario i)) (receptorIn scenario j .values) (λ s. restOf (printedIn scenario i s)) (receptorIn scenario j .later) ground laid (receptorIn scenario j .stay))
+      ∙ told-not _ _ (media-told (receptorIn scenario j .stay) (sound .later j i j-small i-small) Cancer .1)
+
+never-stops : (o : Outcome Ground) (means : ℕ → Ground → Outcome Media) (n : ℕ) → isRefused o ≡ false → ((ground : Ground) → o ≡ is ground → (j : ℕ) → j < n → isRefused (means j ground) ≡ false)
+    → stopsAt o means n ≡ false
+unfolding stopsAt isRefused
+never-stops (is ground) means n h g = none-any (λ j. isRefused (means j ground)) n (g ground refl)
+never-stops (refused k) means n h g = h
+
+-- no chemical's media are refused, those of a receptor's cancer among them
+pub none-refused : (scenario : Scenario) {exact : Exact} → Sound scenario exact → (i : ℕ) → i < scenario .chemicals .count
+    → stopsAt (groundFor scenario i) (meanFor scenario i) (scenario .receptors .count) ≡ false
+none-refused scenario sound i h =
+    never-stops (groundFor scenario i) (meanFor scenario i) (scenario .receptors .count) (ground-told scenario sound 0 i (sound .some-receptors) h)
+    (λ ground laid j l. mean-told scenario sound j i l h ground laid)
+
+pub few-records : (scenario : Scenario) {exact : Exact} → Sound scenario exact → tooMany scenario ≡ false
+unfolding tooMany
+few-records scenario sound = rw (le-ltb _ _ (sound .few-chemicals), le-ltb _ _ (sound .few-receptors)) refl
+
+-- the sheet's call stops where document 01 says
+none-first : (f : ℕ → List Condition) (n : ℕ) (rest : List Condition) → ((i : ℕ) → i < n → (r : List Condition) → first (f i ++ r) ≡ first r) → first (chained f n ++ rest) ≡ first rest
+unfolding chained
+none-first f zero rest h = refl
+none-first f (suc n) rest h = ap first (append-assoc (chained f n) (f n) rest) ∙ none-first f n (f n ++ rest) (λ i l. h i (omega arith)) ∙ h n (omega arith) rest
+
+pub conditions-agree : (scenario : Scenario) {exact : Exact} → Sound scenario exact → first (sheetConditions scenario) ≡ first (largeLines scenario)
+unfolding sheetConditions noMediaAt first
+conditions-agree scenario sound =
+    rw (few-records scenario sound, sound .guided)
+    (none-first (noMediaAt scenario) (scenario .chemicals .count) (largeLines scenario) (λ i h r. rw (none-refused scenario sound i h) refl))
+
+-- ---- a line with its reference value: the pair that the working rule gives, and its counts
+pub record Line (scenario : Scenario) (e : Effect) (j i : ℕ) (w : Pathway) : Type 0 where
+  pub pair : Pair
+  pub rule : figureAt e scenario j i w ≡ is pair
+  pub proper : isPair pair ≡ true
+  pub units : Units
+  pub counted : inUnits pair (unitOf e) ≡ is units
+  pub columns : columnsAt e scenario j i w ≡ Cols.Counted (units .low) (units .high)
+
+columns-counted : (t : Bool) (e : Effect) (o : Outcome Pair) (p : Pair) (u : Units) → t ≡ true → o ≡ is p → inUnits p (unitOf e) ≡ is u →
+    cond t (countedIn (unitOf e) o) Cols.Absent ≡ Cols.Counted (u .low) (u .high)
+unfolding countedIn counted
+columns-counted t e o p u h r k = rw (h, r, k) refl
+
+capped : (t : Bool) (b : Bool) → t ≡ true → (t && b) ≡ false → b ≡ false
+capped t b h e = rw h at e
+
+most-if : (t : Bool) (e : Effect) (o : Outcome Pair) → (t ≡ true → CountsMost (10 ^ 16) (countedIn (unitOf e) o)) → CountsMost (10 ^ 16) (cond t (countedIn (unitOf e) o) Cols.Absent)
+unfolding CountsMost
+most-if true e o h = h refl
+most-if false e o h = tt
+
+-- columns added
+most-added : (m n : ℕ) (u v : Columns) → CountsMost m u → CountsMost n v → CountsMost (m + n) (u added v)
+unfolding CountsMost _added_
+most-added m n Cols.Absent Cols.Absent h k = tt
+most-added m n Cols.Absent (Cols.Counted l g) h k = (omega arith, omega arith)
+most-added m n (Cols.Counted l g) Cols.Absent h k = (omega arith, omega arith)
+most-added m n (Cols.Counted l g) (Cols.Counted l' g') h k = (omega arith, omega arith)
+
+most-over : (m : ℕ) (f : ℕ → Columns) (n : ℕ) → ((k : ℕ) → k < n → CountsMost m (f k)) → CountsMost (n * m) (addedOver f n)
+unfolding addedOver CountsMost
+most-over m f zero h = tt
+most-over m f (suc n) h =
+    let e : n * m + m ≡ suc n * m = omega arith in
+    subst (λ (k : ℕ). CountsMost k (addedOver f n added f n)) e (most-added (n * m) m (addedOver f n) (f n) (most-over m f n (λ k l. h k (omega arith))) (h n (omega arith)))
+
+cell-most : (u : Columns) (w : Part) → CountsMost (10 ^ 16) u → cellOf w u ≤ 10 ^ 16
+unfolding CountsMost cellOf
+cell-most Cols.Absent w h = lit≤ tt
+cell-most (Cols.Counted l g) Mark h = lit≤ tt
+cell-most (Cols.Counted l g) Low h = h .0
+cell-most (Cols.Counted l g) High h = h .1
+
+most-more : (m n : ℕ) (u : Columns) → m ≤ n → CountsMost m u → CountsMost n u
+unfolding CountsMost
+most-more m n Cols.Absent l h = tt
+most-more m n (Cols.Counted a b) l h = (omega arith, omega arith)
+
+module _ (scenario : Scenario) {exact : Exact} (sound : Sound scenario exact) (small : first (largeLines scenario) ≡ Read) where
+  module _ (e : Effect) (j i p : ℕ) (j-small : j < scenario .receptors .count) (i-small : i < scenario .chemicals .count) (p-small : p < pathwaysPerChemical) where
+    figure : hasReference e scenario i (pathwayAt p) ≡ true → Figure scenario exact j i e (pathwayAt p)
+    unfolding overCap
+    figure h =
+        figure-counted scenario sound j i j-small i-small e (pathwayAt p)
+        (capped (hasReference e scenario i (pathwayAt p)) (highAbove (capOf e) (figureAt e scenario j i (pathwayAt p))) h (not-large scenario small e j i p j-small i-small p-small))
+
+    pub line-by-rule : hasReference e scenario i (pathwayAt p) ≡ true → Line scenario e j i (pathwayAt p)
+    unfolding figureAt columnsAt
+    line-by-rule h =
+        let f = figure h in
+        record {
+          pair = f .pair;
+          rule = f .works .told;
+          proper = f .works .pair;
+          units = f .units;
+          counted = f .told;
+          columns = columns-counted (hasReference e scenario i (pathwayAt p)) e (figureAt e scenario j i (pathwayAt p)) (f .pair) (f .units) h (f .works .told) (f .told);
+        }
+
+    pub columns-small : CountsMost (10 ^ 16) (columnsAt e scenario j i (pathwayAt p))
+    unfolding columnsAt figureAt countedIn counted CountsMost
+    columns-small =
+        most-if (hasReference e scenario i (pathwayAt p)) e (figureAt e scenario j i (pathwayAt p))
+        (λ h. let f = figure h in rw (f .works .told, f .told) (count-small e (f .pair) (f .units) (exactly 256 (pacesOf (pairsAt scenario j i)) (exact j i) (page.line (guidanceIn scenario) e (stayIn scenario j) (pathwayAt p))) (f .told) (f .works .held 256 (lit≤ tt)) (f .capped)))
+
+  pub total-small : (e : Effect) (j : ℕ) → j < scenario .receptors .count → CountsMost (96 * 10 ^ 16) (totalAt e scenario j)
+  unfolding totalAt
+  total-small e j h =
+      most-more (scenario .chemicals .count * (6 * 10 ^ 16)) (96 * 10 ^ 16) (totalAt e scenario j) (omega (arith, mul-le-mul-right (6 * 10 ^ 16) (sound .few-chemicals)))
+      (most-over (6 * 10 ^ 16) (λ i. addedOver (λ p. columnsAt e scenario j i (pathwayAt p)) pathwaysPerChemical) (scenario .chemicals .count)
+      (λ i l. most-over (10 ^ 16) (λ p. columnsAt e scenario j i (pathwayAt p)) pathwaysPerChemical (λ p k. columns-small e j i p h l k)))
+
+  -- a total read from the cells is the receptor's total
+  pub total-held : (j : ℕ) → j < scenario .receptors .count → (e : Effect) → totalIn (cellsOf scenario) j e (scenario .chemicals .count * 6) ≡ totalAt e scenario j
+  total-held j h e =
+      columns-total scenario (sound .few-chemicals) (sound .few-receptors) j h e
+      (λ q l w. cell-most (columnsAt e scenario j (q / 6) (pathwayAt (q % 6))) w (columns-small e j (q / 6) (q % 6) h (omega arith) (omega arith)))

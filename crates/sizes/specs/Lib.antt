@@ -1,0 +1,2 @@
+-- The numbers that the crates share.
+pub mod Sizes

@@ -1,0 +1,2 @@
+-- What the crate `years` promises.
+pub mod Times

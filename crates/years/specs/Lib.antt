@@ -1,2 +1,0 @@
--- What the crate `years` promises.
-pub mod Years
