@@ -9,14 +9,14 @@ use mathlib.Core.Bool.{Bool, true, false, cond}
 use mathlib.Core.List.{List, [], _∷_, _++_}
 use Rattle.cases.specs.Conditions.{Condition, first, upTo, NoneHolds, Without, toldOf}
 use Rattle.cases.specs.declared.Status.{Status}
-use Rattle.cases.specs.declared.Status.the-variants.{Read, Stopped}
+use Rattle.cases.specs.declared.Status.the-variants.{Passed, Stopped}
 use mathlib.Core.Logic.{⊎-elim, _≢_}
 use Rattle.lists.specs.Lists.{chained}
 use Rattle.lists.proofs.Chained.{chained-more, chained-split}
 
 -- a status, and what comes after it where it goes on
 unfoldable pub orElse : Status → Status → Status
-orElse Read s = s
+orElse Passed s = s
 orElse (Stopped number line field) s = Stopped number line field
 
 orElse-cond : (b : Bool) (s t u : Status) → orElse s u ≡ s → cond b s (orElse t u) ≡ orElse (cond b s t) u
@@ -36,7 +36,7 @@ module _ (f : ℕ → List Condition) where
   unfolding upTo
   upTo-next k = rw add-one (first-append (upTo f k) (f (suc k)))
 
-  pub turn-on : (k : ℕ) → first (upTo f k) ≡ Read → (s : Status) → s ≡ first (f (k + 1)) → s ≡ Read → first (upTo f (k + 1)) ≡ Read
+  pub turn-on : (k : ℕ) → first (upTo f k) ≡ Passed → (s : Status) → s ≡ first (f (k + 1)) → s ≡ Passed → first (upTo f (k + 1)) ≡ Passed
   unfolding orElse
   turn-on k e s p q = upTo-next k ∙ ap (λ (t : Status). orElse t (first (f (k + 1)))) e ∙ sym p ∙ q
 
@@ -46,7 +46,7 @@ module _ (f : ℕ → List Condition) where
   stays k (suc j) number line field e =
       rw add-suc (first-append (upTo f (k + j)) (f (suc (k + j))) ∙ ap (λ (t : Status). orElse t (first (f (suc (k + j))))) (stays k j number line field e))
 
-  pub turn-out : (k m : ℕ) → k < m → first (upTo f k) ≡ Read → (s : Status) → s ≡ first (f (k + 1)) → (number line field : ℕ) → s ≡ Stopped number line field
+  pub turn-out : (k m : ℕ) → k < m → first (upTo f k) ≡ Passed → (s : Status) → s ≡ first (f (k + 1)) → (number line field : ℕ) → s ≡ Stopped number line field
       → s ≡ first (upTo f m)
   unfolding orElse
   turn-out k m h e s p number line field q =
@@ -55,52 +55,52 @@ module _ (f : ℕ → List Condition) where
       q ∙ sym (subst (λ (n : ℕ). first (upTo f n) ≡ Stopped number line field) r (stays (k + 1) (m - (k + 1)) number line field here))
 
 -- ---- where nothing holds
-pub never : (s : Status) (number line field : ℕ) → s ≡ Stopped number line field → s ≡ Read → ⊥
+pub never : (s : Status) (number line field : ℕ) → s ≡ Stopped number line field → s ≡ Passed → ⊥
 never s number line field p q = let z : _≡_ {A = ℕ} 0 1 = cc in omega arith
 
-first-cond : (b : Bool) (number line field : ℕ) (s : Status) → cond b (Stopped number line field) s ≡ Read → (b ≡ false) × (s ≡ Read)
+first-cond : (b : Bool) (number line field : ℕ) (s : Status) → cond b (Stopped number line field) s ≡ Passed → (b ≡ false) × (s ≡ Passed)
 first-cond true number line field s e = absurd (never (Stopped number line field) number line field refl e)
 first-cond false number line field s e = (refl, e)
 
-pub first-read : (c : Condition) (cs : List Condition) → first (c ∷ cs) ≡ Read → (c .holds ≡ false) × (first cs ≡ Read)
+pub first-read : (c : Condition) (cs : List Condition) → first (c ∷ cs) ≡ Passed → (c .holds ≡ false) × (first cs ≡ Passed)
 unfolding first
 first-read c cs e = first-cond (c .holds) (c .number) (c .line) (c .field) (first cs) e
 
 -- ---- where none holds
-orElse-read : (s t : Status) → orElse s t ≡ Read → (s ≡ Read) × (t ≡ Read)
+orElse-read : (s t : Status) → orElse s t ≡ Passed → (s ≡ Passed) × (t ≡ Passed)
 unfolding orElse
-orElse-read Read t e = (refl, e)
+orElse-read Passed t e = (refl, e)
 orElse-read (Stopped number line field) t e = absurd (never (Stopped number line field) number line field refl e)
 
-pub append-read : (xs ys : List Condition) → first (xs ++ ys) ≡ Read → (first xs ≡ Read) × (first ys ≡ Read)
+pub append-read : (xs ys : List Condition) → first (xs ++ ys) ≡ Passed → (first xs ≡ Passed) × (first ys ≡ Passed)
 append-read xs ys e = orElse-read (first xs) (first ys) (sym (first-append xs ys) ∙ e)
 
-pub upTo-each : (f : ℕ → List Condition) (m : ℕ) → first (upTo f m) ≡ Read → (k : ℕ) → k < m → first (f (suc k)) ≡ Read
+pub upTo-each : (f : ℕ → List Condition) (m : ℕ) → first (upTo f m) ≡ Passed → (k : ℕ) → k < m → first (f (suc k)) ≡ Passed
 unfolding upTo
 upTo-each f zero e k h = absurd (not-suc-le-zero h)
 upTo-each f (suc m) e k h =
     let p = append-read (upTo f m) (f (suc m)) e in
-    ⊎-elim (λ q. subst (λ (n : ℕ). first (f (suc n)) ≡ Read) (sym q) (p .1)) (λ l. upTo-each f m (p .0) k l) (eq-or-lt-of-le (le-of-suc-le-suc h))
+    ⊎-elim (λ q. subst (λ (n : ℕ). first (f (suc n)) ≡ Passed) (sym q) (p .1)) (λ l. upTo-each f m (p .0) k l) (eq-or-lt-of-le (le-of-suc-le-suc h))
 
-pub read-none : (cs : List Condition) → first cs ≡ Read → NoneHolds cs
+pub read-none : (cs : List Condition) → first cs ≡ Passed → NoneHolds cs
 read-none [] e = tt
 read-none (c ∷ cs) e = let p = first-read c cs e in (p .0, read-none cs (p .1))
 
-pub none-read : (cs : List Condition) → NoneHolds cs → first cs ≡ Read
+pub none-read : (cs : List Condition) → NoneHolds cs → first cs ≡ Passed
 unfolding first
 none-read [] n = refl
 none-read (c ∷ cs) n =
     ap (λ (b : Bool). cond b (Stopped (c .number) (c .line) (c .field)) (first cs)) (n .0) ∙ none-read cs (n .1)
 
 -- where none of the parts stops
-pub chained-each : (f : ℕ → List Condition) (n : ℕ) → first (chained f n) ≡ Read → (k : ℕ) → k < n → first (f k) ≡ Read
+pub chained-each : (f : ℕ → List Condition) (n : ℕ) → first (chained f n) ≡ Passed → (k : ℕ) → k < n → first (f k) ≡ Passed
 chained-each f n none k h =
     let rest : List Condition = chained (λ j. f (k + 1 + j)) (n - (k + 1)) in
     append-read (f k) rest (append-read (chained f k) (f k ++ rest) (sym (ap first (chained-split f n k h)) ∙ none) .1) .0
 
 -- the next part goes on, or stops the whole
-module _ (f : ℕ → List Condition) (k : ℕ) (none : first (chained f k) ≡ Read) (s : Status) (is-first : s ≡ first (f k)) where
-  pub goes-on : s ≡ Read → first (chained f (k + 1)) ≡ Read
+module _ (f : ℕ → List Condition) (k : ℕ) (none : first (chained f k) ≡ Passed) (s : Status) (is-first : s ≡ first (f k)) where
+  pub goes-on : s ≡ Passed → first (chained f (k + 1)) ≡ Passed
   unfolding orElse
   goes-on read =
       ap first (chained-more f k) ∙ first-append (chained f k) (f k) ∙ ap (λ (t : Status). orElse t (first (f k))) none ∙ sym is-first ∙ read

@@ -11,11 +11,11 @@ use lib.Dec.{eqb}
 use lib.IntN.{ℤ}
 use Rattle.powers.specs.Powers.{above, below}
 use Rattle.cases.specs.Ranges.{valueAtLeast, valueAtMost, withinBounds, isYear, inRange}
-use Rattle.cases.specs.Cases.{printed, isOtherYear}
+use Rattle.cases.specs.Cases.{given, isOtherYear}
 use Rattle.cases.specs.Ranged.{Spelled, Fits}
 use Rattle.slots.specs.declared.Rule.{Rule}
 use Rattle.cases.specs.declared.Value.{Value}
-use Rattle.cases.specs.declared.Value.the-variants.{Absent, Printed}
+use Rattle.cases.specs.declared.Value.the-variants.{Absent, Given}
 use Rattle.lists.proofs.Booleans.{both}
 use Rattle.powers.proofs.PowerLaws.{tens}
 use Rattle.cases.proofs.RangeLaws.{above-all, least-near}
@@ -79,20 +79,20 @@ module _ (rule : Rule) (digits : ℕ) (power : ℤ) where
       )
 
 -- a slot that allows neither blank nor - has a value
-pub record Given (rule : Rule) (v : Value) : Type 0 where
+pub record HasValue (rule : Rule) (v : Value) : Type 0 where
   pub digits : ℕ
   pub power : ℤ
-  pub printed : v ≡ Printed power digits
+  pub given : v ≡ Given power digits
   pub ranged : inRange rule digits power ≡ true
   pub spelled : Spelled digits power
 
-pub needed : (rule : Rule) (v : Value) → Fits rule v → rule .blank ≡ false → rule .dash ≡ false → Given rule v
+pub needed : (rule : Rule) (v : Value) → Fits rule v → rule .blank ≡ false → rule .dash ≡ false → HasValue rule v
 needed rule Absent f b d = absurd (true≢false (sym f ∙ ap (λ (t : Bool). t || rule .blank) d ∙ b))
-needed rule (Printed power digits) f b d = record { digits = digits; power = power; printed = refl; ranged = f .1; spelled = f .2 }
+needed rule (Given power digits) f b d = record { digits = digits; power = power; given = refl; ranged = f .1; spelled = f .2 }
 
 -- a value that fits a year's rule is no other year
 pub year-right : (rule : Rule) (v : Value) → Fits rule v → rule .year ≡ true → isOtherYear v ≡ false
 unfolding isOtherYear
 year-right rule Absent f y = refl
-year-right rule (Printed power digits) f y =
+year-right rule (Given power digits) f y =
     ap not (sym (ap (λ (t : Bool). cond t (isYear digits power) true) y) ∙ range-parts rule digits power (f .1) .1)

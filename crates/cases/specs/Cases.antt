@@ -13,7 +13,7 @@ use Rattle.cases.specs.Ranges.{isYearOf, isYear}
 use Rattle.slots.specs.declared.Guidance.{Guidance}
 use Rattle.slots.specs.declared.Guidance.the-variants.{Of2005, Of2009}
 use Rattle.cases.specs.declared.Value.{Value}
-use Rattle.cases.specs.declared.Value.the-variants.{Absent, Printed}
+use Rattle.cases.specs.declared.Value.the-variants.{Absent, Given}
 use Rattle.cases.specs.declared.Filled.{Filled}
 use Rattle.cases.specs.declared.Record.{Record}
 use Rattle.cases.specs.declared.Case.{Case}
@@ -56,18 +56,18 @@ ownersRecord Site case j i = case .site
 ownersRecord Chemical case j i = chemicalAt case i
 ownersRecord Receptor case j i = receptorAt case j
 
-unfoldable pub printed : Case → ℕ → ℕ → Slot → Value
-printed case j i s = valueAt (ownersRecord (ownerOf s) case j i) (placeOf s)
+unfoldable pub given : Case → ℕ → ℕ → Slot → Value
+given case j i s = valueAt (ownersRecord (ownerOf s) case j i) (placeOf s)
 
 -- ---- the guidance that a site names by its year (document 02, P6); blank means 2005
 unfoldable pub guidanceOf : Value → Guidance
 guidanceOf Absent = Of2005
-guidanceOf (Printed power digits) = cond (isYearOf Of2009 digits power) Of2009 Of2005
+guidanceOf (Given power digits) = cond (isYearOf Of2009 digits power) Of2009 Of2005
 
 -- a number that is the year of neither, which no deck that is read has
 unfoldable pub isOtherYear : Value → Bool
 isOtherYear Absent = false
-isOtherYear (Printed power digits) = not (isYear digits power)
+isOtherYear (Given power digits) = not (isYear digits power)
 
 -- the case with no value in its slot
 unfoldable pub clearYear : Record → Record

@@ -7,7 +7,7 @@ use mathlib.Core.Bool.{Bool, false, cond}
 use mathlib.Core.List.{List, [], _∷_, _++_}
 use mathlib.Core.Logic.{_≢_}
 use Rattle.cases.specs.declared.Status.{Status}
-use Rattle.cases.specs.declared.Status.the-variants.{Read, Stopped}
+use Rattle.cases.specs.declared.Status.the-variants.{Passed, Stopped}
 use Rattle.cases.specs.declared.Told.{Told}
 
 -- a condition: its number, the line and the field where it is told, and whether it holds
@@ -22,7 +22,7 @@ at n l f b = record { number = n; line = l; field = f; holds = b }
 
 -- the first that holds
 unfoldable pub first : List Condition → Status
-first [] = Read
+first [] = Passed
 first (c ∷ cs) = cond (c .holds) (Stopped (c .number) (c .line) (c .field)) (first cs)
 
 -- none of them holds
@@ -42,5 +42,5 @@ upTo f (suc n) = upTo f n ++ f (suc n)
 
 -- number, line and field as document 01 tells them; all 0 where the deck is read
 unfoldable pub toldOf : Status → Told
-toldOf Read = record { number = 0; line = 0; field = 0 }
+toldOf Passed = record { number = 0; line = 0; field = 0 }
 toldOf (Stopped number line field) = record { number = number; line = line; field = field }

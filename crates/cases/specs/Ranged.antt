@@ -10,12 +10,12 @@ use Rattle.slots.specs.Slots.{Slot, ruleFor}
 use Rattle.slots.specs.declared.Rule.{Rule}
 use Rattle.slots.specs.declared.Sort.{Sort}
 use Rattle.sizes.specs.Sizes.{maxChemicals}
-use Rattle.cases.specs.Cases.{maxReceptors, printed}
+use Rattle.cases.specs.Cases.{maxReceptors, given}
 use Rattle.powers.specs.Powers.{above, below}
 use Rattle.cases.specs.Ranges.{inRange}
 use Rattle.cases.specs.declared.Case.{Case}
 use Rattle.cases.specs.declared.Value.{Value}
-use Rattle.cases.specs.declared.Value.the-variants.{Absent, Printed}
+use Rattle.cases.specs.declared.Value.the-variants.{Absent, Given}
 
 -- what a field may spell: twelve digits, and a power of ten from -111 to 99; below -11 only by an exponent, which leaves columns for eight digits
 pub record Spelled (digits : ℕ) (power : ℤ) : Type 0 where
@@ -27,7 +27,7 @@ pub record Spelled (digits : ℕ) (power : ℤ) : Type 0 where
 -- what a slot's rule asks of its value; no value is right where - or blank is allowed
 abbrev pub Fits : Rule → Value → Type 0
 Fits rule Absent = (rule .dash || rule .blank) ≡ true
-Fits rule (Printed power digits) = (rule .used ≡ true) × (inRange rule digits power ≡ true) × Spelled digits power
+Fits rule (Given power digits) = (rule .used ≡ true) × (inRange rule digits power ≡ true) × Spelled digits power
 
 -- for each receptor j and chemical i, from 0
 pub record Ranged (sort : Sort) (case : Case) : Type 0 where
@@ -35,4 +35,4 @@ pub record Ranged (sort : Sort) (case : Case) : Type 0 where
   pub few-chemicals : case .chemicals .count ≤ maxChemicals
   pub some-receptors : 1 ≤ case .receptors .count
   pub few-receptors : case .receptors .count ≤ maxReceptors sort
-  pub fits : (j i : ℕ) → j < case .receptors .count → i < case .chemicals .count → (s : Slot) → Fits (ruleFor sort s) (printed case j i s)
+  pub fits : (j i : ℕ) → j < case .receptors .count → i < case .chemicals .count → (s : Slot) → Fits (ruleFor sort s) (given case j i s)

@@ -10,7 +10,7 @@ use crate::ranges::is_year_of;
 pub fn guidance_of(v: Value) -> Guidance
     ensures { λ r. ⌜ r ≡ guidanceOf v ⌝ }
 {
-    let Value::Printed { digits, power } = v else {
+    let Value::Given { digits, power } = v else {
         return Guidance::Of2005;
     };
     if is_year_of(Guidance::Of2009, digits, power) {
@@ -23,7 +23,7 @@ pub fn guidance_of(v: Value) -> Guidance
 pub fn is_other_year(v: Value) -> bool
     ensures { λ r. ⌜ r ≡ isOtherYear v ⌝ }
 {
-    let Value::Printed { digits, power } = v else {
+    let Value::Given { digits, power } = v else {
         return false;
     };
     !is_year(digits, power)

@@ -12,11 +12,11 @@ use sizes::SLOTS;
 ghost use mathlib.Core.Path.{_≡_};
 ghost use Rattle.cases.specs.Conditions.{toldOf};
 
-// A slot's value as printed: digits × 10 ^ power. Absent where a lone - stands, and in slots that no record has. The power stands first, so
-// that a value takes 16 bytes and not 24.
+// A slot's value, read from a deck or given by a caller: digits × 10 ^ power. Absent where a lone - stands, and in slots that no record has. The
+// power stands first, so that a value takes 16 bytes and not 24.
 pub enum Value {
     Absent,
-    Printed { power: i32, digits: u64 },
+    Given { power: i32, digits: u64 },
 }
 
 // What a slot was filled with.
@@ -46,13 +46,13 @@ pub struct Case {
     pub receptors: Receptors,
 }
 
-// Read, or the first condition that holds: its number, line and field.
+// Passed where no condition of a call holds; else the first that does: its number, line and field.
 pub enum Status {
-    Read,
+    Passed,
     Stopped(u32, usize, usize),
 }
 
-// Number, line and field as document 01 tells them; all 0 where the deck is read.
+// Number, line and field as document 01 tells them; all 0 where no condition holds.
 pub struct Told {
     pub number: u32,
     pub line: usize,
@@ -64,7 +64,7 @@ pub fn tell(status: Status) -> Told
     ensures { λ r. ⌜ r ≡ toldOf status ⌝ }
 {
     match status {
-        Status::Read => Told {
+        Status::Passed => Told {
             number: 0,
             line: 0,
             field: 0,

@@ -5,11 +5,11 @@ use Rattle.cases.specs.Cases.{receptorAt, caseWithoutYear}
 use Rattle.sheet.proofs.YearLaws.{deposition-blank}
 use Rattle.report.specs.Guidance.{Law2005}
 use Rattle.report.proofs.ReportGuidance.{law-2005-of}
-use Rattle.composite.specs.Composite.{pairStage, lastStage, stageYears, exposureOf, pairComposite, compositeReceptor, compositeFrom, composite}
+use Rattle.composite.specs.Composite.{pairStage, lastStage, stageYears, timeExposed, pairComposite, compositeReceptor, compositeFrom, composite}
 
 -- no stage hangs on the site's year
 composite-blank : (case : Case) → compositeFrom (caseWithoutYear case) ≡ compositeFrom case
-unfolding caseWithoutYear compositeFrom compositeReceptor pairComposite pairStage lastStage stageYears exposureOf receptorAt
+unfolding caseWithoutYear compositeFrom compositeReceptor pairComposite pairStage lastStage stageYears timeExposed receptorAt
 composite-blank case = rw (deposition-blank (case .site)) refl
 
 pub law-2005 : Law2005 composite

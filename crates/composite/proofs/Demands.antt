@@ -27,13 +27,13 @@ use Rattle.cases.specs.declared.Case.{Case}
 use Rattle.cases.specs.declared.Value.{Value}
 use Rattle.cases.specs.declared.Value.the-variants as Values
 use Rattle.deck.specs.declared.Reading.{Reading}
-use Rattle.cases.specs.declared.Status.the-variants.{Read}
+use Rattle.cases.specs.declared.Status.the-variants.{Passed}
 use Rattle.deck.specs.DeckCase.{readOf, caseOf}
-use Rattle.cases.specs.Cases.{valueAt, chemicalAt, receptorAt, ownersRecord, printed}
+use Rattle.cases.specs.Cases.{valueAt, chemicalAt, receptorAt, ownersRecord, given}
 use Rattle.cases.specs.Ranged.{Fits, Ranged}
 use Rattle.deck.proofs.Accepted.{accepted}
 use Rattle.lists.proofs.Tabulated.{tabulated}
-use Rattle.scenario.specs.Scenario.{orOne, orNone, pairOf, fractionOf, noReceptor, chemicalIn, receptorIn, stayIn, pairsAt, scenarioWith, exactWith, printedYears, depositionOf, receptorWith}
+use Rattle.scenario.specs.Scenario.{orOne, orNone, pairOf, fractionOf, noReceptor, chemicalIn, receptorIn, stayIn, pairsAt, scenarioWith, exactWith, timeGiven, depositionOf, receptorWith}
 use Rattle.scenario.proofs.Sound.{Sound}
 use Rattle.scenario.proofs.InputLaws.{value-good, value-entered, receptor-fits, made-sound}
 use Rattle.scenario.proofs.DepositionLaws.{time-told, deposition-told, later-good}
@@ -45,7 +45,7 @@ use Rattle.deck.proofs.DeckIds.{small-ids}
 use Rattle.report.proofs.Exposures.{exposed}
 use Rattle.report.proofs.DemandTwo.{Sounds, demand-2-of}
 use Rattle.report.proofs.DemandThree.{demand-3-of}
-use Rattle.composite.specs.Composite.{mean, summed, sumOfYears, composed, yearsTogether, pairStage, exactStage, lastStage, stageYears, exposureOf, pairComposite, compositeReceptor, compositeFrom, exactComposite, composite, compositeScenario, Composed}
+use Rattle.composite.specs.Composite.{mean, summed, sumOfYears, composed, yearsTogether, pairStage, exactStage, lastStage, stageYears, timeExposed, pairComposite, compositeReceptor, compositeFrom, exactComposite, composite, compositeScenario, Composed}
 use Rattle.composite.proofs.Weighing.{composed-good}
 use Rattle.composite.proofs.StageTimes.{Lasting, printed-lasts, together-lasts, together-is, pair-good}
 
@@ -95,20 +95,20 @@ module _ (case : Case) (ranged : Ranged Composite case) where
   unfolding stageYears exactStage
   stage-lasts j h = printed-lasts Composite "years" (valueAt (receptorAt case j) (placeOf "years")) years-rule (receptor-fits Composite case ranged j (here j h) "years" years-owner)
 
-  exposure-lasts : Lasting (suc (lastStage case)) (exposureOf case) exact-sum
-  unfolding exposureOf exact-sum sumOfYears
+  exposure-lasts : Lasting (suc (lastStage case)) (timeExposed case) exact-sum
+  unfolding timeExposed exact-sum sumOfYears
   exposure-lasts = together-lasts (stageYears case) (λ j. exactStage case j (placeOf "years")) (lastStage case) few stage-lasts (lastStage case) (omega arith)
 
   deposition-lasts : Lasting 1 (depositionOf (case .site)) (fractionOf (valueAt (case .site) (placeOf "tD")))
-  unfolding depositionOf printed ownersRecord ownerOf isIn same table
+  unfolding depositionOf given ownersRecord ownerOf isIn same table
   deposition-lasts = printed-lasts Composite "tD" (valueAt (case .site) (placeOf "tD")) tD-rule (ranged .fits 0 0 (ranged .some-receptors) (ranged .some-chemicals) "tD")
 
   -- the composite's
   slot-good : (s : Slot) → ownerOf s ≡ Receptor → Good (ofSlot s) (pairComposite case (placeOf s)) (composed fractions (exactStage case) exact-sum (lastStage case) (placeOf s))
   unfolding pairComposite
   slot-good s e =
-      composed-good (pairStage case) (exactStage case) (years.asPair (exposureOf case)) exact-sum (lastStage case) few s e
-      (pair-good (suc (lastStage case)) (exposureOf case) exact-sum exposure-lasts) years-good (stage-good s e)
+      composed-good (pairStage case) (exactStage case) (years.asPair (timeExposed case)) exact-sum (lastStage case) few s e
+      (pair-good (suc (lastStage case)) (timeExposed case) exact-sum exposure-lasts) years-good (stage-good s e)
 
   slot-taken : (s : Slot) → ownerOf s ≡ Receptor → pairComposite case (placeOf s) ≡ is (valueIn (compositeReceptor case .values) (placeOf s))
   unfolding compositeReceptor receptorWith valueIn places
@@ -130,7 +130,7 @@ module _ (case : Case) (ranged : Ranged Composite case) where
   receptor-later : (j : ℕ) → j < 1 → ofLater (getD (compositeFrom case .list) j noReceptor .stay) .answered ≡ true
       → Good (ofLater (getD (compositeFrom case .list) j noReceptor .stay)) (is (getD (compositeFrom case .list) j noReceptor .later)) (minus (exactComposite case j "T2") tD)
   unfolding compositeFrom compositeReceptor receptorWith exactComposite composed exact-sum placeOf ownerOf placeIn isIn same table
-  receptor-later zero h = later-good (exposureOf case) (depositionOf (case .site)) exact-sum tD (exposure-lasts .exact) (deposition-lasts .exact)
+  receptor-later zero h = later-good (timeExposed case) (depositionOf (case .site)) exact-sum tD (exposure-lasts .exact) (deposition-lasts .exact)
   receptor-later (suc j) h = absurd (omega arith)
 
   composite-sound : Sound (scenarioWith case (compositeFrom case)) (exactWith case (exactComposite case))
@@ -138,7 +138,7 @@ module _ (case : Case) (ranged : Ranged Composite case) where
   composite-sound = made-sound Composite case ranged (compositeFrom case) (exactComposite case) (lit≤ tt) (lit≤ tt) receptor-good receptor-later
 
   stage-entered : (j : ℕ) → j < case .receptors .count → (s : Slot) (digits : ℕ) (power : ℤ) → ownerOf s ≡ Receptor
-      → valueAt (receptorAt case j) (placeOf s) ≡ Values.Printed power digits → entry digits power ≡ pairStage case j (placeOf s)
+      → valueAt (receptorAt case j) (placeOf s) ≡ Values.Given power digits → entry digits power ≡ pairStage case j (placeOf s)
   unfolding pairStage
   stage-entered j h s digits power e there =
       value-entered Composite s digits power (subst (Fits (ruleFor Composite s)) there (receptor-fits Composite case ranged j h s e))
@@ -156,13 +156,13 @@ module _ (case : Case) (ranged : Ranged Composite case) where
   unfolding lastStage
   stages-added j h = together-is (stageYears case) (λ i. exactStage case i (placeOf "years")) (lastStage case) few stage-lasts j (omega arith)
 
-  exposure-taken : (i : ℕ) → years.asPair (exposureOf case) ≡ is (pairsAt (compositeScenario case) 0 i .value "T2")
+  exposure-taken : (i : ℕ) → years.asPair (timeExposed case) ≡ is (pairsAt (compositeScenario case) 0 i .value "T2")
   unfolding pairComposite composed placeOf ownerOf placeIn isIn same table
   exposure-taken i = made-rule i "T2" refl
 
-  set-against : (i : ℕ) → Exposed (exposureOf case) (depositionOf (case .site)) (stayIn (compositeScenario case) 0) (pairsAt (compositeScenario case) 0 i .later)
+  set-against : (i : ℕ) → Exposed (timeExposed case) (depositionOf (case .site)) (stayIn (compositeScenario case) 0) (pairsAt (compositeScenario case) 0 i .later)
   unfolding stayIn pairsAt compositeScenario scenarioWith receptorIn compositeFrom compositeReceptor receptorWith
-  set-against i = exposed (exposureOf case) (depositionOf (case .site)) (exposure-lasts .exact .time) (deposition-lasts .exact .time)
+  set-against i = exposed (timeExposed case) (depositionOf (case .site)) (exposure-lasts .exact .time) (deposition-lasts .exact .time)
 
   composite-made : Composed case
   composite-made =
@@ -191,7 +191,7 @@ composite-sounds =
     }
 
 -- a deck that is read has one to eight stages
-pub stages-few : (deck buffer : List ℕ) (reading : Reading) → reading ≡ readOf (composite .sort) deck → reading .status ≡ Read
+pub stages-few : (deck buffer : List ℕ) (reading : Reading) → reading ≡ readOf (composite .sort) deck → reading .status ≡ Passed
     → (1 ≤ reading .case .receptors .count) × (reading .case .receptors .count ≤ 8)
 unfolding composite
 stages-few deck buffer reading e read =

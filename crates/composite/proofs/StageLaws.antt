@@ -23,10 +23,10 @@ use Rattle.lists.specs.Lists.{tabulate}
 use Rattle.cases.specs.Cases.{noRecord, valueAt, receptorAt}
 use Rattle.scenario.specs.declared.Receptor.{Receptor}
 use Rattle.scenario.specs.declared.Receptors.{Receptors}
-use Rattle.scenario.specs.Scenario.{orOne, pairOf, noReceptor, orNone, printedYears, depositionOf, receptorWith}
+use Rattle.scenario.specs.Scenario.{orOne, pairOf, noReceptor, orNone, timeGiven, depositionOf, receptorWith}
 use Rattle.lists.proofs.Tabulated.{tabulated}
-use Rattle.composite.specs.Composite.{summed, sumOfYears, mean, composed, yearsTogether, pairStage, lastStage, stageYears, exposureOf, pairComposite, compositeReceptor, compositeFrom}
-use Rattle.composite.specs.Inner.{pairIn, stageIn, yearsIn, yearAt, weightAt, printedIn, composedIn}
+use Rattle.composite.specs.Composite.{summed, sumOfYears, mean, composed, yearsTogether, pairStage, lastStage, stageYears, timeExposed, pairComposite, compositeReceptor, compositeFrom}
+use Rattle.composite.specs.Inner.{pairIn, stageIn, yearsIn, yearAt, weightAt, timeIn, composedIn}
 
 -- terms that agree have one sum
 summed-same : (f g : ℕ → Outcome Pair) (n : ℕ) → ((j : ℕ) → j ≤ n → f j ≡ g j) → summed pairs f n ≡ summed pairs g n
@@ -72,9 +72,9 @@ unfolding summed pairs
 next-sum f so-far new term n a b e = e ∙ ap₂ (after sum) a (b ∙ ap f (add-one n)) ∙ sym (ap (summed pairs f) (add-one n))
 
 -- ---- the years of the stages as printed, added
-pub printed-is : (records : List Record) (blank : Record) (j : ℕ) → j < length records → printedYears (valueAt (getD records j blank) (placeOf "years")) ≡ printedIn records j
-unfolding printedIn
-printed-is records blank j h = ap (λ (r : Record). printedYears (valueAt r (placeOf "years"))) (read-any records j h blank noRecord)
+pub printed-is : (records : List Record) (blank : Record) (j : ℕ) → j < length records → timeGiven (valueAt (getD records j blank) (placeOf "years")) ≡ timeIn records j
+unfolding timeIn
+printed-is records blank j h = ap (λ (r : Record). timeGiven (valueAt r (placeOf "years"))) (read-any records j h blank noRecord)
 
 pub next-years : (f : ℕ → Years) (so-far new term : Years) (n : ℕ) → so-far ≡ yearsTogether f n → term ≡ f (n + 1) → new ≡ orNone (together so-far term) → new ≡ yearsTogether f (n + 1)
 unfolding yearsTogether
@@ -105,10 +105,10 @@ module _ (stage : ℕ → ℕ → Outcome Pair) (exposure : Outcome Pair) (last 
 
 -- ---- the receptor as it is made
 module _ (case : Case) (blank : Record) (h : 0 < length (case .receptors .records)) (values′ : Values) (exposure : Years) (rounded : Outcome Pair)
-    (exposure-is : exposure ≡ yearsTogether (printedIn (case .receptors .records)) (case .receptors .count - 1)) (rounded-is : rounded ≡ asPair exposure)
+    (exposure-is : exposure ≡ yearsTogether (timeIn (case .receptors .records)) (case .receptors .count - 1)) (rounded-is : rounded ≡ asPair exposure)
     (values-are : values′ .list ≡ composedIn (case .receptors .records) rounded (case .receptors .count - 1)) where
-  exposure-made : exposure ≡ exposureOf case
-  unfolding exposureOf stageYears printedIn lastStage receptorAt
+  exposure-made : exposure ≡ timeExposed case
+  unfolding timeExposed stageYears timeIn lastStage receptorAt
   exposure-made = exposure-is
 
   values-made : _≡_ {A = Values} values′ (record { list = tabulate slotsPerRecord (λ k. orOne (pairComposite case k)) })

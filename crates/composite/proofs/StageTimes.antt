@@ -23,11 +23,11 @@ use Rattle.slots.specs.Slots.{Slot, positive, ruleFor}
 use Rattle.equations.specs.Formula.{fractions}
 use Rattle.equations.proofs.Profile.{Good, answeredAs, good-around, good-equal}
 use Rattle.cases.specs.declared.Value.{Value}
-use Rattle.cases.specs.declared.Value.the-variants.{Printed}
+use Rattle.cases.specs.declared.Value.the-variants.{Given}
 use Rattle.powers.specs.Powers.{above, below}
 use Rattle.cases.specs.Ranged.{Fits}
 use Rattle.cases.proofs.FitsLaws.{needed, range-positive, range-most, finest}
-use Rattle.scenario.specs.Scenario.{orNone, fractionOf, printedYears}
+use Rattle.scenario.specs.Scenario.{orNone, fractionOf, timeGiven}
 use Rattle.scenario.proofs.InputLaws.{ten-above, place-power}
 use Rattle.scenario.proofs.DepositionLaws.{Exactly, printed-exactly}
 use Rattle.composite.specs.Composite.{summed, yearsTogether}
@@ -49,11 +49,11 @@ most-amount m p a d u b e f z w h =
     (omega (arith, ap (λ (i : ℕ). i * b) e, ap (λ (i : ℕ). m * 10 ^ 27 * i) f, mul-le-mul-right (10 ^ 27 * d) h))
     (mul-pos z w)
 
-amount-across : (m : ℕ) (e : ℤ) (v : Value) (y : Years) → v ≡ Printed e m → fractionOf v =ᶠ inYears y → m * 10 ^ place e * 10 ^ 27 ≡ amount y * 10 ^ depth
+amount-across : (m : ℕ) (e : ℤ) (v : Value) (y : Years) → v ≡ Given e m → fractionOf v =ᶠ inYears y → m * 10 ^ place e * 10 ^ 27 ≡ amount y * 10 ^ depth
 unfolding fractionOf scaled inYears years.yearsOf
 amount-across m e v y p s = (rw p at s) .across
 
-pub printed-lasts : (sort : Sort) (s : Slot) (v : Value) → ruleFor sort s ≡ positive → Fits (ruleFor sort s) v → Lasting 1 (printedYears v) (fractionOf v)
+pub printed-lasts : (sort : Sort) (s : Slot) (v : Value) → ruleFor sort s ≡ positive → Fits (ruleFor sort s) v → Lasting 1 (timeGiven v) (fractionOf v)
 printed-lasts sort s v above-zero f =
     let rule : Rule = ruleFor sort s in
     let b = ap (λ (r : Rule). r .blank) above-zero in
@@ -64,12 +64,12 @@ printed-lasts sort s v above-zero f =
     let some = range-positive rule (g .digits) (g .power) (g .ranged) z in
     let low = finest rule (g .digits) (g .power) (g .ranged) some m (g .spelled) .0 in
     let e = printed-exactly rule b d z m v f .exact in
-    let across = amount-across (g .digits) (g .power) v (printedYears v) (g .printed) (e .same) in
+    let across = amount-across (g .digits) (g .power) v (timeGiven v) (g .printed) (e .same) in
     record {
       exact = e;
-      some = some-amount (g .digits) (10 ^ place (g .power)) (amount (printedYears v)) (10 ^ depth) across some (ten-above (place (g .power)));
+      some = some-amount (g .digits) (10 ^ place (g .power)) (amount (timeGiven v)) (10 ^ depth) across some (ten-above (place (g .power)));
       most =
-          most-amount (g .digits) (10 ^ place (g .power)) (amount (printedYears v)) (10 ^ depth) (10 ^ above (g .power)) (10 ^ below (g .power)) across
+          most-amount (g .digits) (10 ^ place (g .power)) (amount (timeGiven v)) (10 ^ depth) (10 ^ above (g .power)) (10 ^ below (g .power)) across
           (place-power (g .power) (omega arith)) (ten-above depth) (ten-above (below (g .power))) (range-most rule (g .digits) (g .power) (g .ranged) 1000000000 m);
     }
 

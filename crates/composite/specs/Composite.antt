@@ -24,7 +24,7 @@ use Rattle.lists.specs.Lists.{tabulate}
 use Rattle.cases.specs.Cases.{valueAt, receptorAt}
 use Rattle.scenario.specs.declared.Receptor.{Receptor}
 use Rattle.scenario.specs.declared.Receptors.{Receptors}
-use Rattle.scenario.specs.Scenario.{Scenario, orOne, pairOf, noReceptor, fractionOf, stayIn, pairsAt, scenarioWith, orNone, printedYears, depositionOf, receptorWith}
+use Rattle.scenario.specs.Scenario.{Scenario, orOne, pairOf, noReceptor, fractionOf, stayIn, pairsAt, scenarioWith, orNone, timeGiven, depositionOf, receptorWith}
 use Rattle.report.specs.Report.{Call}
 use Rattle.report.specs.DemandTwo.{Timed, Exposed}
 
@@ -65,18 +65,18 @@ unfoldable pub lastStage : Case → ℕ
 lastStage case = case .receptors .count - 1
 
 unfoldable pub stageYears : Case → ℕ → Years
-stageYears case j = printedYears (valueAt (receptorAt case j) (placeOf "years"))
+stageYears case j = timeGiven (valueAt (receptorAt case j) (placeOf "years"))
 
-unfoldable pub exposureOf : Case → Years
-exposureOf case = yearsTogether (stageYears case) (lastStage case)
+unfoldable pub timeExposed : Case → Years
+timeExposed case = yearsTogether (stageYears case) (lastStage case)
 
 -- ---- the composite, under the first one's id; T2 is rounded here, once
 unfoldable pub pairComposite : Case → ℕ → Outcome Pair
-pairComposite case k = composed pairs (pairStage case) (years.asPair (exposureOf case)) (lastStage case) k
+pairComposite case k = composed pairs (pairStage case) (years.asPair (timeExposed case)) (lastStage case) k
 
 unfoldable pub compositeReceptor : Case → Receptor
 compositeReceptor case =
-    receptorWith (receptorAt case 0 .id) (record { list = tabulate slotsPerRecord (λ k. orOne (pairComposite case k)) }) (exposureOf case) (depositionOf (case .site))
+    receptorWith (receptorAt case 0 .id) (record { list = tabulate slotsPerRecord (λ k. orOne (pairComposite case k)) }) (timeExposed case) (depositionOf (case .site))
 
 -- a single receptor
 unfoldable pub compositeFrom : Case → Receptors
@@ -97,7 +97,7 @@ compositeScenario case = scenarioWith case (compositeFrom case)
 -- T2 is the sum of the years, to their last printed digit, and rounded once to the pair.
 pub record Composed (case : Case) : Type 0 where
   pub entered : (j : ℕ) → j < case .receptors .count → (s : Slot) (digits : ℕ) (power : ℤ) → ownerOf s ≡ owners.Receptor
-      → valueAt (receptorAt case j) (placeOf s) ≡ Values.Printed power digits → entry digits power ≡ pairStage case j (placeOf s)
+      → valueAt (receptorAt case j) (placeOf s) ≡ Values.Given power digits → entry digits power ≡ pairStage case j (placeOf s)
   pub rule : (i : ℕ) (s : Slot) → ownerOf s ≡ owners.Receptor → pairComposite case (placeOf s) ≡ is (pairsAt (compositeScenario case) 0 i .value s)
   -- no time on the way is rounded or refused: a stage's years, each sum of them in deck order, and tD
   pub staged : (j : ℕ) → j < case .receptors .count → Timed (valueAt (receptorAt case j) (placeOf "years"))
@@ -105,5 +105,5 @@ pub record Composed (case : Case) : Type 0 where
       → years.together (yearsTogether (stageYears case) j) (stageYears case (suc j)) ≡ is (yearsTogether (stageYears case) (suc j))
   pub deposition : Timed (valueAt (case .site) (placeOf "tD"))
   -- T2's pair is that of the sum, and it is set against tD as every exposure is
-  pub taken : (i : ℕ) → years.asPair (exposureOf case) ≡ is (pairsAt (compositeScenario case) 0 i .value "T2")
-  pub exposed : (i : ℕ) → Exposed (exposureOf case) (depositionOf (case .site)) (stayIn (compositeScenario case) 0) (pairsAt (compositeScenario case) 0 i .later)
+  pub taken : (i : ℕ) → years.asPair (timeExposed case) ≡ is (pairsAt (compositeScenario case) 0 i .value "T2")
+  pub exposed : (i : ℕ) → Exposed (timeExposed case) (depositionOf (case .site)) (stayIn (compositeScenario case) 0) (pairsAt (compositeScenario case) 0 i .later)

@@ -11,7 +11,7 @@ use Rattle.cases.specs.declared.Record.{Record}
 use Rattle.sizes.specs.Sizes.{mostStages, slotsPerRecord}
 use Rattle.lists.specs.Lists.{tabulate}
 use Rattle.cases.specs.Cases.{noRecord, valueAt}
-use Rattle.scenario.specs.Scenario.{orOne, pairOf, printedYears}
+use Rattle.scenario.specs.Scenario.{orOne, pairOf, timeGiven}
 use Rattle.composite.specs.Composite.{composed}
 
 -- the pair at place k of record j
@@ -32,8 +32,8 @@ unfoldable pub weightAt : List Record → List Pair → ℕ → ℕ → Outcome 
 weightAt records years k j = after product (yearAt years j) (stageIn records j k)
 
 -- the years of stage j as printed
-unfoldable pub printedIn : List Record → ℕ → Years
-printedIn records j = printedYears (valueAt (getD records j noRecord) (placeOf "years"))
+unfoldable pub timeIn : List Record → ℕ → Years
+timeIn records j = timeGiven (valueAt (getD records j noRecord) (placeOf "years"))
 
 -- the composite's values, place by place
 unfoldable pub composedIn : List Record → Outcome Pair → ℕ → List Pair

@@ -22,7 +22,7 @@ pub fn report(deck: &[u8], out: &mut [u8]) -> Told
 {
     let reading = deck::read(deck, Sort::Composite);
     let status = reading.status;
-    let Status::Read = status else {
+    let Status::Passed = status else {
         return cases::tell(status);
     };
     let receptors = composite_of(reading.case);

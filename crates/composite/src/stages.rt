@@ -1,6 +1,5 @@
 // One receptor made of life stages.
 use cases::Case;
-use sizes::MAX_STAGES;
 use cases::Receptors;
 use cases::Record;
 use equations::Stay;
@@ -8,9 +7,10 @@ use equations::Values;
 use pair::Answer;
 use pair::Pair;
 use scenario::Receptor;
+use sizes::MAX_STAGES;
+use sizes::SLOTS;
 use slots::ATC;
 use slots::ED;
-use sizes::SLOTS;
 use slots::T2;
 use slots::YEARS;
 use times::Time;
@@ -22,9 +22,9 @@ ghost use Rattle.times.specs.Times.{together};
 ghost use Rattle.slots.specs.Slots.{placeOf};
 ghost use Rattle.equations.specs.Formula.{pairs};
 ghost use Rattle.cases.specs.Cases.{valueAt};
-ghost use Rattle.scenario.specs.Scenario.{pairOf, noReceptor, orNone, printedYears};
+ghost use Rattle.scenario.specs.Scenario.{pairOf, noReceptor, orNone, timeGiven};
 ghost use Rattle.composite.specs.Composite.{summed, sumOfYears, composed, yearsTogether, compositeFrom};
-ghost use Rattle.composite.specs.Inner.{stageIn, yearsIn, yearAt, weightAt, printedIn, composedIn};
+ghost use Rattle.composite.specs.Inner.{stageIn, yearsIn, yearAt, weightAt, timeIn, composedIn};
 
 // The years of each stage as pairs, entered once.
 struct YearPairs {
@@ -90,12 +90,12 @@ fn weighted_sum(stages: Receptors, years: YearPairs, last: usize, k: usize) -> A
 }
 
 // A stage's years as printed.
-fn printed_in(stage: Record) -> Years
-    ensures { λ y. ⌜ y ≡ printedYears (valueAt stage (placeOf "years")) ⌝ }
+fn time_in(stage: Record) -> Years
+    ensures { λ y. ⌜ y ≡ timeGiven (valueAt stage (placeOf "years")) ⌝ }
 {
     let slot = stage.slots[YEARS];
     let v = slot.value;
-    scenario::printed_years(v)
+    scenario::time_given(v)
 }
 
 // The sum of two times; 0 for one that is refused, which printed years in range never come to.
@@ -109,17 +109,17 @@ fn added(sum: Years, next: Years) -> Years
 }
 
 // The exposure of stages 0 to last, exact.
-fn exposure_of(stages: Receptors, last: usize) -> Years
+fn time_exposed(stages: Receptors, last: usize) -> Years
     requires { ⌜ last < 8 ⌝ }
-    ensures { λ y. ⌜ y ≡ yearsTogether (printedIn (stages .records)) last ⌝ }
+    ensures { λ y. ⌜ y ≡ yearsTogether (timeIn (stages .records)) last ⌝ }
 {
     let first = stages.records[0];
-    let mut sum = printed_in(first);
+    let mut sum = time_in(first);
     let mut j: usize = 0;
     while j < last {
         let next = j + 1;
         let stage = stages.records[next];
-        sum = added(sum, printed_in(stage));
+        sum = added(sum, time_in(stage));
         j = next;
     }
     sum
@@ -181,7 +181,7 @@ pub(crate) fn composite_of(case: Case) -> scenario::Receptors
     let stages = case.receptors;
     let first = stages.records[0];
     let last = stages.count - 1;
-    let exposure = exposure_of(stages, last);
+    let exposure = time_exposed(stages, last);
     let values = composed_values(stages, exposure.pair(), last);
     let deposition = scenario::deposition_of(case.site);
     let receptor = scenario::receptor_with(first.id, values, exposure, deposition);

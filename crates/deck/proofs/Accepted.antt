@@ -22,7 +22,7 @@ use Rattle.slots.proofs.SlotLaws.{places, place-rule, inside}
 use Rattle.cases.specs.Conditions.{at, first, upTo}
 use Rattle.deck.specs.DeckConditions.{fieldConditions, fieldAt, misspelled, misplaced, outOfRange, countOf, conditions}
 use Rattle.deck.specs.DeckCase.{valueOf, slotSpelled, recordOf, recordsOf, caseWith, caseOf}
-use Rattle.cases.specs.Cases.{noSlot, noRecord, valueAt, chemicalAt, receptorAt, ownersRecord, printed}
+use Rattle.cases.specs.Cases.{noSlot, noRecord, valueAt, chemicalAt, receptorAt, ownersRecord, given}
 use Rattle.cases.specs.Ranged.{Fits, Ranged}
 use Rattle.deck.specs.Inner.{Small}
 use Rattle.slots.specs.declared.Rule.{Rule}
@@ -30,7 +30,7 @@ use Rattle.cases.specs.declared.Filled.{Filled}
 use Rattle.cases.specs.declared.Record.{Record}
 use Rattle.spelling.specs.declared.Word.{Word}
 use Rattle.spelling.specs.declared.Word.the-variants.{Blank, Dash, Number, Other}
-use Rattle.cases.specs.declared.Status.the-variants.{Read}
+use Rattle.cases.specs.declared.Status.the-variants.{Passed}
 use Rattle.cases.proofs.FirstMet.{first-read, upTo-each}
 use Rattle.lists.proofs.Tabulated.{filled-at}
 use Rattle.deck.proofs.LinePlaces.{line-facts, counts, lines-are, kind-site, kind-chemical, kind-receptor}
@@ -45,7 +45,7 @@ dash-right : (d b : Bool) → not d ≡ false → (d || b) ≡ true
 dash-right d b e = ap (λ (t : Bool). t || b) (not-false d e)
 
 -- of the three conditions of a field, none holds
-three : (rule : Rule) (w : Word) (n f : ℕ) → first (fieldConditions rule w n f) ≡ Read
+three : (rule : Rule) (w : Word) (n f : ℕ) → first (fieldConditions rule w n f) ≡ Passed
     → (misspelled w ≡ false) × ((misplaced rule w ≡ false) × (outOfRange rule w ≡ false))
 unfolding fieldConditions
 three rule w n f e =
@@ -53,7 +53,7 @@ three rule w n f e =
     let b = first-read (at 32 n f (misplaced rule w)) (at 33 n f (outOfRange rule w) ∷ []) (a .1) in
     (a .0, (b .0, first-read (at 33 n f (outOfRange rule w)) [] (b .1) .0))
 
-field-fits : (rule : Rule) (w : Word) (n f : ℕ) → Small w → first (fieldConditions rule w n f) ≡ Read → Fits rule (valueOf w)
+field-fits : (rule : Rule) (w : Word) (n f : ℕ) → Small w → first (fieldConditions rule w n f) ≡ Passed → Fits rule (valueOf w)
 unfolding misspelled misplaced outOfRange valueOf
 field-fits rule Blank n f s e = blank-right (rule .dash) (rule .blank) (three rule Blank n f e .1 .0)
 field-fits rule Dash n f s e = dash-right (rule .dash) (rule .blank) (three rule Dash n f e .1 .0)
@@ -96,7 +96,7 @@ slot-rule : (sort : Sort) (o : Owner) (k : ℕ) → k < places o → getD (rules
 slot-rule sort o k h = ap (λ (rs : List Rule). getD rs (k % 6) unused) (kind-rules sort o (k / 6) (omega arith)) ∙ place-rule sort o k
 
 -- ---- the law
-module _ (sort : Sort) (deck : List ℕ) (e : first (conditions sort deck) ≡ Read) where
+module _ (sort : Sort) (deck : List ℕ) (e : first (conditions sort deck) ≡ Passed) where
   -- slot k of an owner's record that begins at line n
   slot-fits : (o : Owner) (n k : ℕ) → k < places o → 1 ≤ n → n + k / 6 ≤ linesOf deck → kindOf (lineOf deck (n + k / 6)) ≡ head o + k / 6
       → Fits (ruleAt sort o k) (slotSpelled deck n k .value)
@@ -105,7 +105,7 @@ module _ (sort : Sort) (deck : List ℕ) (e : first (conditions sort deck) ≡ R
       let m = n + k / 6 - 1 in
       let l = lineOf deck (n + k / 6) in
       let line : lineOf deck (suc m) ≡ l = ap (lineOf deck) (omega arith) in
-      let r = subst (λ (x : List ℕ). first (upTo (fieldAt sort (kindOf x) x (suc m)) fieldsPerLine) ≡ Read) line (line-facts sort deck e m (omega arith) .fields) in
+      let r = subst (λ (x : List ℕ). first (upTo (fieldAt sort (kindOf x) x (suc m)) fieldsPerLine) ≡ Passed) line (line-facts sort deck e m (omega arith) .fields) in
       let f = upTo-each (fieldAt sort (kindOf l) l (suc m)) 6 r (k % 6) (mod-lt k (lit< tt)) in
       let i : suc (k % 6) - 1 ≡ k % 6 = omega arith in
       let rule : getD (rulesOf sort (kindOf l)) (suc (k % 6) - 1) unused ≡ ruleAt sort o k =
@@ -135,8 +135,8 @@ module _ (sort : Sort) (deck : List ℕ) (e : first (conditions sort deck) ≡ R
       _ (record-at deck (3 + 4 * m) (countOf deck R1 (linesOf deck)) 8 j h)
 
 -- the case of every deck that is read
-pub accepted : (sort : Sort) (deck : List ℕ) → first (conditions sort deck) ≡ Read → Ranged sort (caseOf deck)
-unfolding caseOf caseWith printed ruleFor
+pub accepted : (sort : Sort) (deck : List ℕ) → first (conditions sort deck) ≡ Passed → Ranged sort (caseOf deck)
+unfolding caseOf caseWith given ruleFor
 accepted sort deck e =
     record {
       some-chemicals = counts sort deck e .0 .0;

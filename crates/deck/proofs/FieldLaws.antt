@@ -18,7 +18,7 @@ use Rattle.deck.specs.DeckConditions.{fieldConditions, misspelled, mispl
 use Rattle.slots.specs.declared.Rule.{Rule}
 use Rattle.slots.specs.declared.Sort.{Sort}
 use Rattle.cases.specs.declared.Status.{Status}
-use Rattle.cases.specs.declared.Status.the-variants.{Read, Stopped}
+use Rattle.cases.specs.declared.Status.the-variants.{Passed, Stopped}
 use Rattle.spelling.specs.declared.Word.{Word}
 use Rattle.spelling.specs.declared.Word.the-variants.{Blank, Dash, Number, Other}
 
@@ -32,11 +32,11 @@ module _ (rule : Rule) (w : Word) (n f : ℕ) where
   unfolding first fieldConditions misspelled misplaced outOfRange
   field-missing e u = rw (e, u)
 
-  pub field-blank : w ≡ Blank → rule .blank ≡ true → Read ≡ first (fieldConditions rule w n f)
+  pub field-blank : w ≡ Blank → rule .blank ≡ true → Passed ≡ first (fieldConditions rule w n f)
   unfolding first fieldConditions misspelled misplaced outOfRange
   field-blank e u = rw (e, u)
 
-  pub field-dash : w ≡ Dash → rule .dash ≡ true → Read ≡ first (fieldConditions rule w n f)
+  pub field-dash : w ≡ Dash → rule .dash ≡ true → Passed ≡ first (fieldConditions rule w n f)
   unfolding first fieldConditions misspelled misplaced outOfRange
   field-dash e u = rw (e, u)
 
@@ -44,15 +44,15 @@ module _ (rule : Rule) (w : Word) (n f : ℕ) where
   unfolding first fieldConditions misspelled misplaced outOfRange
   field-no-dash e u = rw (e, u)
 
-  ranged : (b : Bool) → cond b Read (Stopped 33 n f) ≡ cond (not b) (Stopped 33 n f) Read
+  ranged : (b : Bool) → cond b Passed (Stopped 33 n f) ≡ cond (not b) (Stopped 33 n f) Passed
   ranged true = refl
   ranged false = refl
 
   pub field-number : (d : ℕ) (p q : ℤ) → w ≡ Number d p → rule .used ≡ true → q ≡ p → (s : Status)
-      → s ≡ cond (inRange rule d q) Read (Stopped 33 n f) → s ≡ first (fieldConditions rule w n f)
+      → s ≡ cond (inRange rule d q) Passed (Stopped 33 n f) → s ≡ first (fieldConditions rule w n f)
   unfolding first fieldConditions misspelled misplaced outOfRange inRange withinBounds
   field-number d p q e u g s h =
-      rw (e, u) (h ∙ ap (λ (z : ℤ). cond (inRange rule d z) Read (Stopped 33 n f)) g ∙ ranged (inRange rule d p))
+      rw (e, u) (h ∙ ap (λ (z : ℤ). cond (inRange rule d z) Passed (Stopped 33 n f)) g ∙ ranged (inRange rule d p))
 
   pub field-later : (d : ℕ) (p : ℤ) → w ≡ Number d p → rule .used ≡ false → Stopped 32 n f ≡ first (fieldConditions rule w n f)
   unfolding first fieldConditions misspelled misplaced outOfRange

@@ -16,7 +16,7 @@ use Rattle.cases.specs.Cases.{maxReceptors}
 use Rattle.cases.specs.Conditions.{at, first, upTo}
 use Rattle.deck.specs.DeckConditions.{badKind, badLength, noEnd, idOf, countOf, lineConditionsAfter, lineConditions, conditions}
 use Rattle.slots.specs.declared.Sort.{Sort}
-use Rattle.cases.specs.declared.Status.the-variants.{Read}
+use Rattle.cases.specs.declared.Status.the-variants.{Passed}
 use Rattle.cases.proofs.FirstMet.{first-read, append-read, upTo-each}
 use Rattle.lists.proofs.Booleans.{neither}
 use Rattle.deck.proofs.Scan.{LineRead, line-read, few-chemicals, few-receptors}
@@ -151,8 +151,8 @@ all-few : {most n k c r : ℕ} → Shape most n k c r → (c ≤ 16) × (r ≤ m
 all-few {most} {n} {k} {c} {r} s = (phases 16 c (eqb (phase k) 0) (eqb (phase k) 1) (s .c-high), phases′ most r (eqb (phase k) 0) (eqb (phase k) 1) (s .r-high))
 
 -- ---- an accepted deck
-module _ (sort : Sort) (deck : List ℕ) (e : first (conditions sort deck) ≡ Read) where
-  parts : (badLength sort deck ≡ false) × ((first (upTo (lineConditions sort deck) (linesOf deck)) ≡ Read) × (noEnd deck ≡ false))
+module _ (sort : Sort) (deck : List ℕ) (e : first (conditions sort deck) ≡ Passed) where
+  parts : (badLength sort deck ≡ false) × ((first (upTo (lineConditions sort deck) (linesOf deck)) ≡ Passed) × (noEnd deck ≡ false))
   unfolding conditions
   parts =
       let a = first-read (at 11 0 0 (badLength sort deck)) (upTo (lineConditions sort deck) (linesOf deck) ++ (at 21 (linesOf deck + 1) 0 (noEnd deck) ∷ [])) e in
@@ -169,7 +169,7 @@ module _ (sort : Sort) (deck : List ℕ) (e : first (conditions sort deck) ≡ R
       first
       (lineConditionsAfter sort (kindOf (lineOf deck m)) (idOf (lineOf deck m)) (countOf deck C1 m) (countOf deck R1 m)
       (lineOf deck (suc n)) (suc n))
-      ≡ Read)
+      ≡ Passed)
       (omega arith) (upTo-each (lineConditions sort deck) (linesOf deck) (parts .1 .0) n h))
 
   follows : (n : ℕ) → n < linesOf deck → Known (maxReceptors sort) (kindOf (lineOf deck n)) (kindOf (lineOf deck (suc n)))

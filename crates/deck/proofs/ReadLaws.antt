@@ -14,7 +14,7 @@ use Rattle.slots.specs.declared.Sort.{Sort}
 use Rattle.cases.specs.declared.Case.{Case}
 use Rattle.deck.specs.declared.Reading.{Reading}
 use Rattle.cases.specs.declared.Status.{Status}
-use Rattle.cases.specs.declared.Status.the-variants.{Read, Stopped}
+use Rattle.cases.specs.declared.Status.the-variants.{Passed, Stopped}
 
 module _ (sort : Sort) (deck : List ℕ) where
   reading : (r : Reading) (s : Status) → r .status ≡ s → s ≡ first (conditions sort deck) → r .case ≡ caseFor s deck → r ≡ readOf sort deck
@@ -39,7 +39,7 @@ module _ (sort : Sort) (deck : List ℕ) where
       unfolding caseFor
       read-stopped number line field q r g = reading r s (g .0) status-is (g .1 ∙ sym (ap (λ (u : Status). caseFor u deck) q))
 
-      pub read-case : s ≡ Read → (c d : ℕ) → (c ≡ countOf deck C1 (linesOf deck)) × (d ≡ countOf deck R1 (linesOf deck)) → (k : Case) → k ≡ caseWith deck c d
+      pub read-case : s ≡ Passed → (c d : ℕ) → (c ≡ countOf deck C1 (linesOf deck)) × (d ≡ countOf deck R1 (linesOf deck)) → (k : Case) → k ≡ caseWith deck c d
           → _≡_ {A = Reading} (record { status = s; case = k }) (readOf sort deck)
       unfolding caseFor caseOf
       read-case q c d n k g =

@@ -21,7 +21,7 @@ use Rattle.slots.specs.declared.Sort.the-variants.{Ordinary, Composite}
 use Rattle.cases.specs.Conditions.{Condition, at, first, upTo}
 use Rattle.deck.specs.DeckConditions.{fieldAt, badBytes, badKind, badId, idOf, lineConditionsAfter, countOf, lineConditions, maxLength, badLength, noEnd}
 use Rattle.cases.specs.declared.Status.{Status}
-use Rattle.cases.specs.declared.Status.the-variants.{Read, Stopped}
+use Rattle.cases.specs.declared.Status.the-variants.{Passed, Stopped}
 use Rattle.deck.proofs.PartLaws.{line-is}
 use Rattle.deck.proofs.DeckCaseLaws.{line-full}
 use Rattle.cases.proofs.FirstMet.{orElse, first-append, turn-on, turn-out, first-read}
@@ -32,9 +32,9 @@ pub record LineRead (sort : Sort) (before idBefore chemicals receptors n : ℕ) 
   pub bytes : badBytes line ≡ false
   pub kind : badKind sort before (kindOf line) chemicals receptors ≡ false
   pub id : badId before idBefore (kindOf line) line ≡ false
-  pub fields : first (upTo (fieldAt sort (kindOf line) line n) fieldsPerLine) ≡ Read
+  pub fields : first (upTo (fieldAt sort (kindOf line) line n) fieldsPerLine) ≡ Passed
 
-pub line-read : (sort : Sort) (before idBefore chemicals receptors n : ℕ) (line : List ℕ) → first (lineConditionsAfter sort before idBefore chemicals receptors line n) ≡ Read
+pub line-read : (sort : Sort) (before idBefore chemicals receptors n : ℕ) (line : List ℕ) → first (lineConditionsAfter sort before idBefore chemicals receptors line n) ≡ Passed
     → LineRead sort before idBefore chemicals receptors n line
 unfolding lineConditionsAfter
 line-read sort before idBefore chemicals receptors n line e =
@@ -66,7 +66,7 @@ module _ (sort : Sort) (before kind chemicals receptors : ℕ) (e : badKind sort
 -- ---- what the code carries after n lines
 pub record Scanned (sort : Sort) (deck : List ℕ) (n kind id chemicals receptors : ℕ) : Type 0 where
   pub bound : n ≤ length deck / 81
-  pub reads : first (upTo (lineConditions sort deck) n) ≡ Read
+  pub reads : first (upTo (lineConditions sort deck) n) ≡ Passed
   pub kind-is : kind ≡ kindOf (lineOf deck n)
   pub id-is : id ≡ idOf (lineOf deck n)
   pub chemicals-are : chemicals ≡ countOf deck C1 n
@@ -110,7 +110,7 @@ module _ (sort : Sort) (deck l : List ℕ) (n kind id chemicals receptors : ℕ)
   unfolding countOf
   count-next k c q = rw (add-one, ← q) (ap (λ (m : List ℕ). cond (eqb (kindOf m) k) (suc c) c) (e ∙ ap (lineOf deck) (add-one n)))
 
-  pub scan-on : n < length deck / 81 → t ≡ Read → (kind′ id′ a b c d : ℕ) → kind′ ≡ kindOf l → id′ ≡ idOf l → (a ≡ kind′) × (b ≡ id′)
+  pub scan-on : n < length deck / 81 → t ≡ Passed → (kind′ id′ a b c d : ℕ) → kind′ ≡ kindOf l → id′ ≡ idOf l → (a ≡ kind′) × (b ≡ id′)
       → c ≡ cond (eqb kind′ C1) (suc chemicals) chemicals → d ≡ cond (eqb kind′ R1) (suc receptors) receptors → Scanned sort deck (n + 1) a b c d
   scan-on h q kind′ id′ a b c d k i ab cc dd =
       let read = line-read sort kind id chemicals receptors (n + 1) l (sym f ∙ q) in
@@ -128,7 +128,7 @@ module _ (sort : Sort) (deck l : List ℕ) (n kind id chemicals receptors : ℕ)
       }
 
 -- ---- the end
-ending : (b : Bool) (s : Status) → cond b Read s ≡ cond (not b) s Read
+ending : (b : Bool) (s : Status) → cond b Passed s ≡ cond (not b) s Passed
 ending true s = refl
 ending false s = refl
 
@@ -137,17 +137,17 @@ module _ (sort : Sort) (deck : List ℕ) (n kind id chemicals receptors : ℕ) (
   unfolding linesOf
   all = le-antisymm (s .bound) h
 
-  pub scan-end : (t : Status) → t ≡ cond (eqb kind EN) Read (Stopped 21 (length deck / 81 + 1) 0)
+  pub scan-end : (t : Status) → t ≡ cond (eqb kind EN) Passed (Stopped 21 (length deck / 81 + 1) 0)
       → t ≡ first (upTo (lineConditions sort deck) (linesOf deck) ++ (at 21 (linesOf deck + 1) 0 (noEnd deck) ∷ []))
   unfolding linesOf first orElse noEnd
   scan-end t e =
       e
-      ∙ ap (λ (k : ℕ). cond (eqb k EN) Read (Stopped 21 (length deck / 81 + 1) 0)) (s .kind-is ∙ ap (λ (m : ℕ). kindOf (lineOf deck m)) all)
+      ∙ ap (λ (k : ℕ). cond (eqb k EN) Passed (Stopped 21 (length deck / 81 + 1) 0)) (s .kind-is ∙ ap (λ (m : ℕ). kindOf (lineOf deck m)) all)
       ∙ ending (eqb (kindOf (lineOf deck (length deck / 81))) EN) (Stopped 21 (length deck / 81 + 1) 0)
       ∙ sym
       (first-append (upTo (lineConditions sort deck) (length deck / 81)) (at 21 (length deck / 81 + 1) 0 (noEnd deck) ∷ [])
       ∙ ap (λ (u : Status). orElse u (first (at 21 (length deck / 81 + 1) 0 (noEnd deck) ∷ [])))
-      (subst (λ (m : ℕ). first (upTo (lineConditions sort deck) m) ≡ Read) all (s .reads)))
+      (subst (λ (m : ℕ). first (upTo (lineConditions sort deck) m) ≡ Passed) all (s .reads)))
 
   pub scan-counts : (c d : ℕ) → (c ≡ chemicals) × (d ≡ receptors) → (c ≡ countOf deck C1 (linesOf deck)) × (d ≡ countOf deck R1 (linesOf deck))
   scan-counts c d e =

@@ -34,7 +34,7 @@ use Rattle.spelling.specs.declared.Word.the-variants.{Blank, Dash, Number, Othe
 use Rattle.cases.specs.declared.Filled.{Filled}
 use Rattle.cases.specs.declared.Record.{Record}
 use Rattle.cases.specs.declared.Status.{Status}
-use Rattle.cases.specs.declared.Status.the-variants.{Read, Stopped}
+use Rattle.cases.specs.declared.Status.the-variants.{Passed, Stopped}
 use Rattle.spelling.proofs.Leading.{within-yes}
 use Rattle.lists.proofs.Booleans.{both}
 use Rattle.spelling.proofs.DigitLaws.{within-bounds, digit-first, leading-le, leading-take}
@@ -372,12 +372,12 @@ case-without deck long =
     (λ i. caseWith (withoutYear deck) (c i) (r i)) ∙ case-with deck long (countOf deck C1 (linesOf deck)) (countOf deck R1 (linesOf deck))
 
 -- ---- the first condition of two lists, where those before it agree
-same-next : (s t u : Status) → (s ≡ Read → t ≡ u) → orElse s t ≡ orElse s u
+same-next : (s t u : Status) → (s ≡ Passed → t ≡ u) → orElse s t ≡ orElse s u
 unfolding orElse
-same-next Read t u h = h refl
+same-next Passed t u h = h refl
 same-next (Stopped number line field) t u h = refl
 
-same-upTo : (f g : ℕ → List Condition) (m : ℕ) → ((k : ℕ) → k < m → first (upTo g k) ≡ Read → first (f (suc k)) ≡ first (g (suc k)))
+same-upTo : (f g : ℕ → List Condition) (m : ℕ) → ((k : ℕ) → k < m → first (upTo g k) ≡ Passed → first (f (suc k)) ≡ first (g (suc k)))
     → first (upTo f m) ≡ first (upTo g m)
 unfolding upTo
 same-upTo f g zero h = refl
@@ -447,7 +447,7 @@ year-in : (digits : ℕ) (z : ℤ) → isYearOf Of2005 digits z ≡ true → inR
 unfolding inRange isYear isYearOf yearOf
 year-in digits z h = simp (year-bounds digits z (eqb-true (digits * 10 ^ above z) (2005 * 10 ^ below z) h), h)
 
-year-read : (w : Word) (n f : ℕ) → is2005 w ≡ true → first (fieldConditions guidanceYear w n f) ≡ Read
+year-read : (w : Word) (n f : ℕ) → is2005 w ≡ true → first (fieldConditions guidanceYear w n f) ≡ Passed
 unfolding is2005 first fieldConditions misspelled misplaced outOfRange
 year-read Blank n f h = refl
 year-read Dash n f h = absurd (false≢true h)
@@ -456,7 +456,7 @@ year-read Other n f h = absurd (false≢true h)
 
 -- ---- the second line, after a line of kind S1: past 21 it is of kind S2, so it is no EN and its sixth field is the year's
 module _ (sort : Sort) (idBefore chemicals receptors : ℕ) (l m : List ℕ) (b : Blanked l m) (y : is2005 (wordOf (fieldIn l 6)) ≡ true) where
-  sixth-read : (s : List ℕ) → is2005 (wordOf (fieldIn s 6)) ≡ true → first (fieldAt sort S2 s 2 6) ≡ Read
+  sixth-read : (s : List ℕ) → is2005 (wordOf (fieldIn s 6)) ≡ true → first (fieldAt sort S2 s 2 6) ≡ Passed
   unfolding fieldAt
   sixth-read s h = rw (year-rule sort) (year-read (wordOf (fieldIn s 6)) 2 6 h)
 
@@ -502,7 +502,7 @@ module _ (sort : Sort) (idBefore chemicals receptors : ℕ) (l m : List ℕ) (b 
 
 -- ---- the deck's conditions
 in-order : (sort : Sort) (s : List ℕ) → first (conditions sort s)
-    ≡ cond (badLength sort s) (Stopped 11 0 0) (orElse (first (upTo (lineConditions sort s) (linesOf s))) (cond (noEnd s) (Stopped 21 (linesOf s + 1) 0) Read))
+    ≡ cond (badLength sort s) (Stopped 11 0 0) (orElse (first (upTo (lineConditions sort s) (linesOf s))) (cond (noEnd s) (Stopped 21 (linesOf s + 1) 0) Passed))
 unfolding first conditions
 in-order sort s = ap (λ (t : Status). cond (badLength sort s) (Stopped 11 0 0) t) (first-append (upTo (lineConditions sort s) (linesOf s)) (at 21 (linesOf s + 1) 0 (noEnd s) ∷ []))
 
@@ -511,7 +511,7 @@ module _ (sort : Sort) (deck : List ℕ) (long : 162 ≤ length deck) (y : is200
   unfolding kindOf lineOf within
   no-line = refl
 
-  first-kind : first (upTo (lineConditions sort deck) 1) ≡ Read → kindOf (lineOf deck 1) ≡ S1
+  first-kind : first (upTo (lineConditions sort deck) 1) ≡ Passed → kindOf (lineOf deck 1) ≡ S1
   unfolding lineConditions
   first-kind e =
       let r = line-read sort (kindOf (lineOf deck 0)) (idOf (lineOf deck 0)) (countOf deck C1 0) (countOf deck R1 0) 1 (lineOf deck 1) (upTo-each (lineConditions sort deck) 1 e 0 (lit≤ tt)) in
@@ -533,10 +533,10 @@ module _ (sort : Sort) (deck : List ℕ) (long : 162 ≤ length deck) (y : is200
       let r = counts-same deck long R1 (n - 1) in
       λ i. lineConditionsAfter sort (k i) (d i) (c i) (r i) (lineOf (withoutYear deck) n) n
 
-  line-agrees : (n : ℕ) → first (upTo (lineConditions sort deck) (n - 1)) ≡ Read → first (lineConditions sort (withoutYear deck) n) ≡ first (lineConditions sort deck n)
+  line-agrees : (n : ℕ) → first (upTo (lineConditions sort deck) (n - 1)) ≡ Passed → first (lineConditions sort (withoutYear deck) n) ≡ first (lineConditions sort deck n)
   unfolding lineConditions
   line-agrees =
-      by-line (λ n. first (upTo (lineConditions sort deck) (n - 1)) ≡ Read → first (lineConditions sort (withoutYear deck) n) ≡ first (lineConditions sort deck n))
+      by-line (λ n. first (upTo (lineConditions sort deck) (n - 1)) ≡ Passed → first (lineConditions sort (withoutYear deck) n) ≡ first (lineConditions sort deck n))
       (λ e.
       ap first (carried 2)
       ∙ subst
@@ -552,7 +552,7 @@ module _ (sort : Sort) (deck : List ℕ) (long : 162 ≤ length deck) (y : is200
   lines-agree : (m : ℕ) → first (upTo (lineConditions sort (withoutYear deck)) m) ≡ first (upTo (lineConditions sort deck) m)
   lines-agree m =
       same-upTo (lineConditions sort (withoutYear deck)) (lineConditions sort deck) m
-      (λ k h e. line-agrees (suc k) (subst (λ (n : ℕ). first (upTo (lineConditions sort deck) n) ≡ Read) (omega arith) e))
+      (λ k h e. line-agrees (suc k) (subst (λ (n : ℕ). first (upTo (lineConditions sort deck) n) ≡ Passed) (omega arith) e))
 
   end-agrees : noEnd (withoutYear deck) ≡ noEnd deck
   unfolding noEnd
@@ -571,7 +571,7 @@ status-without sort deck long y =
     let l = ap (λ (m : ℕ). first (upTo (lineConditions sort (withoutYear deck)) m)) b ∙ lines-agree sort deck long y (linesOf deck) in
     let e = end-agrees sort deck long y in
     in-order sort (withoutYear deck)
-    ∙ (λ i. cond (n i) (Stopped 11 0 0) (orElse (l i) (cond (e i) (Stopped 21 (b i + 1) 0) Read)))
+    ∙ (λ i. cond (n i) (Stopped 11 0 0) (orElse (l i) (cond (e i) (Stopped 21 (b i + 1) 0) Passed)))
     ∙ sym (in-order sort deck)
 
 -- ---- the guidance of such a deck

@@ -13,13 +13,13 @@ use Rattle.slots.specs.declared.Sort.{Sort}
 use Rattle.spelling.specs.declared.Word.{Word}
 use Rattle.spelling.specs.declared.Word.the-variants.{Blank, Dash, Number, Other}
 use Rattle.cases.specs.declared.Value.{Value}
-use Rattle.cases.specs.declared.Value.the-variants.{Absent, Printed}
+use Rattle.cases.specs.declared.Value.the-variants.{Absent, Given}
 use Rattle.cases.specs.declared.Filled.{Filled}
 use Rattle.cases.specs.declared.Record.{Record}
 use Rattle.cases.specs.declared.Case.{Case}
 use Rattle.deck.specs.declared.Reading.{Reading}
 use Rattle.cases.specs.declared.Status.{Status}
-use Rattle.cases.specs.declared.Status.the-variants.{Read, Stopped}
+use Rattle.cases.specs.declared.Status.the-variants.{Passed, Stopped}
 use Rattle.lists.specs.Lists.{tabulate}
 use Rattle.cases.specs.Cases.{noSlot, noRecord, noCase}
 
@@ -27,7 +27,7 @@ use Rattle.cases.specs.Cases.{noSlot, noRecord, noCase}
 unfoldable pub valueOf : Word → Value
 valueOf Blank = Absent
 valueOf Dash = Absent
-valueOf (Number digits power) = Printed power digits
+valueOf (Number digits power) = Given power digits
 valueOf Other = Absent
 
 -- slot k, from 0, of the record that begins at line n
@@ -64,7 +64,7 @@ caseOf deck = caseWith deck (countOf deck C1 (linesOf deck)) (countOf deck R1 (l
 
 -- ---- the reading
 unfoldable pub caseFor : Status → List ℕ → Case
-caseFor Read deck = caseOf deck
+caseFor Passed deck = caseOf deck
 caseFor (Stopped number line field) deck = noCase
 
 -- the first condition met, or the case

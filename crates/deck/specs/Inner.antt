@@ -17,7 +17,7 @@ use Rattle.lists.specs.Lists.{tabulate}
 use Rattle.spelling.specs.declared.Word.{Word}
 use Rattle.spelling.specs.declared.Word.the-variants.{Blank, Dash, Number, Other}
 use Rattle.cases.specs.declared.Value.{Value}
-use Rattle.cases.specs.declared.Value.the-variants.{Absent, Printed}
+use Rattle.cases.specs.declared.Value.the-variants.{Absent, Given}
 
 -- of the first n bytes of a line, count print: all of them, or one of them does not
 pub record Printable (line : List ℕ) (n count : ℕ) : Type 0 where
@@ -44,7 +44,7 @@ packedOf (Number digits power) = packedNumber digits power
 packedOf Other = 0
 
 unfoldable pub unpackedOf : ℕ → Value
-unpackedOf v = cond (eqb v 0) Absent (Printed (subℕ (v % 256) 128) (v / 256))
+unpackedOf v = cond (eqb v 0) Absent (Given (subℕ (v % 256) 128) (v / 256))
 
 -- field f, from 0, of a line
 unfoldable pub packedIn : List ℕ → ℕ → ℕ

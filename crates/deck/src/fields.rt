@@ -76,14 +76,14 @@ fn field_status(rule: Rule, w: Word, n: usize, f: usize) -> Status
         Word::Other => Status::Stopped(31, n, f),
         Word::Blank => {
             if rule.blank {
-                Status::Read
+                Status::Passed
             } else {
                 Status::Stopped(32, n, f)
             }
         }
         Word::Dash => {
             if rule.dash {
-                Status::Read
+                Status::Passed
             } else {
                 Status::Stopped(32, n, f)
             }
@@ -99,10 +99,10 @@ fn field_status(rule: Rule, w: Word, n: usize, f: usize) -> Status
 }
 
 fn range_status(rule: Rule, digits: u64, power: i32, n: usize, f: usize) -> Status
-    ensures { λ r. ⌜ r ≡ cond (inRange rule digits power) Status.Read (Status.Stopped 33 n f) ⌝ }
+    ensures { λ r. ⌜ r ≡ cond (inRange rule digits power) Status.Passed (Status.Stopped 33 n f) ⌝ }
 {
     if in_range(rule, digits, power) {
-        return Status::Read;
+        return Status::Passed;
     }
     Status::Stopped(33, n, f)
 }
@@ -117,7 +117,7 @@ pub(crate) fn fields_status(
 ) -> Status
     requires { ⌜ (length (now line) ≡ 81) × (length (now values) ≡ 6) ⌝ }
     ensures { λ r. ⌜ r ≡ first (upTo (fieldAt sort kind (now (line .entry)) n) fieldsPerLine) ⌝ }
-    ensures { λ r. ⌜ (r ≡ Status.Read → now (values .exit) ≡ tabulate fieldsPerLine (packedIn (now (line .entry)))) ⌝ }
+    ensures { λ r. ⌜ (r ≡ Status.Passed → now (values .exit) ≡ tabulate fieldsPerLine (packedIn (now (line .entry)))) ⌝ }
 {
     let rules = rules(sort, kind);
     let mut f: usize = 0;
@@ -126,11 +126,11 @@ pub(crate) fn fields_status(
         let next = f + 1;
         let w = number(field_part(line, next));
         let status = field_status(rule, w, n, next);
-        let Status::Read = status else {
+        let Status::Passed = status else {
             return status;
         };
         values[f] = packed(w);
         f = next;
     }
-    Status::Read
+    Status::Passed
 }

@@ -6,12 +6,12 @@ mod packing;
 mod records;
 mod scanning;
 
+use cases::Case;
+use cases::Status;
 use fields::field_part;
 use records::case_with;
 use scanning::bad_length;
 use scanning::scan_lines;
-use cases::Case;
-use cases::Status;
 use sizes::FIELDS;
 use sizes::MAX_CHEMICALS;
 use sizes::MAX_RECEPTORS;
@@ -92,7 +92,7 @@ pub fn read(deck: &[u8], sort: Sort) -> Reading
     let mut values = [0u64; MAX_VALUES];
     let scan = scan_lines(deck, sort, &mut values);
     let status = scan.status;
-    let Status::Read = status else {
+    let Status::Passed = status else {
         return stopped(deck, status);
     };
     let case = case_with(deck, &values, scan.chemicals, scan.receptors);

@@ -222,7 +222,7 @@ pub(crate) fn line_status(
     requires { ⌜ (length (now line) ≡ 81) × (length (now values) ≡ 6) ⌝ }
     requires { ⌜ (kind ≡ kindOf (now line)) × (id ≡ idOf (now line)) ⌝ }
     ensures { λ r. ⌜ r ≡ first (lineConditionsAfter sort (seen .kind) (seen .id) (seen .chemicals) (seen .receptors) (now (line .entry)) n) ⌝ }
-    ensures { λ r. ⌜ (r ≡ Status.Read → now (values .exit) ≡ tabulate fieldsPerLine (packedIn (now (line .entry)))) ⌝ }
+    ensures { λ r. ⌜ (r ≡ Status.Passed → now (values .exit) ≡ tabulate fieldsPerLine (packedIn (now (line .entry)))) ⌝ }
 {
     if bad_bytes(line) {
         return Status::Stopped(12, n, 0);

@@ -48,7 +48,7 @@ pub(crate) fn unpacked(v: u64) -> Value
     if v == 0 {
         return Value::Absent;
     }
-    Value::Printed {
+    Value::Given {
         power: power_in(v),
         digits: v / POWERS,
     }

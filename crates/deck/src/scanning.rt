@@ -62,12 +62,12 @@ pub(crate) fn scan_lines(deck: &[u8], sort: Sort, values: &mut [u64]) -> Scan
         ++ (at 21 (linesOf (now (deck .entry)) + 1) 0 (noEnd (now (deck .entry))) ∷ []))
         ⌝ }
     ensures { λ r. ⌜
-        (r .status ≡ Status.Read
+        (r .status ≡ Status.Passed
         → (r .chemicals ≡ countOf (now (deck .entry)) C1 (linesOf (now (deck .entry))))
         × (r .receptors ≡ countOf (now (deck .entry)) R1 (linesOf (now (deck .entry)))))
         ⌝ }
     ensures { λ r. ⌜ (r .chemicals ≤ 16) × (r .receptors ≤ 8) ⌝ }
-    ensures { λ r. ⌜ (r .status ≡ Status.Read → now (values .exit) ≡ packedFields (now (deck .entry))) ⌝ }
+    ensures { λ r. ⌜ (r .status ≡ Status.Passed → now (values .exit) ≡ packedFields (now (deck .entry))) ⌝ }
 {
     let lines = deck.len() / LINE_WIDTH;
     let mut seen = Seen {
@@ -83,7 +83,7 @@ pub(crate) fn scan_lines(deck: &[u8], sort: Sort, values: &mut [u64]) -> Scan
         let id = id_of(l);
         let at = FIELDS * n;
         let status = line_status(sort, l, n + 1, seen, kind, id, &mut values[at..at + FIELDS]);
-        let Status::Read = status else {
+        let Status::Passed = status else {
             return Scan {
                 status,
                 chemicals: 0,
@@ -99,12 +99,12 @@ pub(crate) fn scan_lines(deck: &[u8], sort: Sort, values: &mut [u64]) -> Scan
 // No EN at the end is told as the line past the last.
 fn ended(seen: Seen, lines: usize) -> Scan
     requires { ⌜ (lines < 1000000000000000000) × ((seen .chemicals ≤ 16) × (seen .receptors ≤ 8)) ⌝ }
-    ensures { λ r. ⌜ r .status ≡ cond (eqb (seen .kind) EN) Status.Read (Status.Stopped 21 (lines + 1) 0) ⌝ }
+    ensures { λ r. ⌜ r .status ≡ cond (eqb (seen .kind) EN) Status.Passed (Status.Stopped 21 (lines + 1) 0) ⌝ }
     ensures { λ r. ⌜ (r .chemicals ≡ seen .chemicals) × (r .receptors ≡ seen .receptors) ⌝ }
 {
     if seen.kind == EN {
         return Scan {
-            status: Status::Read,
+            status: Status::Passed,
             chemicals: seen.chemicals,
             receptors: seen.receptors,
         };

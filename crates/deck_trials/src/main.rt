@@ -4,14 +4,14 @@
 // A stored deck is a line of five numbers in 6 columns each, then its bytes: its length; the number, line and field of the
 // refusal, or 0 and how many chemicals and receptors there are; and a checksum of the case.
 use cases::Case;
-use sizes::MAX_RECEPTORS;
-use sizes::MAX_STAGES;
-use deck::Reading;
 use cases::Record;
 use cases::Value;
-use spelling::Word;
+use deck::Reading;
 use libc::STDOUT_FILENO;
+use sizes::MAX_RECEPTORS;
+use sizes::MAX_STAGES;
 use slots::Sort;
+use spelling::Word;
 ghost use Prim.Native.Nat.{_+_, _<_, _≤_};
 
 const COLUMNS: usize = 6;
@@ -84,7 +84,7 @@ fn mixed_value(sum: u64, value: Value) -> u64
 {
     match value {
         Value::Absent => mixed(sum, 1),
-        Value::Printed { digits, power } => {
+        Value::Given { digits, power } => {
             // The remainder first: a sum with all of the digits may not fit.
             let with_digits = mixed(sum, digits % MODULUS);
             let with_raised = mixed(with_digits, powers::raised(power) as u64);

@@ -25,7 +25,7 @@ use Rattle.equations.specs.Page.{x, C, soil, AT}
 use Rattle.equations.specs.Readings.{worked, inputs}
 use Rattle.media.specs.Media.{ofSlots, ofMedia, growthAt}
 use Rattle.pathway.specs.Lines.{workedFor, factorOf}
-use Rattle.cases.specs.declared.Status.the-variants.{Read}
+use Rattle.cases.specs.declared.Status.the-variants.{Passed}
 use Rattle.cases.specs.Conditions.{first}
 use Rattle.totals.specs.declared.Columns.{Columns}
 use Rattle.totals.specs.declared.Columns.the-variants.{Absent, Counted}
@@ -213,7 +213,7 @@ cases =
     ∷ (entry 9999999995 (negsuc 0) ≡ is (record { low = record { significand = 999999999; exponent = pos 0 }; high = record { significand = 100000000; exponent = pos 1 } }))
     ∷ (oneMinusEntry 99999999999 (negsuc 10) ≡ bothEnds 100000000 100000000 (negsuc 18))
     -- the deck: no condition holds, with a buffer of 665 bytes; its answer, its report's lines, and their bytes
-    ∷ (first (allConditions ordinary deck 665) ≡ Read)
+    ∷ (first (allConditions ordinary deck 665) ≡ Passed)
     ∷ (outcomeOf ordinary deck 665 ≡ record { number = 0; line = 665; field = 0 })
     ∷ (rowsOf (scenarioOf ordinary deck) ≡ rows)
     ∷ (linesText (rowsOf (scenarioOf ordinary deck)) ≡ printedText)
@@ -225,11 +225,11 @@ cases =
     ∷ (worked (pairsAt (scenarioOf ordinary solventDeck) 0 0) C ≡ bothEnds 499999998 500000001 (negsuc 19))
     ∷ (cancerSoil solventDeck ≡ bothEnds 249999998 250000004 (negsuc 19))
     -- by the guidance of 2009 its air is 1 × 365 × 5 / (365 × 5) × 0.001 / 0.001 = 1, and 1 × 365 × 5 / 27375 × 0.001 × 1000 × 0.5, a thirtieth
-    ∷ (first (allConditions ordinary airDeck 665) ≡ Read)
+    ∷ (first (allConditions ordinary airDeck 665) ≡ Passed)
     ∷ (columnsAt Hazard (scenarioOf ordinary airDeck) 0 0 Air ≡ Counted 1000000000000 1000000000000)
     ∷ (columnsAt Cancer (scenarioOf ordinary airDeck) 0 0 Air ≡ Counted 33333333300000 33333333400000)
     -- the composite's deck likewise
-    ∷ (first (allConditions composite compositeDeck 665) ≡ Read)
+    ∷ (first (allConditions composite compositeDeck 665) ≡ Passed)
     ∷ (outcomeOf composite compositeDeck 665 ≡ record { number = 0; line = 665; field = 0 })
     ∷ (rowsOf (scenarioOf composite compositeDeck) ≡ compositeRows)
     ∷ (linesText (rowsOf (scenarioOf composite compositeDeck)) ≡ compositeText)

@@ -10,7 +10,7 @@ use lib.ListN.{length, drop}
 use Rattle.cases.specs.declared.Case.{Case}
 use Rattle.deck.specs.declared.Reading.{Reading}
 use Rattle.cases.specs.declared.Status.{Status}
-use Rattle.cases.specs.declared.Status.the-variants.{Read, Stopped}
+use Rattle.cases.specs.declared.Status.the-variants.{Passed, Stopped}
 use Rattle.cases.specs.declared.Told.{Told}
 use Rattle.cases.specs.Conditions.{Condition, at, first, toldOf}
 use Rattle.deck.specs.DeckConditions.{conditions}
@@ -37,7 +37,7 @@ first-stops : (xs ys : List Condition) (s : Status) (number line field : ℕ) �
 first-stops xs ys s number line field e q =
     stays s number line field (first ys) q ∙ ap (λ (x : Status). orElse x (first ys)) e ∙ sym (first-append xs ys)
 
-first-passes : (xs ys : List Condition) (s : Status) → first xs ≡ Read → s ≡ first ys → s ≡ first (xs ++ ys)
+first-passes : (xs ys : List Condition) (s : Status) → first xs ≡ Passed → s ≡ first ys → s ≡ first (xs ++ ys)
 unfolding orElse
 first-passes xs ys s e q = q ∙ sym (first-append xs ys ∙ ap (λ (x : Status). orElse x (first ys)) e)
 
@@ -91,7 +91,7 @@ module _ (scenario : Scenario) (buffer : List ℕ) where
         sheet-stops number line field told q t = refused status number line field told status-is q t
 
         -- and the report is written
-        module _ (none : status ≡ Read) (cells : List ℕ) (held : cells ≡ sheetCells scenario) where
+        module _ (none : status ≡ Passed) (cells : List ℕ) (held : cells ≡ sheetCells scenario) where
           cells-are : cells ≡ cellsOf scenario
           unfolding sheetCells cellsFor
           cells-are = held ∙ ap (λ (x : Status). cellsFor x scenario) (sym is-status ∙ none)
@@ -101,7 +101,7 @@ module _ (scenario : Scenario) (buffer : List ℕ) where
               → (_≡_ {A = Told} (record { number = 0; line = n; field = 0 }) (writtenOutcome scenario (length buffer))) × (out ≡ writtenBuffer scenario buffer)
           unfolding writtenOutcome outcomeFor writtenBuffer bufferWith writtenRows
           written out n m o =
-              let s : writtenStatus scenario (length buffer) ≡ Read = sym status-is ∙ none in (
+              let s : writtenStatus scenario (length buffer) ≡ Passed = sym status-is ∙ none in (
                 rw (s, m) refl,
                 rw s
                     (o
@@ -114,14 +114,14 @@ module _ (scenario : Scenario) {exact : Exact} (sound : Sound scenario exact) (b
   unfolding writtenStatus writtenConditions reportConditions first
   status-agrees = rw (few-records scenario sound, conditions-agree scenario sound) refl
 
-  rows-agree : first (reportConditions scenario (length buffer)) ≡ Read → writtenRows scenario ≡ rowsOf scenario
+  rows-agree : first (reportConditions scenario (length buffer)) ≡ Passed → writtenRows scenario ≡ rowsOf scenario
   unfolding writtenRows reportConditions
   rows-agree e =
       rows-held scenario sound (first-read (at 51 0 0 (ltb (length buffer) (lengthOf scenario))) (largeLines scenario) e .1)
 
   buffer-if : (s : Status) → first (reportConditions scenario (length buffer)) ≡ s → bufferWith s (writtenRows scenario) (lengthOf scenario) buffer ≡ bufferFor s scenario buffer
   unfolding bufferWith bufferFor
-  buffer-if Read e = ap (λ (rows : List Row). linesText rows ++ drop (lengthOf scenario) buffer) (rows-agree e)
+  buffer-if Passed e = ap (λ (rows : List Row). linesText rows ++ drop (lengthOf scenario) buffer) (rows-agree e)
   buffer-if (Stopped number line field) e = refl
 
 -- ---- any call on a deck
@@ -135,8 +135,8 @@ module _ (call : Call) (deck buffer : List ℕ) where
       (t ∙ rw (← f, q) refl, rw (← f, q) refl)
 
   -- the deck is read, and its scenario handed to the call above
-  module _ (reading : Reading) (of-deck : reading ≡ readOf (call .sort) deck) (status-read : reading .status ≡ Read) where
-    pub deck-read : first (conditions (call .sort) deck) ≡ Read
+  module _ (reading : Reading) (of-deck : reading ≡ readOf (call .sort) deck) (status-read : reading .status ≡ Passed) where
+    pub deck-read : first (conditions (call .sort) deck) ≡ Passed
     unfolding readOf
     deck-read = sym (ap (λ (r : Reading). r .status) of-deck) ∙ status-read
 

@@ -16,7 +16,7 @@ use Rattle.slots.specs.Slots.{Slot, placeOf, atMostOne}
 use Rattle.equations.specs.declared.Effect.{Effect}
 use Rattle.cases.specs.declared.Case.{Case}
 use Rattle.cases.specs.declared.Status.{Status}
-use Rattle.cases.specs.declared.Status.the-variants.{Read, Stopped}
+use Rattle.cases.specs.declared.Status.the-variants.{Passed, Stopped}
 use Rattle.cases.specs.Conditions.{Condition, at, first, NoneHolds}
 use Rattle.deck.specs.DeckConditions.{conditions}
 use Rattle.cases.specs.declared.Value.the-variants as Values
@@ -30,7 +30,7 @@ use Rattle.text.specs.Text.{rowText, linesText}
 use Rattle.text.proofs.Rows.{length-row, length-lines, lines-append}
 use Rattle.scenario.specs.declared.Receptor as receptors
 use Rattle.scenario.specs.declared.Receptors.{Receptors}
-use Rattle.scenario.specs.Scenario.{Scenario, chemicalIn, receptorIn, stayIn, printedIn, pairsAt, printedYears, depositionOf, receptorWith, scenarioWith, entered, enteredFrom, ordinaryOf, exactAt, Exact}
+use Rattle.scenario.specs.Scenario.{Scenario, chemicalIn, receptorIn, stayIn, givenIn, pairsAt, timeGiven, depositionOf, receptorWith, scenarioWith, entered, enteredFrom, ordinaryOf, exactAt, Exact}
 use Rattle.sheet.specs.Sheet.{pathwayAt, hasReference, linesPerReceptor, largeLines}
 use Rattle.lists.specs.Lists.{chained}
 use Rattle.report.specs.Report.{rowAt, totalRow, rowsAt, rowsOf, linesOfReport, lengthOf, reportConditions, Call, ordinary, scenarioOf, exactOf, allConditions, statusOf, outcomeFor, outcomeOf, bufferWith, bufferFor, bufferOf}
@@ -136,9 +136,9 @@ alone row = record { before = []; after = []; split = refl; place = refl }
 -- ---- what is printed of the site and of the chemicals is entered
 record Sources (scenario : Scenario) : Type 0 where
   entered : (j i : ℕ) → i < scenario .chemicals .count → (s : Slot) (digits : ℕ) (power : ℤ)
-      → printedIn scenario i s ≡ Values.Printed power digits → entry digits power ≡ is (pairsAt scenario j i .value s)
+      → givenIn scenario i s ≡ Values.Given power digits → entry digits power ≡ is (pairsAt scenario j i .value s)
   rested : (j i : ℕ) → i < scenario .chemicals .count → (s : Slot) (digits : ℕ) (power : ℤ)
-      → printedIn scenario i s ≡ Values.Printed power digits → atMostOne s ≡ true → oneMinusEntry digits power ≡ is (pairsAt scenario j i .rest s)
+      → givenIn scenario i s ≡ Values.Given power digits → atMostOne s ≡ true → oneMinusEntry digits power ≡ is (pairsAt scenario j i .rest s)
 
 sources-of : (sort : Sort) (case : Case) → Ranged sort case → (receptors′ : Receptors) → Sources (scenarioWith case receptors′)
 unfolding scenarioWith
@@ -180,7 +180,7 @@ module _ (scenario : Scenario) where
       (at-after (chained (lines j) (scenario .chemicals .count)) (totalRow scenario j ∷ []) (scenario .chemicals .count * 6) 0 (totalRow scenario j) (lines-all j) (alone (totalRow scenario j)))
 
   -- the whole of it
-  module _ (ids : SmallIds scenario) {exact : Exact} (sound : Sound scenario exact) (small : first (largeLines scenario) ≡ Read) where
+  module _ (ids : SmallIds scenario) {exact : Exact} (sound : Sound scenario exact) (small : first (largeLines scenario) ≡ Passed) where
     by-rule : (e : Effect) (j i p : ℕ) → j < scenario .receptors .count → i < scenario .chemicals .count → p < 6 → hasReference e scenario i (pathwayAt p) ≡ true
         → ByRule e scenario j i (pathwayAt p)
     by-rule e j i p a b h t =
@@ -207,13 +207,13 @@ module _ (scenario : Scenario) where
 
 -- What the laws ask of a call: that every deck which it reads gives a sound scenario with ids of six digits, and receptors made as it says.
 pub record Sounds (call : Call) (Made : Case → Type 0) : Type 0 where
-  pub sound : (deck : List ℕ) → first (conditions (call .sort) deck) ≡ Read → Sound (scenarioOf call deck) (exactOf call deck)
-  pub ids : (deck : List ℕ) → first (conditions (call .sort) deck) ≡ Read → SmallIds (scenarioOf call deck)
-  pub made : (deck : List ℕ) → first (conditions (call .sort) deck) ≡ Read → Made (caseOf deck)
+  pub sound : (deck : List ℕ) → first (conditions (call .sort) deck) ≡ Passed → Sound (scenarioOf call deck) (exactOf call deck)
+  pub ids : (deck : List ℕ) → first (conditions (call .sort) deck) ≡ Passed → SmallIds (scenarioOf call deck)
+  pub made : (deck : List ℕ) → first (conditions (call .sort) deck) ≡ Passed → Made (caseOf deck)
 
 -- none of the conditions after the deck's own holds
-pub clear : (call : Call) (deck : List ℕ) (room : ℕ) → first (allConditions call deck room) ≡ Read
-    → (first (conditions (call .sort) deck) ≡ Read) × (first (largeLines (scenarioOf call deck)) ≡ Read)
+pub clear : (call : Call) (deck : List ℕ) (room : ℕ) → first (allConditions call deck room) ≡ Passed
+    → (first (conditions (call .sort) deck) ≡ Passed) × (first (largeLines (scenarioOf call deck)) ≡ Passed)
 unfolding allConditions reportConditions
 clear call deck room e =
     let scenario = scenarioOf call deck in
@@ -222,11 +222,11 @@ clear call deck room e =
     (t .0, u .1)
 
 module _ (call : Call) (Made : Case → Type 0) (sounds : Sounds call Made) where
-  deck-sources : (deck : List ℕ) → first (conditions (call .sort) deck) ≡ Read → Sources (scenarioOf call deck)
+  deck-sources : (deck : List ℕ) → first (conditions (call .sort) deck) ≡ Passed → Sources (scenarioOf call deck)
   unfolding scenarioOf
   deck-sources deck e = sources-of (call .sort) (caseOf deck) (accepted (call .sort) deck e) (call .receptors (caseOf deck))
 
-  reported : (deck buffer : List ℕ) → statusOf call deck (length buffer) ≡ Read → Reported call Made deck buffer
+  reported : (deck buffer : List ℕ) → statusOf call deck (length buffer) ≡ Passed → Reported call Made deck buffer
   unfolding statusOf outcomeOf outcomeFor bufferOf bufferFor bufferWith lengthOf
   reported deck buffer e =
       let scenario = scenarioOf call deck in
@@ -244,7 +244,7 @@ module _ (call : Call) (Made : Case → Type 0) (sounds : Sounds call Made) wher
       }
 
   by-status : (deck buffer : List ℕ) (s : Status) → statusOf call deck (length buffer) ≡ s → Reported call Made deck buffer ⊎ Refused call deck buffer
-  by-status deck buffer Read e = inl (reported deck buffer e)
+  by-status deck buffer Passed e = inl (reported deck buffer e)
   by-status deck buffer (Stopped number line field) e = inr (refused call deck buffer number line field e)
 
   -- for any such call
@@ -256,11 +256,11 @@ module _ (call : Call) (Made : Case → Type 0) (sounds : Sounds call Made) wher
 -- an ordinary deck's receptors are made as demand 2 says
 module _ (case : Case) (ranged : Ranged Ordinary case) where
   exposed-at : (j i : ℕ) → j < case .receptors .count
-      → Exposed (printedYears (valueAt (receptorAt case j) (placeOf "T2"))) (depositionOf (case .site)) (stayIn (ordinaryOf case) j) (pairsAt (ordinaryOf case) j i .later)
+      → Exposed (timeGiven (valueAt (receptorAt case j) (placeOf "T2"))) (depositionOf (case .site)) (stayIn (ordinaryOf case) j) (pairsAt (ordinaryOf case) j i .later)
   unfolding stayIn pairsAt receptorIn ordinaryOf scenarioWith entered receptorWith depositionOf
   exposed-at j i h =
-      subst (λ (r : receptors.Receptor). Exposed (printedYears (valueAt (receptorAt case j) (placeOf "T2"))) (depositionOf (case .site)) (r .stay) (r .later)) (sym (entered-at case ranged j h))
-      (exposed (printedYears (valueAt (receptorAt case j) (placeOf "T2"))) (depositionOf (case .site)) (exposure-told case ranged j h .exact .time) (deposition-told Ordinary case ranged .exact .time))
+      subst (λ (r : receptors.Receptor). Exposed (timeGiven (valueAt (receptorAt case j) (placeOf "T2"))) (depositionOf (case .site)) (r .stay) (r .later)) (sym (entered-at case ranged j h))
+      (exposed (timeGiven (valueAt (receptorAt case j) (placeOf "T2"))) (depositionOf (case .site)) (exposure-told case ranged j h .exact .time) (deposition-told Ordinary case ranged .exact .time))
 
   ordinary-made : Entered case
   ordinary-made =

@@ -9,7 +9,7 @@ use lib.Dec.{ltb, eqb, lit≤, lit<}
 use lib.ListN.{length, getD, take, drop, replicate, length-take, length-drop}
 use Rattle.equations.specs.declared.Effect.{Effect}
 use Rattle.equations.specs.declared.Effect.the-variants.{Hazard, Cancer}
-use Rattle.cases.specs.declared.Status.the-variants.{Read}
+use Rattle.cases.specs.declared.Status.the-variants.{Passed}
 use Rattle.cases.specs.Conditions.{first}
 use Rattle.totals.specs.declared.Columns.{Columns}
 use Rattle.totals.specs.declared.Columns.the-variants.{Absent, Counted}
@@ -33,7 +33,7 @@ counts-fit m Absent h most = tt
 counts-fit m (Counted low high) h most = (omega (arith, most .0), omega (arith, most .1))
 
 -- ---- lines
-module _ (scenario : Scenario) (ids : SmallIds scenario) {exact : Exact} (sound : Sound scenario exact) (small : first (largeLines scenario) ≡ Read) where
+module _ (scenario : Scenario) (ids : SmallIds scenario) {exact : Exact} (sound : Sound scenario exact) (small : first (largeLines scenario) ≡ Passed) where
   pub row-fits : (j i p : ℕ) → j < scenario .receptors .count → i < scenario .chemicals .count → p < 6 → FitsColumns (rowAt scenario j i p)
   unfolding rowAt
   row-fits j i p a b h =

@@ -14,7 +14,7 @@ use Rattle.equations.specs.Page.{intakeLine, byGuidance, line}
 use Rattle.equations.specs.Readings.{worked, pacesOf, exactly}
 use Rattle.cases.specs.declared.Case.{Case}
 use Rattle.cases.specs.declared.Status.{Status}
-use Rattle.cases.specs.declared.Status.the-variants.{Read, Stopped}
+use Rattle.cases.specs.declared.Status.the-variants.{Passed, Stopped}
 use Rattle.spelling.specs.declared.Word.the-variants.{Blank}
 use Rattle.cases.specs.Conditions.{first}
 use Rattle.deck.specs.DeckConditions.{conditions, misspelled, misplaced, outOfRange, fieldConditions}
@@ -41,7 +41,7 @@ blank-later n f = refl
 -- what is told hangs on the report's length alone
 told-alike : (s t : Scenario) → lengthOf s ≡ lengthOf t → (x : Status) → outcomeFor x s ≡ outcomeFor x t
 unfolding outcomeFor
-told-alike s t e Read = rw e refl
+told-alike s t e Passed = rw e refl
 told-alike s t e (Stopped number line field) = refl
 
 module _ (call : Call) (same : (case : Case) → call .receptors (caseWithoutYear case) ≡ call .receptors case) (deck : List ℕ) (long : 162 ≤ length deck) (of : is2005 (yearWord deck) ≡ true) where

@@ -4,7 +4,7 @@ use mathlib.Core.List.{List, [], _∷_, _++_}
 use Prim.Native.Nat.{ℕ, _+_, _*_, _/_, _%_, _<_}
 use native.Mathlib.Numerals.{add-one}
 use Rattle.equations.specs.declared.Effect.the-variants.{Hazard, Cancer}
-use Rattle.cases.specs.declared.Status.the-variants.{Read}
+use Rattle.cases.specs.declared.Status.the-variants.{Passed}
 use Rattle.cases.specs.Conditions.{first}
 use Rattle.text.specs.declared.Row.{Row}
 use Rattle.scenario.specs.Scenario.{Scenario, chemicalIn, receptorIn, Exact}
@@ -18,7 +18,7 @@ use Rattle.sheet.proofs.Held.{columns-held}
 use Rattle.sheet.proofs.SheetCaseLaws.{total-held}
 use Rattle.lists.proofs.Chained.{chained-same, flat}
 
-module _ (scenario : Scenario) {exact : Exact} (sound : Sound scenario exact) (small : first (largeLines scenario) ≡ Read) where
+module _ (scenario : Scenario) {exact : Exact} (sound : Sound scenario exact) (small : first (largeLines scenario) ≡ Passed) where
   module _ (j : ℕ) (here : j < scenario .receptors .count) where
     line-held : (q : ℕ) → q < scenario .chemicals .count * 6
         → rowIn (cellsOf scenario) j (receptorIn scenario j .id) (chemicalIn scenario (q / 6) .id) q ≡ rowAt scenario j (q / 6) (q % 6)

@@ -5,7 +5,7 @@ use mathlib.Core.Path.{_≡_, refl}
 use mathlib.Core.List.{List}
 use mathlib.Core.Logic.{_≢_}
 use Rattle.cases.specs.declared.Status.{Status}
-use Rattle.cases.specs.declared.Status.the-variants.{Read, Stopped}
+use Rattle.cases.specs.declared.Status.the-variants.{Passed, Stopped}
 use Rattle.cases.specs.Conditions.{Condition, Without, first, toldOf}
 use Rattle.deck.specs.DeckConditions.{conditions}
 use Rattle.cases.proofs.FirstMet.{without-append, told-without}
@@ -17,7 +17,7 @@ use Rattle.report.specs.InMemory.{writtenConditions, writtenStatus, writ
 
 same-number : (s : Status) (scenario : Scenario) → outcomeFor s scenario .number ≡ toldOf s .number
 unfolding outcomeFor toldOf
-same-number Read scenario = refl
+same-number Passed scenario = refl
 same-number (Stopped number line field) scenario = refl
 
 outcome-without : (cs : List Condition) (scenario : Scenario) → Without 41 cs → outcomeFor (first cs) scenario .number ≢ 41

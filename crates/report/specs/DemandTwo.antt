@@ -28,7 +28,7 @@ use Rattle.deck.specs.DeckCase.{caseOf}
 use Rattle.cases.specs.Cases.{valueAt, receptorAt}
 use Rattle.totals.specs.declared.Columns.the-variants as Cols
 use Rattle.text.specs.Text.{reportLineWidth, rowText, FitsColumns}
-use Rattle.scenario.specs.Scenario.{Scenario, stayIn, printedIn, pairsAt, printedYears, depositionOf, ordinaryOf}
+use Rattle.scenario.specs.Scenario.{Scenario, stayIn, givenIn, pairsAt, timeGiven, depositionOf, ordinaryOf}
 use Rattle.sizes.specs.Sizes.{pathwaysPerChemical}
 use Rattle.sheet.specs.Sheet.{pathwayAt, hasReference, figureAt, unitOf, columnsAt, linesPerReceptor}
 use Rattle.report.specs.Report.{rowAt, totalRow, Call, scenarioOf, allConditions, lengthOf, outcomeOf, bufferOf}
@@ -59,10 +59,10 @@ pub record Printed (scenario : Scenario) (report : List ℕ) : Type 0 where
   pub total-fits : (j : ℕ) → j < scenario .receptors .count → FitsColumns (totalRow scenario j)
   -- each slot's pair, of the site and of the chemicals, is the entry of the value that is printed there
   pub entered : (j i : ℕ) → j < scenario .receptors .count → i < scenario .chemicals .count → (s : Slot) (digits : ℕ) (power : ℤ)
-      → printedIn scenario i s ≡ Values.Printed power digits → entry digits power ≡ is (pairsAt scenario j i .value s)
+      → givenIn scenario i s ≡ Values.Given power digits → entry digits power ≡ is (pairsAt scenario j i .value s)
   -- 1 less a slot that is at most 1, as 1 − Fv, is taken from the digits that are printed there
   pub rested : (j i : ℕ) → j < scenario .receptors .count → i < scenario .chemicals .count → (s : Slot) (digits : ℕ) (power : ℤ)
-      → printedIn scenario i s ≡ Values.Printed power digits → atMostOne s ≡ true → oneMinusEntry digits power ≡ is (pairsAt scenario j i .rest s)
+      → givenIn scenario i s ≡ Values.Given power digits → atMostOne s ≡ true → oneMinusEntry digits power ≡ is (pairsAt scenario j i .rest s)
 
 -- no condition holds: 0, the report's length, 0; the report, of receptors made so; and past it what was there before
 pub record Reported (call : Call) (Made : Case → Type 0) (deck buffer : List ℕ) : Type 0 where
@@ -99,14 +99,14 @@ pub record Exposed (exposure deposition : Years) (stay : Stay) (later : Pair) : 
 
 -- a printed time is taken as it is
 pub record Timed (v : Value) : Type 0 where
-  pub taken : (digits : ℕ) (power : ℤ) → v ≡ Values.Printed power digits → years.printed digits power ≡ is (printedYears v)
+  pub taken : (digits : ℕ) (power : ℤ) → v ≡ Values.Given power digits → years.printed digits power ≡ is (timeGiven v)
 
 -- An ordinary deck's receptors are made so: each slot's pair is the entry of the value that is printed there, and T2 is set against tD as both are
 -- printed.
 pub record Entered (case : Case) : Type 0 where
   pub entered : (j i : ℕ) → j < case .receptors .count → (s : Slot) (digits : ℕ) (power : ℤ) → ownerOf s ≡ Receptor
-      → valueAt (receptorAt case j) (placeOf s) ≡ Values.Printed power digits → entry digits power ≡ is (pairsAt (ordinaryOf case) j i .value s)
+      → valueAt (receptorAt case j) (placeOf s) ≡ Values.Given power digits → entry digits power ≡ is (pairsAt (ordinaryOf case) j i .value s)
   pub deposition : Timed (valueAt (case .site) (placeOf "tD"))
   pub exposure : (j : ℕ) → j < case .receptors .count → Timed (valueAt (receptorAt case j) (placeOf "T2"))
   pub exposed : (j i : ℕ) → j < case .receptors .count
-      → Exposed (printedYears (valueAt (receptorAt case j) (placeOf "T2"))) (depositionOf (case .site)) (stayIn (ordinaryOf case) j) (pairsAt (ordinaryOf case) j i .later)
+      → Exposed (timeGiven (valueAt (receptorAt case j) (placeOf "T2"))) (depositionOf (case .site)) (stayIn (ordinaryOf case) j) (pairsAt (ordinaryOf case) j i .later)

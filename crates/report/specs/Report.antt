@@ -7,7 +7,7 @@ use lib.ListN.{length, drop}
 use Rattle.equations.specs.declared.Effect.the-variants.{Hazard, Cancer}
 use Rattle.cases.specs.declared.Case.{Case}
 use Rattle.cases.specs.declared.Status.{Status}
-use Rattle.cases.specs.declared.Status.the-variants.{Read, Stopped}
+use Rattle.cases.specs.declared.Status.the-variants.{Passed, Stopped}
 use Rattle.cases.specs.declared.Told.{Told}
 use Rattle.cases.specs.Conditions.{Condition, at, first}
 use Rattle.deck.specs.DeckConditions.{conditions}
@@ -84,7 +84,7 @@ statusOf call deck room = first (allConditions call deck room)
 -- ---- the call
 -- success returns 0, the report's length, 0; a refusal its number, line and field
 unfoldable pub outcomeFor : Status → Scenario → Told
-outcomeFor Read scenario = record { number = 0; line = lengthOf scenario; field = 0 }
+outcomeFor Passed scenario = record { number = 0; line = lengthOf scenario; field = 0 }
 outcomeFor (Stopped number line field) scenario = record { number = number; line = line; field = field }
 
 unfoldable pub outcomeOf : Call → List ℕ → ℕ → Told
@@ -92,7 +92,7 @@ outcomeOf call deck room = outcomeFor (statusOf call deck room) (scenarioOf call
 
 -- the report, and past it what was there before; a refusal changes no byte
 unfoldable pub bufferWith : Status → List Row → ℕ → List ℕ → List ℕ
-bufferWith Read rows n buffer = linesText rows ++ drop n buffer
+bufferWith Passed rows n buffer = linesText rows ++ drop n buffer
 bufferWith (Stopped number line field) rows n buffer = buffer
 
 unfoldable pub bufferFor : Status → Scenario → List ℕ → List ℕ

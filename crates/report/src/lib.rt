@@ -70,7 +70,7 @@ pub fn write_report(
     }
     let mut cells = [0u64; CELLS];
     let worked = sheet::counts_of(site, chemicals, receptors, &mut cells);
-    let Status::Read = worked else {
+    let Status::Passed = worked else {
         return cases::tell(worked);
     };
     write_rows(out, &cells, chemicals, receptors);
@@ -88,7 +88,7 @@ pub fn report(deck: &[u8], out: &mut [u8]) -> Told
 {
     let reading = deck::read(deck, Sort::Ordinary);
     let status = reading.status;
-    let Status::Read = status else {
+    let Status::Passed = status else {
         return cases::tell(status);
     };
     let receptors = scenario::entered_from(reading.case);

@@ -5,9 +5,9 @@
 // buffer's length, and the number, line and field that the call tells. There are report bytes only where the number is 0; the line is then
 // how many.
 use cases::Told;
-use spelling::Word;
 use libc::STDOUT_FILENO;
 use slots::Sort;
+use spelling::Word;
 ghost use Prim.Native.Nat.{_<_};
 
 const COLUMNS: usize = 6;

@@ -25,16 +25,16 @@ use Rattle.slots.specs.declared.Rule.{Rule}
 use Rattle.slots.specs.Slots.{Slot, positive, table, same, isIn, placeIn, ruleIn, ruleAt, ruleFor, ownerOf, placeOf}
 use Rattle.cases.specs.declared.Case.{Case}
 use Rattle.cases.specs.declared.Value.{Value}
-use Rattle.cases.specs.declared.Value.the-variants.{Printed}
+use Rattle.cases.specs.declared.Value.the-variants.{Given}
 use Rattle.powers.specs.Powers.{above, below}
 use Rattle.cases.specs.Ranges.{inRange}
-use Rattle.cases.specs.Cases.{valueAt, ownersRecord, printed}
+use Rattle.cases.specs.Cases.{valueAt, ownersRecord, given}
 use Rattle.cases.specs.Ranged.{Spelled, Fits, Ranged}
 use Rattle.cases.proofs.FitsLaws.{range-positive, range-most, finest, needed}
 use Rattle.equations.specs.declared.Stay.the-variants.{Beyond}
 use Rattle.equations.proofs.Profile.{Good, good-around, good-equal}
 use Rattle.equations.proofs.LineLaws.{ofLater}
-use Rattle.scenario.specs.Scenario.{orOne, orNone, fractionOf, printedYears, stayIf, laterIf}
+use Rattle.scenario.specs.Scenario.{orOne, orNone, fractionOf, timeGiven, stayIf, laterIf}
 
 -- a time, and the exact value that it is
 pub record Exactly (y : Years) (x : Fraction) : Type 0 where
@@ -66,8 +66,8 @@ amount-few m (negsuc n) h k =
 
 -- what is printed in a slot that needs a time: it is told, and it is exact
 pub record Told (v : Value) : Type 0 where
-  pub told : (digits : ℕ) (power : ℤ) → v ≡ Printed power digits → years.printed digits power ≡ is (printedYears v)
-  pub exact : Exactly (printedYears v) (fractionOf v)
+  pub told : (digits : ℕ) (power : ℤ) → v ≡ Given power digits → years.printed digits power ≡ is (timeGiven v)
+  pub exact : Exactly (timeGiven v) (fractionOf v)
 
 module _ (rule : Rule) (b : rule .blank ≡ false) (d : rule .dash ≡ false) (z : rule .zero ≡ false) (most : rule .most ≤ 1000000000) where
   digits-told : (m : ℕ) (e : ℤ) → inRange rule m e ≡ true → Spelled m e → (y : Years) × (years.printed m e ≡ is y)
@@ -77,7 +77,7 @@ module _ (rule : Rule) (b : rule .blank ≡ false) (d : rule .dash ≡ false) (z
       (years.wordsOf (years.printedAmount m e), printed-told m e (low-enough e (w .0)) (high-enough e (w .1)) (amount-few m e (w .0) (range-most rule m e r 1000000000 most)))
 
   pub printed-exactly : (v : Value) → Fits rule v → Told v
-  unfolding printedYears fractionOf orNone
+  unfolding timeGiven fractionOf orNone
   printed-exactly v f =
       let g = needed rule v f b d in
       let h = digits-told (g .digits) (g .power) (g .ranged) (g .spelled) in
@@ -88,10 +88,10 @@ module _ (rule : Rule) (b : rule .blank ≡ false) (d : rule .dash ≡ false) (z
         exact = rw (h .1) (record { time = printed-is-years (g .digits) (g .power) y (h .1); proper = scaled-proper (g .digits) (g .power); same = printed-same (g .digits) (g .power) y (h .1) });
       })
     where
-      same-digits : (e e' : ℤ) (m m' : ℕ) → Printed e m ≡ Printed e' m' → m ≡ m'
+      same-digits : (e e' : ℤ) (m m' : ℕ) → Given e m ≡ Given e' m' → m ≡ m'
       same-digits e e' m m' p = cc
 
-      same-power : (e e' : ℤ) (m m' : ℕ) → Printed e m ≡ Printed e' m' → e ≡ e'
+      same-power : (e e' : ℤ) (m m' : ℕ) → Given e m ≡ Given e' m' → e ≡ e'
       same-power e e' m m' p = cc
 
 -- tD, in every sort of deck
@@ -105,7 +105,7 @@ pub time-told : (sort : Sort) (s : Slot) → ruleFor sort s ≡ positive → (v 
 time-told sort s e v f = printed-exactly positive refl refl refl (lit≤ tt) v (subst (λ (r : Rule). Fits r v) e f)
 
 pub deposition-told : (sort : Sort) (case : Case) → Ranged sort case → Told (valueAt (case .site) (placeOf "tD"))
-unfolding printed ownersRecord ownerOf isIn same table
+unfolding given ownersRecord ownerOf isIn same table
 deposition-told sort case ranged = time-told sort "tD" (tD-rule sort) (valueAt (case .site) (placeOf "tD")) (ranged .fits 0 0 (ranged .some-receptors) (ranged .some-chemicals) "tD")
 
 some : (n : ℕ) → 0 < n → 0 < years.yearsOf n .num

@@ -19,13 +19,13 @@ use Rattle.equations.proofs.LineLaws.{ofSlot, ofLater, printed-good}
 use Rattle.equations.proofs.ValueLaws.{read-any}
 use Rattle.cases.specs.declared.Case.{Case}
 use Rattle.cases.specs.declared.Record.{Record}
-use Rattle.cases.specs.declared.Value.the-variants.{Printed}
+use Rattle.cases.specs.declared.Value.the-variants.{Given}
 use Rattle.lists.specs.Lists.{tabulate}
 use Rattle.cases.specs.Cases.{noRecord, valueAt, receptorAt}
 use Rattle.cases.specs.Ranged.{Fits, Ranged}
 use Rattle.scenario.specs.declared.Receptor as receptors
 use Rattle.scenario.specs.declared.Receptors as many
-use Rattle.scenario.specs.Scenario.{pairOf, noReceptor, receptorIn, pairsAt, printedYears, depositionOf, receptorWith, entered, scenarioWith, enteredFrom, ordinaryOf, fractionOf, exactFrom, exactAt}
+use Rattle.scenario.specs.Scenario.{pairOf, noReceptor, receptorIn, pairsAt, timeGiven, depositionOf, receptorWith, entered, scenarioWith, enteredFrom, ordinaryOf, fractionOf, exactFrom, exactAt}
 use Rattle.scenario.proofs.Sound.{Sound}
 use Rattle.lists.proofs.Tabulated.{tabulated}
 use Rattle.scenario.proofs.InputLaws.{value-good, value-entered, value-at, receptor-fits, made-sound}
@@ -63,7 +63,7 @@ module _ (case : Case) (ranged : Ranged Ordinary case) where
 
   -- each slot's pair is the entry of what is printed there
   pub receptor-entered : (j i : ℕ) → j < case .receptors .count → (s : Slot) (digits : ℕ) (power : ℤ) → ownerOf s ≡ Receptor
-      → valueAt (receptorAt case j) (placeOf s) ≡ Printed power digits → entry digits power ≡ is (pairsAt (ordinaryOf case) j i .value s)
+      → valueAt (receptorAt case j) (placeOf s) ≡ Given power digits → entry digits power ≡ is (pairsAt (ordinaryOf case) j i .value s)
   receptor-entered j i h s digits power e there =
       value-entered Ordinary s digits power (subst (Fits (ruleFor Ordinary s)) there (receptor-fits Ordinary case ranged j h s e))
       ∙ ap (λ (q : Pair). is q) (sym (receptor-at j i h s e ∙ ap pairOf there))
@@ -77,7 +77,7 @@ module _ (case : Case) (ranged : Ranged Ordinary case) where
   unfolding entered receptorWith depositionOf exactFrom
   later-entered j h =
       rw (entered-at j h)
-      (later-good (printedYears (valueAt (receptorAt case j) (placeOf "T2"))) (depositionOf (case .site)) (exactFrom case j "T2") (fractionOf (valueAt (case .site) (placeOf "tD")))
+      (later-good (timeGiven (valueAt (receptorAt case j) (placeOf "T2"))) (depositionOf (case .site)) (exactFrom case j "T2") (fractionOf (valueAt (case .site) (placeOf "tD")))
       (exposure-told j h .exact) (deposition-told Ordinary case ranged .exact))
 
   pub ordinary-sound : Sound (ordinaryOf case) (exactAt case)

@@ -32,16 +32,16 @@ use Rattle.equations.proofs.Profile.{Good, good-around}
 use Rattle.equations.proofs.LineLaws.{ofPrinted, ofSlot, ofRest, ofLater, InRange, printed-good}
 use Rattle.cases.specs.declared.Case.{Case}
 use Rattle.cases.specs.declared.Value.{Value}
-use Rattle.cases.specs.declared.Value.the-variants.{Absent, Printed}
+use Rattle.cases.specs.declared.Value.the-variants.{Absent, Given}
 use Rattle.cases.specs.declared.Filled.{Filled}
 use Rattle.cases.specs.declared.Record.{Record}
 use Rattle.powers.specs.Powers.{above, below}
 use Rattle.cases.specs.Ranges.{inRange}
-use Rattle.cases.specs.Cases.{noSlot, valueAt, chemicalAt, receptorAt, ownersRecord, printed, isOtherYear}
+use Rattle.cases.specs.Cases.{noSlot, valueAt, chemicalAt, receptorAt, ownersRecord, given, isOtherYear}
 use Rattle.cases.specs.Ranged.{Spelled, Fits, Ranged}
 use Rattle.cases.proofs.FitsLaws.{range-positive, range-bounds, range-most, year-right}
 use Rattle.scenario.specs.declared.Receptors.{Receptors}
-use Rattle.scenario.specs.Scenario.{Scenario, orOne, pairOf, restOf, valuesOf, noReceptor, chemicalIn, receptorIn, stayIn, printedIn, pairsAt, scenarioWith, fractionOf, exactWith, noGuidance}
+use Rattle.scenario.specs.Scenario.{Scenario, orOne, pairOf, restOf, valuesOf, noReceptor, chemicalIn, receptorIn, stayIn, givenIn, pairsAt, scenarioWith, fractionOf, exactWith, noGuidance}
 use Rattle.scenario.proofs.Sound.{Sound}
 
 -- digits × 10^power as a field spells it, in the range of slot s
@@ -156,26 +156,26 @@ printable s m e r d =
 written-rule : (sort : Sort) (s : Slot) → ruleFor sort s .used ≡ true → ruleFor sort s ≡ ruleOf s
 written-rule sort s h = ⊎-elim (λ e. e) (λ e. absurd (false≢true (sym (ap (λ (r : Rule). r .used) e) ∙ h))) (rule-cases sort s)
 
-printed-printable : (sort : Sort) (s : Slot) (m : ℕ) (e : ℤ) → Fits (ruleFor sort s) (Printed e m) → Printable s m e
+printed-printable : (sort : Sort) (s : Slot) (m : ℕ) (e : ℤ) → Fits (ruleFor sort s) (Given e m) → Printable s m e
 printed-printable sort s m e f = printable s m e (subst (λ (r : Rule). inRange r m e ≡ true) (written-rule sort s (f .0)) (f .1)) (f .2)
 
 -- It is a pair that the equations take, and so is 1 less it; a missing value reads as 1.
 pub value-good : (sort : Sort) (s : Slot) (v : Value) → Fits (ruleFor sort s) v → Good (ofPrinted s) (is (pairOf v)) (fractionOf v)
 unfolding pairOf fractionOf
 value-good sort s Absent f = entry-good (one-printable s) onePair one-entry
-value-good sort s (Printed e m) f =
+value-good sort s (Given e m) f =
     let r : Printable s m e = printed-printable sort s m e f in
     entry-good r (orOne (entry m e)) (entry-is r)
 
 left-good : (sort : Sort) (s : Slot) (v : Value) → Fits (ruleFor sort s) v → atMostOne s ≡ true → Good (ofRest s) (is (restOf v)) (rest (fractionOf v))
 unfolding restOf fractionOf
 left-good sort s Absent f z = rest-good (one-printable s) zeroPair one-less-one z
-left-good sort s (Printed e m) f z =
+left-good sort s (Given e m) f z =
     let r : Printable s m e = printed-printable sort s m e f in
     rest-good r (orOne (oneMinusEntry m e)) (rest-is r z) z
 
 -- and its pair is the entry of what is printed
-pub value-entered : (sort : Sort) (s : Slot) (m : ℕ) (e : ℤ) → Fits (ruleFor sort s) (Printed e m) → entry m e ≡ is (pairOf (Printed e m))
+pub value-entered : (sort : Sort) (s : Slot) (m : ℕ) (e : ℤ) → Fits (ruleFor sort s) (Given e m) → entry m e ≡ is (pairOf (Given e m))
 unfolding pairOf
 value-entered sort s m e f = entry-is (printed-printable sort s m e f)
 
@@ -184,7 +184,7 @@ pub value-at : (r : Record) (k : ℕ) → valueIn (valuesOf r) k ≡ pairOf (val
 unfolding valueIn valuesOf valueAt pairOf
 value-at r k = List·getD-map (λ (s : Filled). pairOf (s .value)) (r .slots) k noSlot
 
-absent-printed : {power : ℤ} {digits : ℕ} → Absent ≡ Printed power digits → ⊥
+absent-printed : {power : ℤ} {digits : ℕ} → Absent ≡ Given power digits → ⊥
 absent-printed e = let z : _≡_ {A = ℕ} 0 1 = cc in omega arith
 
 -- a slot of the site or of a chemical
@@ -199,20 +199,20 @@ source-pair Site t a b c k = value-at a k
 source-pair Chemical t a b c k = value-at b k
 source-pair Receptor t a b c k = absurd t
 
-pub pair-printed : (scenario : Scenario) (j i : ℕ) (s : Slot) → OfSource (ownerOf s) → pairsAt scenario j i .value s ≡ pairOf (printedIn scenario i s)
-unfolding pairsAt inputs printedIn
+pub pair-printed : (scenario : Scenario) (j i : ℕ) (s : Slot) → OfSource (ownerOf s) → pairsAt scenario j i .value s ≡ pairOf (givenIn scenario i s)
+unfolding pairsAt inputs givenIn
 pair-printed scenario j i s t = source-pair (ownerOf s) t (scenario .site) (chemicalIn scenario i) (receptorIn scenario j .values) (placeOf s)
 
 -- a receptor's slot is as its rule asks
 pub receptor-fits : (sort : Sort) (case : Case) → Ranged sort case → (j : ℕ) → j < case .receptors .count → (s : Slot) → ownerOf s ≡ Receptor
     → Fits (ruleFor sort s) (valueAt (receptorAt case j) (placeOf s))
-unfolding printed ownersRecord
+unfolding given ownersRecord
 receptor-fits sort case ranged j h s e = subst (λ (o : Owner). Fits (ruleFor sort s) (valueAt (ownersRecord o case j 0) (placeOf s))) e (ranged .fits j 0 h (ranged .some-chemicals) s)
 
 -- ---- a scenario of a case in range, with receptors whose slots' pairs are in range of these values
 module _ (sort : Sort) (case : Case) (ranged : Ranged sort case) where
   module _ (i : ℕ) (i-small : i < case .chemicals .count) (s : Slot) where
-    fits : Fits (ruleFor sort s) (printed case 0 i s)
+    fits : Fits (ruleFor sort s) (given case 0 i s)
     fits = ranged .fits 0 i (ranged .some-receptors) i-small s
 
     value-by : (o : Owner) (c : Values) (x : Fraction) → Fits (ruleFor sort s) (valueAt (ownersRecord o case 0 i) (placeOf s)) → (o ≡ Receptor → Good (ofSlot s) (is (valueIn c (placeOf s))) x)
@@ -238,14 +238,14 @@ module _ (sort : Sort) (case : Case) (ranged : Ranged sort case) where
   year-rule Composite = refl
 
   year-named : isOtherYear (valueAt (case .site) (placeOf "year")) ≡ false
-  unfolding printed ownersRecord ownerOf isIn same table
+  unfolding given ownersRecord ownerOf isIn same table
   year-named = year-right (ruleFor sort "year") (valueAt (case .site) (placeOf "year")) (ranged .fits 0 0 (ranged .some-receptors) (ranged .some-chemicals) "year") (year-rule sort)
 
   module _ (receptors′ : Receptors) (receptor : ℕ → Slot → Fraction) where
     input-ranged : (i : ℕ) → i < case .chemicals .count → (s : Slot) (j : ℕ)
         → (ownerOf s ≡ Receptor → Good (ofSlot s) (is (valueIn (getD (receptors′ .list) j noReceptor .values) (placeOf s))) (receptor j s))
         → InRange s (pairsAt (scenarioWith case receptors′) j i) (exactWith case receptor j i s)
-    unfolding pairsAt inputs printedIn scenarioWith exactWith printed chemicalIn receptorIn chemicalAt ofRest
+    unfolding pairsAt inputs givenIn scenarioWith exactWith given chemicalIn receptorIn chemicalAt ofRest
     input-ranged i i-small s j g =
         record {
           value = value-by i i-small s (ownerOf s) (getD (receptors′ .list) j noReceptor .values) (receptor j s) (fits i i-small s) g;
@@ -270,17 +270,17 @@ module _ (sort : Sort) (case : Case) (ranged : Ranged sort case) where
 
   -- Each slot's pair, of the site or of a chemical, is the entry of what is printed there, and 1 less a slot that is at most 1 is taken from
   -- its digits.
-  module _ (receptors′ : Receptors) (j i : ℕ) (i-small : i < case .chemicals .count) (s : Slot) (digits : ℕ) (power : ℤ) (there : printedIn (scenarioWith case receptors′) i s ≡ Printed power digits) where
+  module _ (receptors′ : Receptors) (j i : ℕ) (i-small : i < case .chemicals .count) (s : Slot) (digits : ℕ) (power : ℤ) (there : givenIn (scenarioWith case receptors′) i s ≡ Given power digits) where
     source-by : (o : Owner) → Fits (ruleFor sort s) (valueAt (ownersRecord o case 0 i) (placeOf s))
-        → byOwner o (valueAt (case .site) (placeOf s)) (valueAt (chemicalAt case i) (placeOf s)) Absent ≡ Printed power digits
-        → OfSource o × Fits (ruleFor sort s) (Printed power digits)
+        → byOwner o (valueAt (case .site) (placeOf s)) (valueAt (chemicalAt case i) (placeOf s)) Absent ≡ Given power digits
+        → OfSource o × Fits (ruleFor sort s) (Given power digits)
     unfolding byOwner ownersRecord OfSource
     source-by Site f e = (tt, subst (Fits (ruleFor sort s)) e f)
     source-by Chemical f e = (tt, subst (Fits (ruleFor sort s)) e f)
     source-by Receptor f e = absurd (absent-printed e)
 
-    of-source : OfSource (ownerOf s) × Fits (ruleFor sort s) (Printed power digits)
-    unfolding printedIn scenarioWith printed chemicalIn chemicalAt
+    of-source : OfSource (ownerOf s) × Fits (ruleFor sort s) (Given power digits)
+    unfolding givenIn scenarioWith given chemicalIn chemicalAt
     of-source = source-by (ownerOf s) (fits i i-small s) there
 
     fitting : Printable s digits power

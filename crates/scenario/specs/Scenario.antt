@@ -21,7 +21,7 @@ use Rattle.cases.specs.declared.Chemicals.{Chemicals}
 use Rattle.cases.specs.declared.Filled.{Filled}
 use Rattle.cases.specs.declared.Record.{Record}
 use Rattle.cases.specs.declared.Value.{Value}
-use Rattle.cases.specs.declared.Value.the-variants.{Absent, Printed}
+use Rattle.cases.specs.declared.Value.the-variants.{Absent, Given}
 use Rattle.cases.specs.Cases.{noRecord, valueAt, chemicalAt, receptorAt, guidanceOf, isOtherYear}
 use Rattle.lists.specs.Lists.{tabulate}
 use Rattle.scenario.specs.declared.Receptor.{Receptor}
@@ -35,12 +35,12 @@ orOne (is p) = p
 orOne (refused n) = onePair
 
 unfoldable pub pairOf : Value → Pair
-pairOf (Printed power digits) = orOne (entry digits power)
+pairOf (Given power digits) = orOne (entry digits power)
 pairOf Absent = onePair
 
 -- 1 less it, from what is printed
 unfoldable pub restOf : Value → Pair
-restOf (Printed power digits) = orOne (oneMinusEntry digits power)
+restOf (Given power digits) = orOne (oneMinusEntry digits power)
 restOf Absent = zeroPair
 
 -- a record's, place by place
@@ -80,15 +80,15 @@ unfoldable pub guidanceIn : Scenario → Guidance
 guidanceIn scenario = guidanceOf (valueAt (scenario .site) (placeOf "year"))
 
 -- what is printed in a slot of the site or of chemical i; nothing is printed of a receptor made of pairs
-unfoldable pub printedIn : Scenario → ℕ → Slot → Value
-printedIn scenario i s = byOwner (ownerOf s) (valueAt (scenario .site) (placeOf s)) (valueAt (chemicalIn scenario i) (placeOf s)) Absent
+unfoldable pub givenIn : Scenario → ℕ → Slot → Value
+givenIn scenario i s = byOwner (ownerOf s) (valueAt (scenario .site) (placeOf s)) (valueAt (chemicalIn scenario i) (placeOf s)) Absent
 
 -- every slot's value, 1 less it, and T2 − tD, for receptor j and chemical i, both counted from 0
 unfoldable pub pairsAt : Scenario → ℕ → ℕ → Inputs Pair
 pairsAt scenario j i =
     record {
       value = inputs (valuesOf (scenario .site)) (valuesOf (chemicalIn scenario i)) (receptorIn scenario j .values);
-      rest = λ s. restOf (printedIn scenario i s);
+      rest = λ s. restOf (givenIn scenario i s);
       later = receptorIn scenario j .later;
     }
 
@@ -98,7 +98,7 @@ scenarioWith case receptors′ = scenarioFrom (case .site) (case .chemicals) rec
 
 -- the exact values: what is printed of the site and of chemical i, and these of receptor j
 unfoldable pub fractionOf : Value → Fraction
-fractionOf (Printed power digits) = scaled digits power
+fractionOf (Given power digits) = scaled digits power
 fractionOf Absent = scaled 1 (pos 0)
 
 unfoldable pub exactWith : Case → (ℕ → Slot → Fraction) → ℕ → ℕ → Slot → Fraction
@@ -111,9 +111,9 @@ unfoldable pub orNone : Outcome Years → Years
 orNone (is y) = y
 orNone (refused n) = years.none
 
-unfoldable pub printedYears : Value → Years
-printedYears (Printed power digits) = orNone (years.printed digits power)
-printedYears Absent = years.none
+unfoldable pub timeGiven : Value → Years
+timeGiven (Given power digits) = orNone (years.printed digits power)
+timeGiven Absent = years.none
 
 unfoldable pub stayIf : Outcome Bool → Stay
 stayIf (is true) = Within
@@ -135,11 +135,11 @@ receptorWith id′ values′ exposure deposition =
     }
 
 unfoldable pub depositionOf : Record → Years
-depositionOf site′ = printedYears (valueAt site′ (placeOf "tD"))
+depositionOf site′ = timeGiven (valueAt site′ (placeOf "tD"))
 
 -- ---- an ordinary deck's receptors: each slot's pair is the entry of what is printed, its exact value what is printed
 unfoldable pub entered : Years → Record → Receptor
-entered deposition r = receptorWith (r .id) (valuesOf r) (printedYears (valueAt r (placeOf "T2"))) deposition
+entered deposition r = receptorWith (r .id) (valuesOf r) (timeGiven (valueAt r (placeOf "T2"))) deposition
 
 unfoldable pub enteredFrom : Case → Receptors
 enteredFrom case = record { count = case .receptors .count; list = tabulate mostReceptors (λ j. entered (depositionOf (case .site)) (receptorAt case j)) }

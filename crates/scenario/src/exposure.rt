@@ -10,15 +10,15 @@ use times::Time;
 use times::Years;
 ghost use mathlib.Core.Path.{_≡_};
 ghost use Rattle.pair.specs.Calls.{order};
-ghost use Rattle.scenario.specs.Scenario.{printedYears, depositionOf, stayIf, laterIf, receptorWith};
+ghost use Rattle.scenario.specs.Scenario.{timeGiven, depositionOf, stayIf, laterIf, receptorWith};
 use crate::Receptor;
 use crate::values::or_one;
 
 // A printed time, exact; 0 for what no deck prints as a time.
-pub fn printed_years(v: Value) -> Years
-    ensures { λ r. ⌜ r ≡ printedYears v ⌝ }
+pub fn time_given(v: Value) -> Years
+    ensures { λ r. ⌜ r ≡ timeGiven v ⌝ }
 {
-    let Value::Printed { digits, power } = v else {
+    let Value::Given { digits, power } = v else {
         return Years::NONE;
     };
     let Time::Is(y) = Years::printed(digits, power) else {
@@ -33,7 +33,7 @@ pub fn deposition_of(site: Record) -> Years
 {
     let slot = site.slots[TD];
     let v = slot.value;
-    printed_years(v)
+    time_given(v)
 }
 
 fn stay_if(told: Order) -> Stay

@@ -8,8 +8,8 @@ ghost use Rattle.scenario.specs.Scenario.{entered, enteredFrom};
 use crate::Receptor;
 use crate::Receptors;
 use crate::exposure::deposition_of;
-use crate::exposure::printed_years;
 use crate::exposure::receptor_with;
+use crate::exposure::time_given;
 use crate::values::values_of;
 
 // A receptor whose slots' pairs are the entries of what is printed.
@@ -18,7 +18,7 @@ fn enter(deposition: Years, r: Record) -> Receptor
 {
     let slot = r.slots[T2];
     let v = slot.value;
-    receptor_with(r.id, values_of(r), printed_years(v), deposition)
+    receptor_with(r.id, values_of(r), time_given(v), deposition)
 }
 
 // The receptors that an ordinary deck's sheet is worked for.

@@ -30,7 +30,7 @@ pub fn or_one(a: Answer) -> Pair
 pub fn pair_of(v: Value) -> Pair
     ensures { λ r. ⌜ r ≡ pairOf v ⌝ }
 {
-    let Value::Printed { digits, power } = v else {
+    let Value::Given { digits, power } = v else {
         return Pair::ONE;
     };
     or_one(Pair::entry(digits, power))
@@ -40,7 +40,7 @@ pub fn pair_of(v: Value) -> Pair
 fn rest_of(v: Value) -> Pair
     ensures { λ r. ⌜ r ≡ restOf v ⌝ }
 {
-    let Value::Printed { digits, power } = v else {
+    let Value::Given { digits, power } = v else {
         return Pair::ZERO;
     };
     or_one(Pair::one_minus_entry(digits, power))

@@ -23,7 +23,7 @@ use Rattle.pathway.specs.Lines.{absorbedOf}
 use Rattle.cases.specs.declared.Chemicals.{Chemicals}
 use Rattle.cases.specs.declared.Record.{Record}
 use Rattle.cases.specs.declared.Status.{Status}
-use Rattle.cases.specs.declared.Status.the-variants.{Read, Stopped}
+use Rattle.cases.specs.declared.Status.the-variants.{Passed, Stopped}
 use Rattle.sizes.specs.Sizes.{maxChemicals}
 use Rattle.cases.specs.Conditions.{first}
 use Rattle.cases.specs.Cases.{noRecord}
@@ -114,12 +114,12 @@ module _ (site′ : Values) (receptors′ : Receptors) (records : List Record) (
   stops-is : (b : Bool) → worked ≡ b → stopsWith site′ receptors′ (getD records i noRecord) ≡ not b
   stops-is b w = sym (Bool·not-not (stopsWith site′ receptors′ (getD records i noRecord))) ∙ ap not (sym (worked-is ∙ ap (λ (c : Record). not (stopsWith site′ receptors′ c)) record-is) ∙ w)
 
-  module _ (none : first (chained (refusedSource site′ receptors′ records) i) ≡ Read) where
-    pub goes-on : worked ≡ true → first (chained (refusedSource site′ receptors′ records) (i + 1)) ≡ Read
+  module _ (none : first (chained (refusedSource site′ receptors′ records) i) ≡ Passed) where
+    pub goes-on : worked ≡ true → first (chained (refusedSource site′ receptors′ records) (i + 1)) ≡ Passed
     unfolding refusedSource first
     goes-on w =
         let c = stops-is true w in
-        chains.goes-on (refusedSource site′ receptors′ records) i none Read (rw c refl) refl
+        chains.goes-on (refusedSource site′ receptors′ records) i none Passed (rw c refl) refl
 
     pub stops : worked ≡ false → (count : ℕ) → i < count → (t : Status) → t ≡ Stopped 53 (i + 1) 0 → t ≡ first (chained (refusedSource site′ receptors′ records) count)
     unfolding refusedSource first

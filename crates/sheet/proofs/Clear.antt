@@ -5,7 +5,7 @@ use mathlib.Core.List.{[]}
 use Prim.Native.Nat.{ℕ, suc, _+_, _*_, _<_}
 use Rattle.equations.specs.declared.Effect.{Effect}
 use Rattle.equations.specs.declared.Effect.the-variants.{Hazard, Cancer}
-use Rattle.cases.specs.declared.Status.the-variants.{Read}
+use Rattle.cases.specs.declared.Status.the-variants.{Passed}
 use Rattle.cases.specs.Conditions.{at, first}
 use Rattle.cases.proofs.FirstMet.{first-read, chained-each}
 use Rattle.lists.proofs.Booleans.{neither}
@@ -19,7 +19,7 @@ either Hazard f h = neither (f Hazard) (f Cancer) h .0
 either Cancer f h = neither (f Hazard) (f Cancer) h .1
 
 -- 42 does not hold
-pub not-large : (scenario : Scenario) → first (largeLines scenario) ≡ Read → (e : Effect) (j i p : ℕ) → j < scenario .receptors .count → i < scenario .chemicals .count → p < pathwaysPerChemical → overCap e scenario j i (pathwayAt p) ≡ false
+pub not-large : (scenario : Scenario) → first (largeLines scenario) ≡ Passed → (e : Effect) (j i p : ℕ) → j < scenario .receptors .count → i < scenario .chemicals .count → p < pathwaysPerChemical → overCap e scenario j i (pathwayAt p) ≡ false
 unfolding largeLines lineTooLarge
 not-large scenario none e j i p a b c =
     let r = chained-each (λ j. chained (λ i. chained (lineTooLarge scenario j i) pathwaysPerChemical) (scenario .chemicals .count)) (scenario .receptors .count) none j a in

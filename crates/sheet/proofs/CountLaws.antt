@@ -14,7 +14,7 @@ use Rattle.equations.specs.declared.Effect.the-variants.{Hazard, Cancer}
 use Rattle.equations.specs.declared.Values.{Values}
 use Rattle.pathway.specs.Lines.{Figured}
 use Rattle.cases.specs.declared.Status.{Status}
-use Rattle.cases.specs.declared.Status.the-variants.{Read, Stopped}
+use Rattle.cases.specs.declared.Status.the-variants.{Passed, Stopped}
 use Rattle.cases.specs.Conditions.{at, first}
 use Rattle.cases.proofs.FirstMet.{orElse, first-append, first-read, chained-each}
 use Rattle.lists.proofs.Tabulated.{tabulated, length-tabulate}
@@ -73,7 +73,7 @@ module _ (scenario : Scenario) (site′ : Site) (sources : Sources) (cells : Lis
 
 -- ---- the lines of a scenario of which no chemical stops
 module _ (scenario : Scenario) (site′ : Site) (sources : Sources) (at-site : site′ ≡ siteOf (scenario .site)) (sources-are : sources ≡ sourcesOf (site′ .values) (scenario .receptors) (scenario .chemicals))
-    (none : first (chained (noMediaAt scenario) (scenario .chemicals .count)) ≡ Read) where
+    (none : first (chained (noMediaAt scenario) (scenario .chemicals .count)) ≡ Passed) where
   count-is : sources .count ≡ scenario .chemicals .count
   unfolding sourcesOf
   count-is = ap (λ (x : Sources). x .count) sources-are
@@ -177,12 +177,12 @@ module _ (scenario : Scenario) where
           stopped-counts s number line field stop (stop ∙ sym (conditions-are ∙ ap (λ (t : Status). orElse t (first (largeLines scenario))) here)) cells none
 
       module _ (sources : Sources) (sources-are : sources ≡ sourcesOf (site′ .values) (scenario .receptors) (scenario .chemicals))
-          (ready : first (chained (refusedSource (site′ .values) (scenario .receptors) (scenario .chemicals .records)) (scenario .chemicals .count)) ≡ Read) where
+          (ready : first (chained (refusedSource (site′ .values) (scenario .receptors) (scenario .chemicals .records)) (scenario .chemicals .count)) ≡ Passed) where
         pub sources-few : sources .count ≤ 16
         unfolding sourcesOf
         sources-few = rw sources-are few-chemicals
 
-        none : first (chained (noMediaAt scenario) (scenario .chemicals .count)) ≡ Read
+        none : first (chained (noMediaAt scenario) (scenario .chemicals .count)) ≡ Passed
         none = sym (ap first chemicals-agree) ∙ ready
 
         module _ (s : Status) (is-first : s ≡ first (allLarge site′ sources (scenario .receptors .list) (scenario .receptors .count))) where
@@ -198,7 +198,7 @@ module _ (scenario : Scenario) where
           line-stops number line field stop cells none = stopped-counts s number line field stop large-first cells none
 
           -- every line's counts
-          pub all-counted : s ≡ Read → (cells : List ℕ) → length cells ≡ 2304
+          pub all-counted : s ≡ Passed → (cells : List ℕ) → length cells ≡ 2304
               → CellsFilled site′ sources (scenario .receptors .list) (scenario .receptors .count) cells × ZeroFrom (576 * scenario .receptors .count) cells
               → Told s cells
           unfolding sheetStatus sheetCells cellsFor

@@ -14,7 +14,7 @@ use Rattle.pair.specs.Calls.{is}
 use Rattle.equations.specs.declared.Effect.{Effect}
 use Rattle.equations.specs.declared.Effect.the-variants.{Hazard, Cancer}
 use Rattle.cases.specs.declared.Status.{Status}
-use Rattle.cases.specs.declared.Status.the-variants.{Read, Stopped}
+use Rattle.cases.specs.declared.Status.the-variants.{Passed, Stopped}
 use Rattle.lists.proofs.Booleans.{both}
 use Rattle.lists.proofs.Tabulated.{tabulated, length-tabulate}
 use Rattle.totals.specs.declared.Columns.{Columns}
@@ -215,7 +215,7 @@ columns-held scenario few-chemicals few-receptors j q here h e = line-held scena
 -- how many cells the call leaves
 many-for : (s : Status) (scenario : Scenario) → length (cellsFor s scenario) ≡ 2304
 unfolding cellsFor cellsOf noCells
-many-for Read scenario = length-tabulate (cellAt scenario) 0 0 2304
+many-for Passed scenario = length-tabulate (cellAt scenario) 0 0 2304
 many-for (Stopped number line field) scenario = length-tabulate (λ k. 0) 0 0 2304
 
 pub cells-many : (scenario : Scenario) → length (sheetCells scenario) ≡ 2304

@@ -15,7 +15,7 @@ use Rattle.media.specs.declared.Media.{Media}
 use Rattle.media.specs.Media.{noMedia}
 use Rattle.pathway.specs.Lines.{Figured, Shared, habitsOf, figuresWith}
 use Rattle.cases.specs.declared.Status.{Status}
-use Rattle.cases.specs.declared.Status.the-variants.{Read, Stopped}
+use Rattle.cases.specs.declared.Status.the-variants.{Passed, Stopped}
 use Rattle.cases.specs.Conditions.{first}
 use Rattle.totals.specs.declared.Columns.{Columns}
 use Rattle.scenario.specs.declared.Receptor.{Receptor}
@@ -25,7 +25,7 @@ use Rattle.sheet.specs.declared.Sources.{Sources}
 use Rattle.scenario.specs.Scenario.{noReceptor}
 use Rattle.lists.specs.Lists.{chained}
 use Rattle.sheet.specs.Sheet.{pathwayAt}
-use Rattle.sheet.specs.Inner.{noSource, sourceAt, columnsOf, meanAt, figuresFrom, figureFor, figuresWorked, columnsFrom, columnsWorked, isLarge, largeLine, largeChemical, largeWorked, perReceptor, allLarge}
+use Rattle.sheet.specs.Inner.{noSource, sourceAt, columnsOf, meanAt, figuresFrom, figureFor, figuresWorked, sourceColumns, columnsWorked, isLarge, largeLine, largeChemical, largeWorked, perReceptor, allLarge}
 use Rattle.cases.proofs.FirstMet.{goes-on, stops}
 
 -- A chemical's line, as it is worked from what its receptor's lines share.
@@ -41,15 +41,15 @@ module _ (site′ : Site) (j : ℕ) (r : Values) (source : Source) (blank : Medi
   pub large-is : (b : Bool) → b ≡ isLarge figured′ → b ≡ isLarge (figuresFrom site′ j r source (pathwayAt p))
   large-is b e = e ∙ ap isLarge figures-are
 
-  pub columns-are : (e : Effect) (u : Columns) → u ≡ columnsOf e (figureFor e figured′) → u ≡ columnsFrom site′ j r source p e
-  unfolding columnsFrom
+  pub columns-are : (e : Effect) (u : Columns) → u ≡ columnsOf e (figureFor e figured′) → u ≡ sourceColumns site′ j r source p e
+  unfolding sourceColumns
   columns-are e u q = q ∙ ap (λ (f : Figured). columnsOf e (figureFor e f)) figures-are
 
 -- 42 at it
-module _ (site′ : Site) (j : ℕ) (r : Values) (source : Source) (before p : ℕ) (none : first (chained (largeLine site′ j r source before) p) ≡ Read) where
-  pub line-fits : isLarge (figuresFrom site′ j r source (pathwayAt p)) ≡ false → first (chained (largeLine site′ j r source before) (p + 1)) ≡ Read
+module _ (site′ : Site) (j : ℕ) (r : Values) (source : Source) (before p : ℕ) (none : first (chained (largeLine site′ j r source before) p) ≡ Passed) where
+  pub line-fits : isLarge (figuresFrom site′ j r source (pathwayAt p)) ≡ false → first (chained (largeLine site′ j r source before) (p + 1)) ≡ Passed
   unfolding largeLine first
-  line-fits h = goes-on (largeLine site′ j r source before) p none Read (rw h refl) refl
+  line-fits h = goes-on (largeLine site′ j r source before) p none Passed (rw h refl) refl
 
   pub line-stops : p < 6 → isLarge (figuresFrom site′ j r source (pathwayAt p)) ≡ true → Stopped 42 (before + (p + 1)) 0 ≡ first (largeChemical site′ j r source before)
   unfolding largeLine first largeChemical
@@ -63,8 +63,8 @@ module _ (site′ : Site) (j : ℕ) (r : Values) (sources : Sources) (blank : So
   unfolding sourceAt
   source-is = read-any (sources .list) i here blank noSource
 
-  pub lines-are : (p : ℕ) → p < 6 → (e : Effect) → columnsFrom site′ j r (getD (sources .list) i blank) p e ≡ columnsWorked site′ sources j r (i * 6 + p) e
-  unfolding columnsFrom columnsWorked figuresWorked
+  pub lines-are : (p : ℕ) → p < 6 → (e : Effect) → sourceColumns site′ j r (getD (sources .list) i blank) p e ≡ columnsWorked site′ sources j r (i * 6 + p) e
+  unfolding sourceColumns columnsWorked figuresWorked
   lines-are p h e =
       let d : i ≡ (i * 6 + p) / 6 = omega arith in
       let m : p ≡ (i * 6 + p) % 6 = omega arith in
@@ -72,11 +72,11 @@ module _ (site′ : Site) (j : ℕ) (r : Values) (sources : Sources) (blank : So
       ∙ ap (λ (k : ℕ). columnsOf e (figureFor e (figuresFrom site′ j r (sourceAt sources ((i * 6 + p) / 6)) (pathwayAt k)))) m
 
   module _ (before : ℕ) (s : Status) (is-first : s ≡ first (largeChemical site′ j r (getD (sources .list) i blank) (before + i * 6)))
-      (none : first (chained (λ k. largeChemical site′ j r (sourceAt sources k) (before + k * 6)) i) ≡ Read) where
+      (none : first (chained (λ k. largeChemical site′ j r (sourceAt sources k) (before + k * 6)) i) ≡ Passed) where
     chemical-is : s ≡ first (largeChemical site′ j r (sourceAt sources i) (before + i * 6))
     chemical-is = is-first ∙ ap (λ (x : Source). first (largeChemical site′ j r x (before + i * 6))) source-is
 
-    pub chemical-on : s ≡ Read → first (chained (λ k. largeChemical site′ j r (sourceAt sources k) (before + k * 6)) (i + 1)) ≡ Read
+    pub chemical-on : s ≡ Passed → first (chained (λ k. largeChemical site′ j r (sourceAt sources k) (before + k * 6)) (i + 1)) ≡ Passed
     chemical-on read = goes-on (λ k. largeChemical site′ j r (sourceAt sources k) (before + k * 6)) i none s chemical-is read
 
     pub chemical-stops : i < sources .count → (number line field : ℕ) → s ≡ Stopped number line field → s ≡ first (largeWorked site′ sources j r before)
@@ -90,11 +90,11 @@ module _ (site′ : Site) (sources : Sources) (list : List Receptor) (blank : Re
   pub receptor-is : r ≡ getD list j noReceptor .values
   receptor-is = is-receptor ∙ ap (λ (x : Receptor). x .values) (read-any list j here blank noReceptor)
 
-  module _ (s : Status) (is-first : s ≡ first (largeWorked site′ sources j r (j * perReceptor (sources .count)))) (none : first (allLarge site′ sources list j) ≡ Read) where
+  module _ (s : Status) (is-first : s ≡ first (largeWorked site′ sources j r (j * perReceptor (sources .count)))) (none : first (allLarge site′ sources list j) ≡ Passed) where
     large-is-here : s ≡ first (largeWorked site′ sources j (getD list j noReceptor .values) (j * perReceptor (sources .count)))
     large-is-here = is-first ∙ ap (λ (x : Values). first (largeWorked site′ sources j x (j * perReceptor (sources .count)))) receptor-is
 
-    pub large-on : s ≡ Read → first (allLarge site′ sources list (j + 1)) ≡ Read
+    pub large-on : s ≡ Passed → first (allLarge site′ sources list (j + 1)) ≡ Passed
     unfolding allLarge
     large-on read = goes-on (λ k. largeWorked site′ sources k (getD list k noReceptor .values) (k * perReceptor (sources .count))) j none s large-is-here read
 

@@ -29,12 +29,12 @@ use Rattle.media.specs.declared.Media.{Media}
 use Rattle.media.specs.declared.Ground.{Ground}
 use Rattle.media.specs.Media.{four, mediaIn, groundFrom}
 use Rattle.media.proofs.Means.{ground-page, mean-media}
-use Rattle.cases.specs.declared.Status.the-variants.{Read}
+use Rattle.cases.specs.declared.Status.the-variants.{Passed}
 use Rattle.cases.specs.Conditions.{Condition, at, first}
 use Rattle.totals.specs.declared.Columns.{Columns}
 use Rattle.totals.specs.declared.Columns.the-variants as Cols
 use Rattle.totals.specs.Totals.{_added_}
-use Rattle.scenario.specs.Scenario.{Scenario, restOf, valuesOf, particlesOf, chemicalIn, receptorIn, stayIn, guidanceIn, printedIn, pairsAt, Exact}
+use Rattle.scenario.specs.Scenario.{Scenario, restOf, valuesOf, particlesOf, chemicalIn, receptorIn, stayIn, guidanceIn, givenIn, pairsAt, Exact}
 use Rattle.sizes.specs.Sizes.{pathwaysPerChemical}
 use Rattle.sheet.specs.Sheet.{pathwayAt, hasReference, figureAt, unitOf, counted, countedIn, columnsAt, addedOver, totalAt, highAbove, overCap, capOf, largeLines}
 use Rattle.lists.specs.Lists.{chained}
@@ -75,17 +75,17 @@ module _ (scenario : Scenario) {exact : Exact} (sound : Sound scenario exact) (j
   never-later h = absurd (false≢true h)
 
   ground-told : isRefused (groundFor scenario i) ≡ false
-  unfolding env pairsAt groundFor particlesOf printedIn byOwner ownerOf placeOf table same isIn placeIn page.C page.soil page.mean
+  unfolding env pairsAt groundFor particlesOf givenIn byOwner ownerOf placeOf table same isIn placeIn page.C page.soil page.mean
   ground-told =
       let g = ground-works Within env (exact j i) (sound .inputs j i j-small i-small) never-later in
       let m : (e : Effect) → (m : Media) × (mediaIn env (page.soil e Within) ≡ is m) = media-told Within never-later in
-      ap isRefused (ground-page (valuesOf (scenario .site)) (valuesOf (chemicalIn scenario i)) (receptorIn scenario j .values) (λ s. restOf (printedIn scenario i s)) (receptorIn scenario j .later))
+      ap isRefused (ground-page (valuesOf (scenario .site)) (valuesOf (chemicalIn scenario i)) (receptorIn scenario j .values) (λ s. restOf (givenIn scenario i s)) (receptorIn scenario j .later))
       ∙ ground-all _ _ _ _ (g .0 .0) (g .1 .0) (m Hazard .0) (m Cancer .0) (g .0 .1 .told) (g .1 .1 .told) (m Hazard .1) (m Cancer .1)
 
   mean-told : (ground : Ground) → groundFor scenario i ≡ is ground → isRefused (meanFor scenario i j ground) ≡ false
-  unfolding env pairsAt meanFor meanWith stayIn groundFor particlesOf printedIn inputs byOwner ownerOf placeOf table same isIn placeIn page.soil
+  unfolding env pairsAt meanFor meanWith stayIn groundFor particlesOf givenIn inputs byOwner ownerOf placeOf table same isIn placeIn page.soil
   mean-told ground laid =
-      ap isRefused (mean-media (valuesOf (scenario .site)) (valuesOf (chemicalIn scenario i)) (receptorIn scenario j .values) (λ s. restOf (printedIn scenario i s)) (receptorIn scenario j .later) ground laid (receptorIn scenario j .stay))
+      ap isRefused (mean-media (valuesOf (scenario .site)) (valuesOf (chemicalIn scenario i)) (receptorIn scenario j .values) (λ s. restOf (givenIn scenario i s)) (receptorIn scenario j .later) ground laid (receptorIn scenario j .stay))
       ∙ told-not _ _ (media-told (receptorIn scenario j .stay) (sound .later j i j-small i-small) Cancer .1)
 
 never-stops : (o : Outcome Ground) (means : ℕ → Ground → Outcome Media) (n : ℕ) → isRefused o ≡ false → ((ground : Ground) → o ≡ is ground → (j : ℕ) → j < n → isRefused (means j ground) ≡ false)
@@ -166,7 +166,7 @@ unfolding CountsMost
 most-more m n Cols.Absent l h = tt
 most-more m n (Cols.Counted a b) l h = (omega arith, omega arith)
 
-module _ (scenario : Scenario) {exact : Exact} (sound : Sound scenario exact) (small : first (largeLines scenario) ≡ Read) where
+module _ (scenario : Scenario) {exact : Exact} (sound : Sound scenario exact) (small : first (largeLines scenario) ≡ Passed) where
   module _ (e : Effect) (j i p : ℕ) (j-small : j < scenario .receptors .count) (i-small : i < scenario .chemicals .count) (p-small : p < pathwaysPerChemical) where
     figure : hasReference e scenario i (pathwayAt p) ≡ true → Figure scenario exact j i e (pathwayAt p)
     unfolding overCap

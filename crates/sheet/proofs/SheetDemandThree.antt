@@ -4,7 +4,7 @@
 use mathlib.Core.Path.{_≡_}
 use Prim.Native.Nat.{ℕ, _≤_, _<_}
 use Rattle.equations.specs.declared.Effect.{Effect}
-use Rattle.cases.specs.declared.Status.the-variants.{Read}
+use Rattle.cases.specs.declared.Status.the-variants.{Passed}
 use Rattle.cases.specs.Conditions.{first}
 use Rattle.scenario.specs.Scenario.{Scenario, scenarioWith, enteredFrom, ordinaryOf, Exact}
 use Rattle.sizes.specs.Sizes.{pathwaysPerChemical}
@@ -16,7 +16,7 @@ use Rattle.sheet.proofs.Clear.{not-large}
 use Rattle.sheet.proofs.LineTotals.{line-totals}
 use Rattle.sheet.proofs.TotalLaws.{totals-over, totals-hold}
 
-pub scenario-demand-3 : (scenario : Scenario) {exact : Exact} → Sound scenario exact → first (largeLines scenario) ≡ Read
+pub scenario-demand-3 : (scenario : Scenario) {exact : Exact} → Sound scenario exact → first (largeLines scenario) ≡ Passed
     → (j : ℕ) → j < scenario .receptors .count → (N : ℕ) → 256 ≤ N → (e : Effect) → TotalHolds (totalAt e scenario j) (linesAdded e scenario) (exactTotal e scenario exact N j)
 unfolding totalAt linesAdded exactTotal
 scenario-demand-3 scenario {exact} sound small j l N n e =

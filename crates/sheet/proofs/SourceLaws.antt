@@ -33,12 +33,12 @@ use Rattle.pathway.proofs.HabitLaws.{own-factor}
 use Rattle.pathway.proofs.AirLaws.{time-share-alike, air-figure-page}
 use Rattle.cases.specs.declared.Record.{Record}
 use Rattle.cases.specs.declared.Value.{Value}
-use Rattle.cases.specs.declared.Value.the-variants.{Absent, Printed}
+use Rattle.cases.specs.declared.Value.the-variants.{Absent, Given}
 use Rattle.cases.specs.Cases.{valueAt}
 use Rattle.totals.specs.declared.Columns.the-variants as Cols
 use Rattle.sheet.specs.declared.Source.{Source}
-use Rattle.scenario.specs.Scenario.{Scenario, pairOf, restOf, valuesOf, particlesOf, noReceptor, chemicalIn, receptorIn, stayIn, guidanceIn, printedIn, pairsAt, siteOf}
-use Rattle.sheet.specs.Sheet.{isPrinted, hasReference, figureAt, unitOf, capOf, countedIn, columnsAt, highAbove, overCap}
+use Rattle.scenario.specs.Scenario.{Scenario, pairOf, restOf, valuesOf, particlesOf, noReceptor, chemicalIn, receptorIn, stayIn, guidanceIn, givenIn, pairsAt, siteOf}
+use Rattle.sheet.specs.Sheet.{isGiven, hasReference, figureAt, unitOf, capOf, countedIn, columnsAt, highAbove, overCap}
 use Rattle.sheet.specs.Counts.{isRefused, groundFor, meanWith, meanFor, stopsAt}
 use Rattle.sheet.specs.Inner.{columnsOf, aboveCap, mediaFrom, groundWith, meansOf, rfdOf, csfOf, referencesOf, sourceWith, sourceFrom, sourceOf, meanAt, figuresFrom, figureFor}
 use Rattle.lists.proofs.Tabulated.{filled-at}
@@ -83,10 +83,10 @@ module _ (scenario : Scenario) (j i : ℕ) (ground : Ground) (laid : groundFor s
   R = receptorIn scenario j .values
 
   rests : Slot → Pair
-  rests = λ s. restOf (printedIn scenario i s)
+  rests = λ s. restOf (givenIn scenario i s)
 
   ground-is : groundOf (mediaInputs S C (rests "Fv")) ≡ is ground
-  unfolding groundFor S C rests particlesOf printedIn byOwner ownerOf placeOf table same isIn placeIn
+  unfolding groundFor S C rests particlesOf givenIn byOwner ownerOf placeOf table same isIn placeIn
   ground-is = laid
 
   mean-page : meanMedia ground S C (stayIn scenario j) (inputs S C R "T2") (receptorIn scenario j .later) ≡ is mean
@@ -168,7 +168,7 @@ line-by Cancer stay p v = refl
 
 optional : Value → Optional Pair
 optional Absent = none
-optional (Printed power digits) = some (pairOf (Printed power digits))
+optional (Given power digits) = some (pairOf (Given power digits))
 
 -- a value chosen by route, and what is made of it
 routed : {A B : Type 0} (f : A → B) (p : Pathway) (x y : A) → f (byRoute p x y) ≡ byRoute p (f x) (f y)
@@ -183,22 +183,22 @@ routed f BelowGround x y = refl
 rfd-optional : (v : Value) → rfdValue (rfdGiven (rfdOf v)) ≡ optional v
 unfolding rfdValue rfdGiven rfdOf optional
 rfd-optional Absent = refl
-rfd-optional (Printed power digits) = refl
+rfd-optional (Given power digits) = refl
 
 csf-optional : (v : Value) → csfValue (csfGiven (csfOf v)) ≡ optional v
 unfolding csfValue csfGiven csfOf optional
 csf-optional Absent = refl
-csf-optional (Printed power digits) = refl
+csf-optional (Given power digits) = refl
 
 -- the slot of a line's reference value, as the chemical's record has it
 referenceAt : Effect → Pathway → Record → Value
 referenceAt Hazard p r = byRoute p (valueAt r (placeOf "RfDi")) (valueAt r (placeOf "RfDo"))
 referenceAt Cancer p r = byRoute p (valueAt r (placeOf "CSFi")) (valueAt r (placeOf "CSFo"))
 
-reference-printed : (scenario : Scenario) (i : ℕ) (e : Effect) (p : Pathway) → printedIn scenario i (referenceSlot e p) ≡ referenceAt e p (chemicalIn scenario i)
-unfolding referenceAt referenceSlot printedIn byOwner ownerOf placeOf table same isIn placeIn
-reference-printed scenario i Hazard p = routed (printedIn scenario i) p "RfDi" "RfDo"
-reference-printed scenario i Cancer p = routed (printedIn scenario i) p "CSFi" "CSFo"
+reference-printed : (scenario : Scenario) (i : ℕ) (e : Effect) (p : Pathway) → givenIn scenario i (referenceSlot e p) ≡ referenceAt e p (chemicalIn scenario i)
+unfolding referenceAt referenceSlot givenIn byOwner ownerOf placeOf table same isIn placeIn
+reference-printed scenario i Hazard p = routed (givenIn scenario i) p "RfDi" "RfDo"
+reference-printed scenario i Cancer p = routed (givenIn scenario i) p "CSFi" "CSFo"
 
 -- it is a chemical's
 by-route : {A : Type 0} (P : A → Type 0) (p : Pathway) (x y : A) → P x → P y → P (byRoute p x y)
@@ -240,12 +240,12 @@ cap-some e (refused n) = refl
 -- a figure that is worked from its reference value, where there is one
 module _ (e : Effect) (f : Optional Pair → Outcome (Optional Pair)) (o : Pair → Outcome Pair) (without : f none ≡ is none) (with-one : (v : Pair) → f (some v) ≡ mapped (λ (q : Pair). some q) (o v)) where
   figure-columns : (v : Value) →
-      (columnsOf e (f (optional v)) ≡ cond (isPrinted v) (countedIn (unitOf e) (o (pairOf v))) Cols.Absent)
-      × (aboveCap e (f (optional v)) ≡ (isPrinted v && highAbove (capOf e) (o (pairOf v))))
-  unfolding optional isPrinted columnsOf aboveCap
+      (columnsOf e (f (optional v)) ≡ cond (isGiven v) (countedIn (unitOf e) (o (pairOf v))) Cols.Absent)
+      × (aboveCap e (f (optional v)) ≡ (isGiven v && highAbove (capOf e) (o (pairOf v))))
+  unfolding optional isGiven columnsOf aboveCap
   figure-columns Absent = (rw without refl, rw without refl)
-  figure-columns (Printed power digits) =
-      let v : Pair = pairOf (Printed power digits) in
+  figure-columns (Given power digits) =
+      let v : Pair = pairOf (Given power digits) in
       (ap (columnsOf e) (with-one v) ∙ columns-some e (o v), ap (aboveCap e) (with-one v) ∙ cap-some e (o v))
 
 -- ---- pathway 1 by the guidance of 2009
@@ -263,12 +263,12 @@ air-line-by Cancer v = refl
 rfc-optional : (v : Value) → rfcValue (rfcGiven (asRfc (rfdOf v))) ≡ optional v
 unfolding rfcValue rfcGiven asRfc rfdOf optional
 rfc-optional Absent = refl
-rfc-optional (Printed power digits) = refl
+rfc-optional (Given power digits) = refl
 
 unit-risk-optional : (v : Value) → unitRiskValue (unitRiskGiven (asUnitRisk (csfOf v))) ≡ optional v
 unfolding unitRiskValue unitRiskGiven asUnitRisk csfOf optional
 unit-risk-optional Absent = refl
-unit-risk-optional (Printed power digits) = refl
+unit-risk-optional (Given power digits) = refl
 
 air-figure-for : (e : Effect) (r : Values) (air : Conc) (chemical : Record) →
     figureFor e (airFiguresWith (inAirOf r) air (airReferencesOf (referencesOf chemical))) ≡ airFigureIfGiven e (exposureOf (timeShareOf e r) air) (optional (referenceAt e Air chemical))
@@ -305,7 +305,7 @@ module _ (scenario : Scenario) (j i : ℕ) (e : Effect) (ground : Ground) (laid 
     dose = doseOf (factorOf e p site′ chemical′ receptor′) (concentrationFor p (mediaBy e (ground .highest) mean))
 
     value : Value
-    value = printedIn scenario i (referenceSlot e p)
+    value = givenIn scenario i (referenceSlot e p)
 
     intake-is : mapped (λ (g : Dose). g .0) dose ≡ worked (pairsAt scenario j i) (page.intake e (stayIn scenario j) p)
     unfolding dose factor site′ chemical′ receptor′
@@ -328,8 +328,8 @@ module _ (scenario : Scenario) (j i : ℕ) (e : Effect) (ground : Ground) (laid 
     unfolding hasReference value figureIfGiven figureOf
     intake-agrees =
         let c = figure-columns e (figureIfGiven e dose) (λ v. figureBy (after product) (after quotient) e (mapped (λ (g : Dose). g .0) dose) (is v)) refl (λ v. refl) value in (
-          ap (columnsOf e) figured ∙ c .0 ∙ ap (λ (o : Outcome Pair). cond (isPrinted value) (countedIn (unitOf e) o) Cols.Absent) figure-is,
-          ap (aboveCap e) figured ∙ c .1 ∙ ap (λ (o : Outcome Pair). isPrinted value && highAbove (capOf e) o) figure-is,
+          ap (columnsOf e) figured ∙ c .0 ∙ ap (λ (o : Outcome Pair). cond (isGiven value) (countedIn (unitOf e) o) Cols.Absent) figure-is,
+          ap (aboveCap e) figured ∙ c .1 ∙ ap (λ (o : Outcome Pair). isGiven value && highAbove (capOf e) o) figure-is,
         )
 
   -- of a concentration in air
@@ -340,7 +340,7 @@ module _ (scenario : Scenario) (j i : ℕ) (e : Effect) (ground : Ground) (laid 
   inAir = airFiguresWith (inAirOf receptor′) air (airReferencesOf references′)
 
   inhaled : Value
-  inhaled = printedIn scenario i (referenceSlot e Air)
+  inhaled = givenIn scenario i (referenceSlot e Air)
 
   air-is : airFigureBy (after product) (after quotient) (entry 1000 (pos 0)) e (after product (workedOf receptor′ (page.timeShare e)) (is (air .0))) (is (pairOf inhaled)) ≡ worked (pairsAt scenario j i) (page.airLine e)
   unfolding inhaled air receptor′ mediaBy
@@ -362,8 +362,8 @@ module _ (scenario : Scenario) (j i : ℕ) (e : Effect) (ground : Ground) (laid 
   air-agrees =
       let c = figure-columns e (airFigureIfGiven e (exposureOf (timeShareOf e receptor′) air)) (λ v. airFigureBy (after product) (after quotient) (entry 1000 (pos 0)) e (after product (workedOf receptor′ (page.timeShare e)) (is (air .0))) (is v))
       refl (λ v. air-figure-page e (workedOf receptor′ (page.timeShare e)) (air .0) v) inhaled in (
-        ap (columnsOf e) air-figured ∙ c .0 ∙ ap (λ (o : Outcome Pair). cond (isPrinted inhaled) (countedIn (unitOf e) o) Cols.Absent) air-is,
-        ap (aboveCap e) air-figured ∙ c .1 ∙ ap (λ (o : Outcome Pair). isPrinted inhaled && highAbove (capOf e) o) air-is,
+        ap (columnsOf e) air-figured ∙ c .0 ∙ ap (λ (o : Outcome Pair). cond (isGiven inhaled) (countedIn (unitOf e) o) Cols.Absent) air-is,
+        ap (aboveCap e) air-figured ∙ c .1 ∙ ap (λ (o : Outcome Pair). isGiven inhaled && highAbove (capOf e) o) air-is,
       )
 
   -- by the year's guidance

@@ -29,8 +29,8 @@ use Rattle.cases.specs.declared.Record.{Record}
 use Rattle.cases.specs.declared.Case.{Case}
 use Rattle.cases.specs.Cases.{noSlot, valueAt, receptorAt, guidanceOf, clearYear, caseWithoutYear}
 use Rattle.totals.specs.declared.Columns.the-variants as Cols
-use Rattle.scenario.specs.Scenario.{Scenario, scenarioFrom, pairOf, restOf, valuesOf, chemicalIn, receptorIn, stayIn, guidanceIn, printedIn, pairsAt, printedYears, depositionOf, enteredFrom}
-use Rattle.sheet.specs.Sheet.{isPrinted, hasReference, figureAt, unitOf, countedIn, columnsAt, totalAt, linesPerReceptor, overCap, lineTooLarge, largeLines}
+use Rattle.scenario.specs.Scenario.{Scenario, scenarioFrom, pairOf, restOf, valuesOf, chemicalIn, receptorIn, stayIn, guidanceIn, givenIn, pairsAt, timeGiven, depositionOf, enteredFrom}
+use Rattle.sheet.specs.Sheet.{isGiven, hasReference, figureAt, unitOf, countedIn, columnsAt, totalAt, linesPerReceptor, overCap, lineTooLarge, largeLines}
 use Rattle.lists.specs.Lists.{chained}
 use Rattle.scenario.proofs.InputLaws.{value-at}
 use Rattle.lists.proofs.ListLaws.{blank-at}
@@ -76,15 +76,15 @@ reference-other Hazard p = guided (λ (s : Slot). theYear s ≡ false) Of2009 p 
 reference-other Cancer p = guided (λ (s : Slot). theYear s ≡ false) Of2009 p "CSFi" "CSFo" refl refl
 
 module _ (s : Scenario) where
-  printed-same : (i : ℕ) (n : Slot) → theYear n ≡ false → printedIn (yearBlank s) i n ≡ printedIn s i n
-  unfolding printedIn chemicalIn
+  printed-same : (i : ℕ) (n : Slot) → theYear n ≡ false → givenIn (yearBlank s) i n ≡ givenIn s i n
+  unfolding givenIn chemicalIn
   printed-same i n h =
       by-site (λ (v : Value). v) (ownerOf n) (valueAt (clearYear (s .site)) (placeOf n)) (valueAt (s .site) (placeOf n)) (valueAt (chemicalIn s i) (placeOf n)) Absent
       (other-kept (s .site) n h)
 
   reference-same : (e : Effect) (i : ℕ) (p : Pathway) → hasReference e (yearBlank s) i p ≡ hasReference e s i p
   unfolding hasReference
-  reference-same e i p = ap isPrinted (printed-same i (referenceSlot e p) (reference-other e p))
+  reference-same e i p = ap isGiven (printed-same i (referenceSlot e p) (reference-other e p))
 
   pairs-alike : (j i : ℕ) → Alike theYear (pairsAt (yearBlank s) j i) (pairsAt s j i)
   unfolding pairsAt inputs chemicalIn receptorIn
@@ -128,7 +128,7 @@ module _ (s : Scenario) where
 -- ---- the receptors of a case do not hang on it
 pub deposition-blank : (r : Record) → depositionOf (clearYear r) ≡ depositionOf r
 unfolding depositionOf
-deposition-blank r = ap printedYears (other-kept r "tD" (unfold theYear same in refl) (unfold ownerOf isIn same table in refl))
+deposition-blank r = ap timeGiven (other-kept r "tD" (unfold theYear same in refl) (unfold ownerOf isIn same table in refl))
 
 pub entered-blank : (case : Case) → enteredFrom (caseWithoutYear case) ≡ enteredFrom case
 unfolding caseWithoutYear enteredFrom receptorAt

@@ -16,7 +16,7 @@ use Rattle.media.specs.declared.Ground.{Ground}
 use Rattle.media.specs.Media.{mediaInputs, groundOf, meanMedia}
 use Rattle.scenario.specs.declared.Receptor.{Receptor}
 use Rattle.cases.specs.declared.Status.{Status}
-use Rattle.cases.specs.declared.Status.the-variants.{Read, Stopped}
+use Rattle.cases.specs.declared.Status.the-variants.{Passed, Stopped}
 use Rattle.sizes.specs.Sizes.{maxChemicals, mostReceptors, pathwaysPerChemical, mostLines}
 use Rattle.cases.specs.Conditions.{Condition, at, first}
 use Rattle.lists.specs.Lists.{tabulate, chained, anyOf}
@@ -101,7 +101,7 @@ unfoldable pub noCells : List ℕ
 noCells = tabulate allCells (λ k. 0)
 
 unfoldable pub cellsFor : Status → Scenario → List ℕ
-cellsFor Read scenario = cellsOf scenario
+cellsFor Passed scenario = cellsOf scenario
 cellsFor (Stopped number line field) scenario = noCells
 
 -- the call: the first condition that holds, and no counts; or every line's

@@ -11,7 +11,7 @@ use Rattle.equations.specs.declared.Effect.the-variants.{Hazard, Cancer}
 use Rattle.equations.specs.Page.{line}
 use Rattle.equations.specs.Readings.{pacesOf, exactly}
 use Rattle.cases.specs.declared.Case.{Case}
-use Rattle.cases.specs.declared.Status.the-variants.{Read}
+use Rattle.cases.specs.declared.Status.the-variants.{Passed}
 use Rattle.cases.specs.Conditions.{first}
 use Rattle.cases.specs.Ranged.{Ranged}
 use Rattle.slots.specs.declared.Sort.the-variants.{Ordinary}
@@ -70,6 +70,6 @@ TotalHolds (Cols.Counted low high) n exact = Enclosed low high n exact
 -- for every ordinary case in range of which 42 does not hold, every receptor, effect and number N of series terms from 256 up
 unfoldable pub CaseDemand3 : Type 0
 CaseDemand3 =
-    (case : Case) → Ranged Ordinary case → first (largeLines (ordinaryOf case)) ≡ Read →
+    (case : Case) → Ranged Ordinary case → first (largeLines (ordinaryOf case)) ≡ Passed →
     (j : ℕ) → j < case .receptors .count → (N : ℕ) → 256 ≤ N → (e : Effect) →
     TotalHolds (totalAt e (ordinaryOf case) j) (linesAdded e (ordinaryOf case)) (exactTotal e (ordinaryOf case) (exactAt case) N j)

@@ -25,7 +25,7 @@ use Rattle.pathway.specs.Lines.{Optional, some, none, Figured, absorbedOf, habi
 use Rattle.cases.specs.declared.Chemicals.{Chemicals}
 use Rattle.cases.specs.declared.Record.{Record}
 use Rattle.cases.specs.declared.Value.{Value}
-use Rattle.cases.specs.declared.Value.the-variants.{Absent, Printed}
+use Rattle.cases.specs.declared.Value.the-variants.{Absent, Given}
 use Rattle.sizes.specs.Sizes.{maxChemicals, mostReceptors, pathwaysPerChemical, mostLines}
 use Rattle.cases.specs.Conditions.{Condition, at}
 use Rattle.cases.specs.Cases.{noRecord, valueAt}
@@ -74,11 +74,11 @@ noMeans = replicate mostReceptors noMedia
 
 unfoldable pub rfdOf : Value → GivenRfd
 rfdOf Absent = Rfds.Absent
-rfdOf (Printed power digits) = Rfds.Is (record { 0 = pairOf (Printed power digits) })
+rfdOf (Given power digits) = Rfds.Is (record { 0 = pairOf (Given power digits) })
 
 unfoldable pub csfOf : Value → GivenCsf
 csfOf Absent = Csfs.Absent
-csfOf (Printed power digits) = Csfs.Is (record { 0 = pairOf (Printed power digits) })
+csfOf (Given power digits) = Csfs.Is (record { 0 = pairOf (Given power digits) })
 
 unfoldable pub referencesOf : Record → References
 referencesOf r =
@@ -140,8 +140,8 @@ unfoldable pub columnsWorked : Site → Sources → ℕ → Values → ℕ → E
 columnsWorked site′ sources j r q e = columnsOf e (figureFor e (figuresWorked site′ sources j r q))
 
 -- those of a chemical's lines, by pathway
-unfoldable pub columnsFrom : Site → ℕ → Values → Source → ℕ → Effect → Columns
-columnsFrom site′ j r source p e = columnsOf e (figureFor e (figuresFrom site′ j r source (pathwayAt p)))
+unfoldable pub sourceColumns : Site → ℕ → Values → Source → ℕ → Effect → Columns
+sourceColumns site′ j r source p e = columnsOf e (figureFor e (figuresFrom site′ j r source (pathwayAt p)))
 
 unfoldable pub isLarge : Figured → Bool
 isLarge f = aboveCap Hazard (f .hazard) || aboveCap Cancer (f .cancer)

@@ -15,12 +15,12 @@ use Rattle.equations.specs.declared.Effect.the-variants.{Hazard, Cancer}
 use Rattle.equations.specs.Page.{line, referenceSlot}
 use Rattle.equations.specs.Readings.{worked}
 use Rattle.cases.specs.declared.Value.{Value}
-use Rattle.cases.specs.declared.Value.the-variants.{Absent, Printed}
+use Rattle.cases.specs.declared.Value.the-variants.{Absent, Given}
 use Rattle.cases.specs.Conditions.{Condition, at}
 use Rattle.totals.specs.declared.Columns.{Columns}
 use Rattle.totals.specs.declared.Columns.the-variants as Cols
 use Rattle.totals.specs.Totals.{_added_}
-use Rattle.scenario.specs.Scenario.{Scenario, stayIn, guidanceIn, printedIn, pairsAt}
+use Rattle.scenario.specs.Scenario.{Scenario, stayIn, guidanceIn, givenIn, pairsAt}
 use Rattle.sizes.specs.Sizes.{pathwaysPerChemical}
 use Rattle.lists.specs.Lists.{chained}
 
@@ -32,13 +32,13 @@ pathwayAt (suc (suc (suc zero))) = Skin
 pathwayAt (suc (suc (suc (suc zero)))) = AboveGround
 pathwayAt (suc (suc (suc (suc (suc n))))) = BelowGround
 
-unfoldable pub isPrinted : Value → Bool
-isPrinted Absent = false
-isPrinted (Printed power digits) = true
+unfoldable pub isGiven : Value → Bool
+isGiven Absent = false
+isGiven (Given power digits) = true
 
 -- whether a line has the reference value that the page gives it: RfD for hazard, CSF for cancer
 unfoldable pub hasReference : Effect → Scenario → ℕ → Pathway → Bool
-hasReference e scenario i p = isPrinted (printedIn scenario i (referenceSlot e p))
+hasReference e scenario i p = isGiven (givenIn scenario i (referenceSlot e p))
 
 -- the quotient or the risk of chemical i on pathway p for receptor j, by the working rule and the year's guidance
 unfoldable pub figureAt : Effect → Scenario → ℕ → ℕ → Pathway → Outcome Pair

@@ -176,7 +176,7 @@ fn stopped_at(i: usize) -> Prepared
 pub(crate) fn sources_of(site: Values, chemicals: Chemicals, receptors: Receptors) -> Prepared
     requires { ⌜ (chemicals .count ≤ 16) × (receptors .count ≤ 4) ⌝ }
     ensures { λ r. ⌜ r .status ≡ first (chained (refusedSource site receptors (chemicals .records)) (chemicals .count)) ⌝ }
-    ensures { λ r. ⌜ (r .status ≡ Statuses.Read → r .sources ≡ sourcesOf site receptors chemicals) ⌝ }
+    ensures { λ r. ⌜ (r .status ≡ Statuses.Passed → r .sources ≡ sourcesOf site receptors chemicals) ⌝ }
 {
     let count = chemicals.count;
     let mut list = [no_source(); MAX_CHEMICALS];
@@ -193,7 +193,7 @@ pub(crate) fn sources_of(site: Values, chemicals: Chemicals, receptors: Receptor
         i = next;
     }
     Prepared {
-        status: Status::Read,
+        status: Status::Passed,
         sources: Sources { count, list },
     }
 }

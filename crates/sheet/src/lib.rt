@@ -85,11 +85,11 @@ pub fn counts_of(
     let worked = site_of(site);
     let prepared = sources_of(worked.values, chemicals, receptors);
     let ready = prepared.status;
-    let Status::Read = ready else {
+    let Status::Passed = ready else {
         return ready;
     };
     let status = put_all(cells, worked, receptors, prepared.sources);
-    let Status::Read = status else {
+    let Status::Passed = status else {
         clear(cells);
         return status;
     };

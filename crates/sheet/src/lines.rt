@@ -21,7 +21,7 @@ ghost use Rattle.pathway.specs.Lines as specs;
 ghost use Rattle.sheet.specs.Sheet.{pathwayAt};
 ghost use Rattle.sizes.specs.Sizes.{mostLines};
 ghost use Rattle.sheet.specs.Counts.{effectCells, receptorCells, allCells, noCells};
-ghost use Rattle.sheet.specs.Inner.{maxRows, isLarge, withCounts, columnsFrom, columnsWorked, largeChemical, largeWorked, allLarge, CellsHold, CellsEmpty, CellsFilled, SameBelow, SameBut, ZeroFrom};
+ghost use Rattle.sheet.specs.Inner.{maxRows, isLarge, withCounts, sourceColumns, columnsWorked, largeChemical, largeWorked, allLarge, CellsHold, CellsEmpty, CellsFilled, SameBelow, SameBut, ZeroFrom};
 use crate::CELLS;
 use crate::EFFECT_CELLS;
 use crate::RECEPTOR_CELLS;
@@ -101,7 +101,7 @@ fn put_chemical(
 ) -> Status
     requires { ⌜ (base + effectCells + 2 * mostLines + 6 ≤ length (now cells)) × (before ≤ maxRows + mostLines) × (place < 4) × (specs.shared habits ≡ specs.habitsOf (site .guidance) receptor) ⌝ }
     ensures { λ s. ⌜ s ≡ first (largeChemical site place receptor source before) ⌝ }
-    ensures { λ s. ⌜ (s ≡ Statuses.Read → CellsHold (columnsFrom site place receptor source) 6 (now (cells .exit)) base) ⌝ }
+    ensures { λ s. ⌜ (s ≡ Statuses.Passed → CellsHold (sourceColumns site place receptor source) 6 (now (cells .exit)) base) ⌝ }
     ensures { λ _. ⌜ SameBut 6 base (now (cells .entry)) (now (cells .exit)) ⌝ }
 {
     let mean = source.means[place];
@@ -129,7 +129,7 @@ fn put_chemical(
         put_counts(cells, at + EFFECT_CELLS, columns_of(cancer, Effect::Cancer));
         p = next;
     }
-    Status::Read
+    Status::Passed
 }
 
 // The counts of a receptor's lines into its cells, from base on, or the first line above a cap.
@@ -144,7 +144,7 @@ fn put_lines(
 ) -> Status
     requires { ⌜ (base + receptorCells ≤ length (now cells)) × (sources .count ≤ 16) × (before ≤ maxRows) × (place < 4) ⌝ }
     ensures { λ s. ⌜ s ≡ first (largeWorked site sources place receptor before) ⌝ }
-    ensures { λ s. ⌜ (s ≡ Statuses.Read → CellsHold (columnsWorked site sources place receptor) (sources .count * 6) (now (cells .exit)) base) ⌝ }
+    ensures { λ s. ⌜ (s ≡ Statuses.Passed → CellsHold (columnsWorked site sources place receptor) (sources .count * 6) (now (cells .exit)) base) ⌝ }
     ensures { λ _. ⌜ SameBelow base (now (cells .entry)) (now (cells .exit)) ⌝ }
     ensures { λ s. ⌜ (ZeroFrom base (now (cells .entry)) → CellsEmpty (sources .count * 6) (now (cells .exit)) base × ZeroFrom (base + receptorCells) (now (cells .exit))) ⌝ }
 {
@@ -171,14 +171,14 @@ fn put_lines(
         }
         i = next;
     }
-    Status::Read
+    Status::Passed
 }
 
 // Every receptor's counts, or the first line above a cap.
 fn put_receptors(cells: &mut [u64], site: Site, receptors: Receptors, sources: Sources) -> Status
     requires { ⌜ (length (now cells) ≡ allCells) × (receptors .count ≤ 4) × (sources .count ≤ 16) ⌝ }
     ensures { λ s. ⌜ s ≡ first (allLarge site sources (receptors .list) (receptors .count)) ⌝ }
-    ensures { λ s. ⌜ (s ≡ Statuses.Read → ZeroFrom 0 (now (cells .entry)) → CellsFilled site sources (receptors .list) (receptors .count) (now (cells .exit)) × ZeroFrom (receptorCells * receptors .count) (now (cells .exit))) ⌝ }
+    ensures { λ s. ⌜ (s ≡ Statuses.Passed → ZeroFrom 0 (now (cells .entry)) → CellsFilled site sources (receptors .list) (receptors .count) (now (cells .exit)) × ZeroFrom (receptorCells * receptors .count) (now (cells .exit))) ⌝ }
 {
     let count = receptors.count;
     let per = sources.count * PATHWAYS + 1;
@@ -200,7 +200,7 @@ fn put_receptors(cells: &mut [u64], site: Site, receptors: Receptors, sources: S
         }
         j = next;
     }
-    Status::Read
+    Status::Passed
 }
 
 // The same into all cells of a case, which are lent as they stand in their struct.
@@ -212,7 +212,7 @@ pub(crate) fn put_all(
 ) -> Status
     requires { ⌜ (receptors .count ≤ 4) × (sources .count ≤ 16) ⌝ }
     ensures { λ s. ⌜ s ≡ first (allLarge site sources (receptors .list) (receptors .count)) ⌝ }
-    ensures { λ s. ⌜ (s ≡ Statuses.Read → ZeroFrom 0 (now (cells .entry)) → CellsFilled site sources (receptors .list) (receptors .count) (now (cells .exit)) × ZeroFrom (receptorCells * receptors .count) (now (cells .exit))) ⌝ }
+    ensures { λ s. ⌜ (s ≡ Statuses.Passed → ZeroFrom 0 (now (cells .entry)) → CellsFilled site sources (receptors .list) (receptors .count) (now (cells .exit)) × ZeroFrom (receptorCells * receptors .count) (now (cells .exit))) ⌝ }
     ensures { λ _. ⌜ length (now (cells .exit)) ≡ allCells ⌝ }
 {
     put_receptors(cells, site, receptors, sources)

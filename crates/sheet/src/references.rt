@@ -23,7 +23,7 @@ fn rfd(r: Record, k: usize) -> GivenRfd
 {
     let slot = r.slots[k];
     let v = slot.value;
-    let Value::Printed {
+    let Value::Given {
         digits: _,
         power: _,
     } = v
@@ -39,7 +39,7 @@ fn csf(r: Record, k: usize) -> GivenCsf
 {
     let slot = r.slots[k];
     let v = slot.value;
-    let Value::Printed {
+    let Value::Given {
         digits: _,
         power: _,
     } = v

@@ -28,8 +28,8 @@ yearOf Of2009 = 2009
 
 -- A slot's rule: used, or a later slot; blank allowed; - allowed; 0 allowed; the largest value; one of the two years alone. 1E+9 is the largest
 -- anywhere.
-abbrev pub ordinary : Rule
-ordinary = record { used = true; blank = false; dash = false; zero = true; most = 1000000000; year = false }
+abbrev pub amount : Rule
+amount = record { used = true; blank = false; dash = false; zero = true; most = 1000000000; year = false }
 
 -- never 0
 abbrev pub positive : Rule
@@ -71,19 +71,19 @@ pub data Entry : Type 0 where
 -- the slots of a record, from its first; what follows them are later slots
 unfoldable pub table : Owner → List Entry
 table Site =
-    "Zs" is positive ∷ "BD" is positive ∷ "tD" is positive ∷ "θ" is positive ∷ "Xe" is ordinary ∷ "SD" is ordinary
-    ∷ "ER" is ordinary ∷ "RO" is ordinary ∷ "R" is ordinary ∷ "VG" is share ∷ "FRsnow" is share ∷ "year" is guidanceYear
+    "Zs" is positive ∷ "BD" is positive ∷ "tD" is positive ∷ "θ" is positive ∷ "Xe" is amount ∷ "SD" is amount
+    ∷ "ER" is amount ∷ "RO" is amount ∷ "R" is amount ∷ "VG" is share ∷ "FRsnow" is share ∷ "year" is guidanceYear
     ∷ []
 table Chemical =
-    "Q" is ordinary ∷ "HgA" is share ∷ "HgD" is share ∷ "Fv" is share ∷ "Cyv" is ordinary ∷ "Cyp" is ordinary
-    ∷ "Dydv" is ordinary ∷ "Dywv" is ordinary ∷ "Dydp" is ordinary ∷ "Dywp" is ordinary ∷ "Kds" is positive ∷ "ksg" is ordinary
-    ∷ "ksv" is ordinary ∷ "Br" is ordinary ∷ "RCF" is ordinary ∷ "AFinh" is share ∷ "AForal" is share ∷ "AFderm" is share
+    "Q" is amount ∷ "HgA" is share ∷ "HgD" is share ∷ "Fv" is share ∷ "Cyv" is amount ∷ "Cyp" is amount
+    ∷ "Dydv" is amount ∷ "Dywv" is amount ∷ "Dydp" is amount ∷ "Dywp" is amount ∷ "Kds" is positive ∷ "ksg" is amount
+    ∷ "ksv" is amount ∷ "Br" is amount ∷ "RCF" is amount ∷ "AFinh" is share ∷ "AForal" is share ∷ "AFderm" is share
     ∷ "RfDo" is referenceValue ∷ "RfDi" is referenceValue ∷ "CSFo" is slope ∷ "CSFi" is slope
     ∷ []
 table Receptor =
-    "BW" is positive ∷ "ED" is positive ∷ "ATc" is positive ∷ "IRinh" is ordinary ∷ "ETinh" is share ∷ "EFinh" is days
-    ∷ "IRsoil" is ordinary ∷ "ETsoil" is share ∷ "EFs" is days ∷ "EFw" is days ∷ "SAb" is ordinary ∷ "SAFb" is ordinary
-    ∷ "SAh" is ordinary ∷ "SAFh" is ordinary ∷ "ETderm" is share ∷ "IRag" is ordinary ∷ "Fag" is share ∷ "IRbg" is ordinary
+    "BW" is positive ∷ "ED" is positive ∷ "ATc" is positive ∷ "IRinh" is amount ∷ "ETinh" is share ∷ "EFinh" is days
+    ∷ "IRsoil" is amount ∷ "ETsoil" is share ∷ "EFs" is days ∷ "EFw" is days ∷ "SAb" is amount ∷ "SAFb" is amount
+    ∷ "SAh" is amount ∷ "SAFh" is amount ∷ "ETderm" is share ∷ "IRag" is amount ∷ "Fag" is share ∷ "IRbg" is amount
     ∷ "Fbg" is share ∷ "WP" is share ∷ "EFp" is days ∷ "T2" inOrdinary positive ∷ "years" inComposite positive
     ∷ []
 

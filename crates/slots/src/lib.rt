@@ -162,7 +162,7 @@ pub const T2: usize = 21;
 
 pub const YEARS: usize = 22;
 
-const PLAIN: Rule = Rule {
+const AMOUNT: Rule = Rule {
     used: true,
     blank: false,
     dash: false,
@@ -240,8 +240,8 @@ fn site_rules(line: usize) -> [Rule; FIELDS]
     ensures { λ r. ⌜ ((sort : Sort) → r ≡ lineRules sort Owner.Site line) ⌝ }
 {
     match line {
-        0 => [POSITIVE, POSITIVE, POSITIVE, POSITIVE, PLAIN, PLAIN],
-        1 => [PLAIN, PLAIN, PLAIN, SHARE, SHARE, GUIDANCE_YEAR],
+        0 => [POSITIVE, POSITIVE, POSITIVE, POSITIVE, AMOUNT, AMOUNT],
+        1 => [AMOUNT, AMOUNT, AMOUNT, SHARE, SHARE, GUIDANCE_YEAR],
         _ => [UNUSED, UNUSED, UNUSED, UNUSED, UNUSED, UNUSED],
     }
 }
@@ -250,9 +250,9 @@ fn chemical_rules(line: usize) -> [Rule; FIELDS]
     ensures { λ r. ⌜ ((sort : Sort) → r ≡ lineRules sort Owner.Chemical line) ⌝ }
 {
     match line {
-        0 => [PLAIN, SHARE, SHARE, SHARE, PLAIN, PLAIN],
-        1 => [PLAIN, PLAIN, PLAIN, PLAIN, POSITIVE, PLAIN],
-        2 => [PLAIN, PLAIN, PLAIN, SHARE, SHARE, SHARE],
+        0 => [AMOUNT, SHARE, SHARE, SHARE, AMOUNT, AMOUNT],
+        1 => [AMOUNT, AMOUNT, AMOUNT, AMOUNT, POSITIVE, AMOUNT],
+        2 => [AMOUNT, AMOUNT, AMOUNT, SHARE, SHARE, SHARE],
         3 => [REFERENCE, REFERENCE, SLOPE, SLOPE, UNUSED, UNUSED],
         _ => [UNUSED, UNUSED, UNUSED, UNUSED, UNUSED, UNUSED],
     }
@@ -272,9 +272,9 @@ fn receptor_rules(sort: Sort, line: usize) -> [Rule; FIELDS]
     ensures { λ r. ⌜ r ≡ lineRules sort Owner.Receptor line ⌝ }
 {
     match line {
-        0 => [POSITIVE, POSITIVE, POSITIVE, PLAIN, SHARE, DAYS],
-        1 => [PLAIN, SHARE, DAYS, DAYS, PLAIN, PLAIN],
-        2 => [PLAIN, PLAIN, SHARE, PLAIN, SHARE, PLAIN],
+        0 => [POSITIVE, POSITIVE, POSITIVE, AMOUNT, SHARE, DAYS],
+        1 => [AMOUNT, SHARE, DAYS, DAYS, AMOUNT, AMOUNT],
+        2 => [AMOUNT, AMOUNT, SHARE, AMOUNT, SHARE, AMOUNT],
         3 => last_rules(sort),
         _ => [UNUSED, UNUSED, UNUSED, UNUSED, UNUSED, UNUSED],
     }

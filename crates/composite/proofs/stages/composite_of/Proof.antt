@@ -14,8 +14,8 @@ element-copy-out-first c = search needs
 sub-last : tie.Need-sub-last
 sub-last c = search needs
 
-exposure-of-requires : tie.Need-exposure-of-requires
-exposure-of-requires c κs = search needs
+time-exposed-requires : tie.Need-time-exposed-requires
+time-exposed-requires c κs = search needs
 
 pair-requires : tie.Need-pair-requires
 pair-requires c κs = search needs
@@ -41,7 +41,7 @@ returns c =
     let e = p .before in
     let s = e .before .before .before in
     let long : length (s .args .case .receptors .records) ≡ 8 = sym (length-map (s .args .case .receptors .records) _) ∙ s .good .0 .1 .1 .1 .1 .0 .1 .1 .1 .0 .1 .0 .1 in
-    composite-made (s .args .case) _ (omega arith) (v .composed-values .result) (e .exposure-of .result) (answer (p .pair .result)) (e .exposure-of .ensures) (p .pair .ensures) (v .composed-values .ensures)
+    composite-made (s .args .case) _ (omega arith) (v .composed-values .result) (e .time-exposed .result) (answer (p .pair .result)) (e .time-exposed .ensures) (p .pair .ensures) (v .composed-values .ensures)
     (d .deposition-of .result) (r .receptor-with .result) (c .no-receptor .result) (d .deposition-of .ensures) (r .receptor-with .ensures) (c .no-receptor .ensures)
 
 pub composite-of-spec : {M : Type 1} → statement M
@@ -50,7 +50,7 @@ composite-of-spec =
     (tie.spec
     element-copy-out-first
     sub-last
-    exposure-of-requires
+    time-exposed-requires
     pair-requires
     composed-values-requires
     deposition-of-requires

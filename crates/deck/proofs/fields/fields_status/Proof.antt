@@ -11,7 +11,7 @@ use Rattle.spelling.specs.Spelling.{wordOf}
 use Rattle.cases.specs.Conditions.{first, upTo}
 use Rattle.lists.specs.Lists.{tabulate}
 use Rattle.deck.specs.Inner.{Small, packedIn}
-use Rattle.cases.specs.declared.Status.the-variants.{Read}
+use Rattle.cases.specs.declared.Status.the-variants.{Passed}
 use Rattle.cases.proofs.FirstMet.{turn-on, turn-out, never}
 use Rattle.deck.proofs.FieldLaws.{fieldBy, field-turn, fields-by}
 use Rattle.deck.proofs.SpelledWords.{field-small}
@@ -21,7 +21,7 @@ use Rattle.deck.proofs.fields.fields_status.Tie as tie
 
 abbrev Inv-loop : tie.InvT-loop
 Inv-loop line kind n values₀ rules f₀ values f =
-    (f ≤ 6) × (first (upTo (fieldBy rules line n) f) ≡ Read) × (length values ≡ length values₀) × (take f values ≡ tabulate f (packedIn line))
+    (f ≤ 6) × (first (upTo (fieldBy rules line n) f) ≡ Passed) × (length values ≡ length values₀) × (take f values ≡ tabulate f (packedIn line))
 
 abbrev μ-loop : tie.MeasureT-loop
 μ-loop line kind n values₀ rules f₀ values f = 6 - f
@@ -106,7 +106,7 @@ returns-2 c =
     let a = c .before .before .before .before .before .args in
     let l = c .before .loop in
     let rules = c .before .before .rules in (
-      sym (subst (λ (k : ℕ). first (upTo (fieldBy (rules .result) (now (a .line)) (a .n)) k) ≡ Read) (le-antisymm (l .inv .0) (c .loop-test .left)) (l .inv .1))
+      sym (subst (λ (k : ℕ). first (upTo (fieldBy (rules .result) (now (a .line)) (a .n)) k) ≡ Passed) (le-antisymm (l .inv .0) (c .loop-test .left)) (l .inv .1))
           ∙ fields-by (a .sort) (a .kind) (a .n) (now (a .line)) _ (rules .ensures) 6,
       λ q. fields-all (now (a .line)) (l .values) (l .f) (l .inv .2 ∙ c .before .before .before .before .before .pre .1) (l .inv .0) (c .loop-test .left) (l .inv .3),
     )

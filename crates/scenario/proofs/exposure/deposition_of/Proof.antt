@@ -9,12 +9,12 @@ use Rattle.scenario.proofs.exposure.deposition_of.Tie as tie
 element-copy-out-slot : tie.Need-element-copy-out-slot
 element-copy-out-slot c = search needs
 
-printed-years-requires : tie.Need-printed-years-requires
-printed-years-requires c κs = search needs
+time-given-requires : tie.Need-time-given-requires
+time-given-requires c κs = search needs
 
 returns : tie.Need-returns
 unfolding depositionOf valueAt placeOf ownerOf placeIn isIn same table
-returns c = c .printed-years .ensures
+returns c = c .time-given .ensures
 
 pub deposition-of-spec : {M : Type 1} → statement M
-deposition-of-spec = tie.close (tie.spec element-copy-out-slot printed-years-requires returns)
+deposition-of-spec = tie.close (tie.spec element-copy-out-slot time-given-requires returns)

@@ -13,15 +13,15 @@ element-copy-out-slot c = search needs
 values-of-requires : tie.Need-values-of-requires
 values-of-requires c κs = search needs
 
-printed-years-requires : tie.Need-printed-years-requires
-printed-years-requires c κs = search needs
+time-given-requires : tie.Need-time-given-requires
+time-given-requires c κs = search needs
 
 receptor-with-requires : tie.Need-receptor-with-requires
 receptor-with-requires c κs = search needs
 
 returns : tie.Need-returns
 unfolding entered valueAt placeOf ownerOf placeIn isIn same table
-returns c = rw (c .receptor-with .ensures, c .before .printed-years .ensures, c .before .before .values-of .ensures) refl
+returns c = rw (c .receptor-with .ensures, c .before .time-given .ensures, c .before .before .values-of .ensures) refl
 
 pub enter-spec : {M : Type 1} → statement M
-enter-spec = tie.close (tie.spec element-copy-out-slot values-of-requires printed-years-requires receptor-with-requires returns)
+enter-spec = tie.close (tie.spec element-copy-out-slot values-of-requires time-given-requires receptor-with-requires returns)

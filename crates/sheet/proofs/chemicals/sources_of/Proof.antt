@@ -7,7 +7,7 @@ use native.Mathlib.Omega.{arith}
 use borrow.Author.Needs.{needs}
 use borrow.Author.Tests.{not-true, not-false}
 use lib.ListN.{length, getD, replicate, length-map}
-use Rattle.cases.specs.declared.Status.the-variants.{Read}
+use Rattle.cases.specs.declared.Status.the-variants.{Passed}
 use Rattle.cases.specs.Conditions.{first}
 use Rattle.lists.specs.Lists.{tabulate, chained}
 use Rattle.cases.specs.Cases.{noRecord}
@@ -22,7 +22,7 @@ abbrev Inv-loop : tie.InvT-loop
 Inv-loop site receptors chemicals count list₀ i₀ list i =
     (i ≤ chemicals .count)
     × (list ≡ tabulate i (λ k. sourceOf site receptors (getD (chemicals .records) k noRecord)) ++ replicate (16 - i) noSource)
-    × (first (chained (refusedSource site receptors (chemicals .records)) i) ≡ Read)
+    × (first (chained (refusedSource site receptors (chemicals .records)) i) ≡ Passed)
 
 abbrev μ-loop : tie.MeasureT-loop
 μ-loop site receptors chemicals count list₀ i₀ list i = chemicals .count - i

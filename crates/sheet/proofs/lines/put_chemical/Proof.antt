@@ -9,11 +9,11 @@ use borrow.Author.Needs.{needs}
 use lib.ListN.{length, length-map}
 use Rattle.equations.specs.declared.Effect.the-variants.{Hazard, Cancer}
 use Rattle.pathway.specs.Lines.{figured}
-use Rattle.cases.specs.declared.Status.the-variants.{Read}
+use Rattle.cases.specs.declared.Status.the-variants.{Passed}
 use Rattle.cases.specs.Conditions.{first}
 use Rattle.cases.proofs.FirstMet.{never}
 use Rattle.lists.specs.Lists.{chained}
-use Rattle.sheet.specs.Inner.{figureFor, columnsFrom, largeLine, largeChemical, withCounts, CellsHold, SameBut}
+use Rattle.sheet.specs.Inner.{figureFor, sourceColumns, largeLine, largeChemical, withCounts, CellsHold, SameBut}
 use Rattle.sheet.proofs.ReceptorLaws.{large-is, columns-are, line-fits, line-stops}
 use Rattle.sheet.proofs.CellLaws.{line-length, line-others, line-held}
 use Rattle.sheet.proofs.lines.put_chemical.Statement.{statement}
@@ -23,9 +23,9 @@ abbrev Inv-loop : tie.InvT-loop
 Inv-loop cells₀ base site place receptor habits before source mean p₀ cells p =
     (p ≤ 6)
     × (length cells ≡ length cells₀)
-    × CellsHold (columnsFrom site place receptor source) p cells base
+    × CellsHold (sourceColumns site place receptor source) p cells base
     × SameBut 6 base cells₀ cells
-    × (first (chained (largeLine site place receptor source before) p) ≡ Read)
+    × (first (chained (largeLine site place receptor source before) p) ≡ Passed)
 
 abbrev μ-loop : tie.MeasureT-loop
 μ-loop cells₀ base site place receptor habits before source mean p₀ cells p = 6 - p
@@ -114,8 +114,8 @@ loop-again c =
     let small : l .p < 96 = omega (arith, test) in (
       omega (arith, test),
       subst (λ (x : List ℕ). length x ≡ length (a .cells .now)) stored (line-length (l .cells) (a .base) (l .p) u v ∙ l .inv .1),
-      subst (λ (x : List ℕ). CellsHold (columnsFrom (a .site) (a .place) (a .receptor) (a .t7)) (l .p + 1) x (a .base)) stored
-          (line-held (l .cells) (a .base) (l .p) u v small (columnsFrom (a .site) (a .place) (a .receptor) (a .t7)) room h k (l .inv .2)),
+      subst (λ (x : List ℕ). CellsHold (sourceColumns (a .site) (a .place) (a .receptor) (a .t7)) (l .p + 1) x (a .base)) stored
+          (line-held (l .cells) (a .base) (l .p) u v small (sourceColumns (a .site) (a .place) (a .receptor) (a .t7)) room h k (l .inv .2)),
       subst (λ (x : List ℕ). SameBut 6 (a .base) (a .cells .now) x) stored (line-others (l .cells) (a .base) (l .p) u v 6 (a .cells .now) test (l .inv .3)),
       line-fits (a .site) (a .place) (a .receptor) (a .t7) (a .before) (l .p) (l .inv .4) (sym large ∙ c .before .before .before .before .before .before .before .before .before .before .if1 .left),
     )

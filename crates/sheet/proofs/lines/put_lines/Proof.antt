@@ -6,7 +6,7 @@ use native.Mathlib.Nat.{not-suc-le-zero}
 use native.Mathlib.Omega.{arith}
 use borrow.Author.Needs.{needs}
 use lib.ListN.{length, length-map}
-use Rattle.cases.specs.declared.Status.the-variants.{Read}
+use Rattle.cases.specs.declared.Status.the-variants.{Passed}
 use Rattle.cases.specs.Conditions.{first}
 use Rattle.cases.proofs.FirstMet.{never}
 use Rattle.lists.specs.Lists.{chained}
@@ -23,7 +23,7 @@ Inv-loop cells₀ base site place receptor before sources habits count i₀ cell
     × (length cells ≡ length cells₀)
     × CellsHold (columnsWorked site sources place receptor) (i * 6) cells base
     × SameBelow base cells₀ cells
-    × (first (chained (λ k. largeChemical site place receptor (sourceAt sources k) (before + k * 6)) i) ≡ Read)
+    × (first (chained (λ k. largeChemical site place receptor (sourceAt sources k) (before + k * 6)) i) ≡ Passed)
     × (ZeroFrom base cells₀ → CellsEmpty (i * 6) cells base × ZeroFrom (base + 576) cells)
 
 abbrev μ-loop : tie.MeasureT-loop

@@ -6,7 +6,7 @@ use native.Mathlib.Nat.{mul-le-mul-right, not-suc-le-zero}
 use native.Mathlib.Omega.{arith}
 use borrow.Author.Needs.{needs}
 use lib.ListN.{length, length-map}
-use Rattle.cases.specs.declared.Status.the-variants.{Read}
+use Rattle.cases.specs.declared.Status.the-variants.{Passed}
 use Rattle.cases.specs.Conditions.{first}
 use Rattle.cases.proofs.FirstMet.{never}
 use Rattle.lists.specs.Lists.{chained}
@@ -20,7 +20,7 @@ abbrev Inv-loop : tie.InvT-loop
 Inv-loop cells₀ site sources receptors count per j₀ cells j =
     (j ≤ count)
     × (length cells ≡ length cells₀)
-    × (first (allLarge site sources (receptors .list) j) ≡ Read)
+    × (first (allLarge site sources (receptors .list) j) ≡ Passed)
     × (ZeroFrom 0 cells₀ → CellsFilled site sources (receptors .list) j cells × ZeroFrom (576 * j) cells)
 
 abbrev μ-loop : tie.MeasureT-loop
