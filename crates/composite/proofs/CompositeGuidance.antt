@@ -4,6 +4,7 @@ use Rattle.cases.specs.declared.Case.{Case}
 use Rattle.cases.specs.Cases.{receptorAt, caseWithoutYear}
 use Rattle.sheet.proofs.YearLaws.{deposition-blank}
 use Rattle.report.specs.Guidance.{Law2005}
+use Rattle.report.proofs.YearRows.{rows-same}
 use Rattle.report.proofs.ReportGuidance.{law-2005-of}
 use Rattle.composite.specs.Composite.{pairStage, lastStage, stageYears, timeExposed, pairComposite, compositeReceptor, compositeFrom, composite}
 
@@ -14,4 +15,4 @@ composite-blank case = rw (deposition-blank (case .site)) refl
 
 pub law-2005 : Law2005 composite
 unfolding composite
-law-2005 = law-2005-of composite composite-blank
+law-2005 = law-2005-of composite composite-blank rows-same

@@ -14,6 +14,7 @@ use Rattle.pair.proofs.Promises.{_=ᶠ_}
 use Rattle.times.specs.declared.Years.{Years}
 use Rattle.times.specs.Times as years
 use Rattle.times.specs.Times.{amount}
+use Rattle.sizes.specs.Sizes.{mostStages}
 use Rattle.slots.specs.declared.Owner.{Owner}
 use Rattle.slots.specs.declared.Owner.the-variants.{Receptor}
 use Rattle.slots.specs.declared.Sort.the-variants.{Composite}
@@ -37,7 +38,7 @@ use Rattle.scenario.specs.Scenario.{orOne, orNone, pairOf, fractionOf, noRecept
 use Rattle.scenario.proofs.Sound.{Sound}
 use Rattle.scenario.proofs.InputLaws.{value-good, value-entered, receptor-fits, made-sound}
 use Rattle.scenario.proofs.DepositionLaws.{time-told, deposition-told, later-good}
-use Rattle.report.specs.Report.{scenarioOf, exactOf}
+use Rattle.report.specs.Forms.{scenarioOf, exactOf}
 use Rattle.report.specs.DemandTwo.{Demand2, Timed, Exposed}
 use Rattle.report.specs.DemandThree.{Demand3}
 use Rattle.report.proofs.CallLaws.{deck-read, case-is}
@@ -188,11 +189,12 @@ composite-sounds =
       sound = λ deck e. composite-sound (caseOf deck) (accepted Composite deck e);
       ids = λ deck e. record { receptor = ids deck (accepted Composite deck e); chemical = small-ids deck .1 };
       made = λ deck e. composite-made (caseOf deck) (accepted Composite deck e);
+      form = refl;
     }
 
 -- a deck that is read has one to eight stages
 pub stages-few : (deck buffer : List ℕ) (reading : Reading) → reading ≡ readOf (composite .sort) deck → reading .status ≡ Passed
-    → (1 ≤ reading .case .receptors .count) × (reading .case .receptors .count ≤ 8)
+    → (1 ≤ reading .case .receptors .count) × (reading .case .receptors .count ≤ mostStages)
 unfolding composite
 stages-few deck buffer reading e read =
     let ranged = accepted Composite deck (deck-read composite deck buffer reading e read) in

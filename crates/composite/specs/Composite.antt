@@ -25,7 +25,8 @@ use Rattle.cases.specs.Cases.{valueAt, receptorAt}
 use Rattle.scenario.specs.declared.Receptor.{Receptor}
 use Rattle.scenario.specs.declared.Receptors.{Receptors}
 use Rattle.scenario.specs.Scenario.{Scenario, orOne, pairOf, noReceptor, fractionOf, stayIn, pairsAt, scenarioWith, orNone, timeGiven, depositionOf, receptorWith}
-use Rattle.report.specs.Report.{Call}
+use Rattle.report.specs.Forms.{Call}
+use Rattle.report.specs.Report.{rowsOf}
 use Rattle.report.specs.DemandTwo.{Timed, Exposed}
 
 -- ---- the weighting, of stages 0 to last; stage j has its slots' values by their places
@@ -88,7 +89,7 @@ exactComposite case j s = composed fractions (exactStage case) (sumOfYears fract
 
 -- the composite call
 unfoldable pub composite : Call
-composite = record { sort = Composite; receptors = compositeFrom; exact = exactComposite }
+composite = record { sort = Composite; receptors = compositeFrom; exact = exactComposite; form = rowsOf }
 
 unfoldable pub compositeScenario : Case → Scenario
 compositeScenario case = scenarioWith case (compositeFrom case)

@@ -8,7 +8,7 @@ use cases::Told;
 use slots::Sort;
 ghost use mathlib.Core.Path.{_≡_};
 ghost use lib.ListN.{length};
-ghost use Rattle.report.specs.Report.{outcomeOf, bufferOf};
+ghost use Rattle.report.specs.Forms.{outcomeOf, bufferOf};
 ghost use Rattle.composite.specs.Composite.{composite};
 
 // The longest report, of one receptor: 97 lines.

@@ -44,7 +44,8 @@ use Rattle.text.specs.Text.{columnsText, rowText, linesText}
 use Rattle.scenario.specs.Scenario.{orOne, pairOf, restOf, valuesOf, noReceptor, chemicalIn, receptorIn, stayIn, guidanceIn, givenIn, pairsAt, scenarioWith, orNone, timeGiven, depositionOf, stayIf, laterIf, receptorWith, entered, enteredFrom}
 use Rattle.sheet.specs.Sheet.{pathwayAt, isGiven, hasReference, figureAt, unitOf, capOf, counted, countedIn, columnsAt, addedOver, totalAt, linesPerReceptor, isAbove, highAbove, overCap, lineTooLarge, largeLines}
 use Rattle.composite.specs.Composite.{summed, sumOfYears, mean, composed, yearsTogether, pairStage, lastStage, stageYears, timeExposed, pairComposite, compositeReceptor, compositeFrom, composite}
-use Rattle.report.specs.Report.{rowAt, totalRow, rowsAt, rowsOf, linesOfReport, ordinary, scenarioOf, reportConditions, allConditions, statusOf, lengthOf, outcomeFor, outcomeOf}
+use Rattle.report.specs.Forms.{scenarioOf, allConditions, statusOf, lengthOf, outcomeFor, outcomeOf, rowsFor, tooShort, formConditions}
+use Rattle.report.specs.Report.{rowAt, totalRow, rowsAt, rowsOf, ordinary}
 use Rattle.figures.specs.Figures.{bytes, lines, deckOf, deckWith, deck, equalDeck, longDeck, solventDeck, airDeck, cancerSoil, compositeDeck, compositeText, compositeRows, fiveStages, fiveYears, printedLines, printedText, row, rows, Winter, cases, CheckedFigures}
 
 -- x = 0
@@ -94,7 +95,7 @@ solvent-soils = (refl, refl)
 
 -- by the guidance of 2009
 air-whole : first (allConditions ordinary airDeck 665) ≡ Passed
-unfolding bytes lines deckOf airDeck within leading linesOf lineOf fieldIn fieldOf digitsValue idSpelled idIn signSpelled exponentSpelled powerOf digitsRead endedOf pointedOf spelledOf loneDash wordOf kindOf idOf countOf tabulate valueOf slotSpelled recordOf recordsOf caseWith caseOf table same isIn placeIn ownerOf placeOf valueAt chemicalAt receptorAt orOne pairOf restOf valuesOf chemicalIn receptorIn givenIn scenarioWith orNone timeGiven depositionOf stayIf laterIf receptorWith entered enteredFrom calls.longEntry years.time years.amount years.isYears years.wordsOf years.timeOf years.none years.least years.printedAmount years.printed years.together years.atMost years.asPair years.beyond ordinary scenarioOf valueIn byOwner inputs pairsAt asAnswers nineFigures inReach zeroExponent isZero isNumber zero one lesser rise unitsAt lower atMost isPair extra divided excessFrom excess carried rounded sumEnd productEnd quotientEnd restEnd provided calls.ends after afterOne zeroPair onePair entry sum product quotient oneMinusEntry pairs read letters noGrowth plainWith plain exponents grownAt stayIn compared paceIf paceOf pacesOf pairGrowing sixtyFour worked series.first series.step terms fromZero pairSeries u kse ksr ksl k x page.x′ page.gWith growth page.gathered page.mean page.soil A D C aboveGround belowGround AT B exposure factor byMedium medium intakeBy intake byRoute referenceSlot reference figureBy intakeLine byGuidance line guidanceOf guidanceIn pathwayAt isGiven hasReference figureAt chained kindOrder befores among kinds rulesIn rulesOf ruleIn ruleAt lineRules above below valueAtMost valueAtLeast withinBounds inRange first upTo misspelled misplaced outOfRange fieldConditions fieldAt badBytes badKind begins sameLetter wrongId badId lineConditionsAfter lineConditions badLength noEnd conditions capOf linesPerReceptor linesOfReport isAbove highAbove overCap lineTooLarge largeLines reportConditions allConditions lengthOf airLine timeShare timeInAir airFigureBy yearOf isYearOf isYear
+unfolding bytes lines deckOf airDeck within leading linesOf lineOf fieldIn fieldOf digitsValue idSpelled idIn signSpelled exponentSpelled powerOf digitsRead endedOf pointedOf spelledOf loneDash wordOf kindOf idOf countOf tabulate valueOf slotSpelled recordOf recordsOf caseWith caseOf table same isIn placeIn ownerOf placeOf valueAt chemicalAt receptorAt orOne pairOf restOf valuesOf chemicalIn receptorIn givenIn scenarioWith orNone timeGiven depositionOf stayIf laterIf receptorWith entered enteredFrom calls.longEntry years.time years.amount years.isYears years.wordsOf years.timeOf years.none years.least years.printedAmount years.printed years.together years.atMost years.asPair years.beyond ordinary scenarioOf valueIn byOwner inputs pairsAt asAnswers nineFigures inReach zeroExponent isZero isNumber zero one lesser rise unitsAt lower atMost isPair extra divided excessFrom excess carried rounded sumEnd productEnd quotientEnd restEnd provided calls.ends after afterOne zeroPair onePair entry sum product quotient oneMinusEntry pairs read letters noGrowth plainWith plain exponents grownAt stayIn compared paceIf paceOf pacesOf pairGrowing sixtyFour worked series.first series.step terms fromZero pairSeries u kse ksr ksl k x page.x′ page.gWith growth page.gathered page.mean page.soil A D C aboveGround belowGround AT B exposure factor byMedium medium intakeBy intake byRoute referenceSlot reference figureBy intakeLine byGuidance line guidanceOf guidanceIn pathwayAt isGiven hasReference figureAt chained kindOrder befores among kinds rulesIn rulesOf ruleIn ruleAt lineRules above below valueAtMost valueAtLeast withinBounds inRange first upTo misspelled misplaced outOfRange fieldConditions fieldAt badBytes badKind begins sameLetter wrongId badId lineConditionsAfter lineConditions badLength noEnd conditions capOf linesPerReceptor isAbove highAbove overCap lineTooLarge largeLines rowsOf rowsAt rowsFor tooShort formConditions allConditions lengthOf airLine timeShare timeInAir airFigureBy yearOf isYearOf isYear
 air-whole = refl
 
 air-is : (columnsAt Hazard (scenarioOf ordinary airDeck) 0 0 Air ≡ Counted 1000000000000 1000000000000) × (columnsAt Cancer (scenarioOf ordinary airDeck) 0 0 Air ≡ Counted 33333333300000 33333333400000)
@@ -106,12 +107,12 @@ unfolding bytes lines printedLines printedText row rows linesText rowText column
 text-is = refl
 
 read-whole : first (allConditions ordinary deck 665) ≡ Passed
-unfolding bytes lines deckOf deckWith deck within leading linesOf lineOf fieldIn fieldOf digitsValue idSpelled idIn signSpelled exponentSpelled powerOf digitsRead endedOf pointedOf spelledOf loneDash wordOf kindOf idOf countOf tabulate valueOf slotSpelled recordOf recordsOf caseWith caseOf table same isIn placeIn ownerOf placeOf valueAt chemicalAt receptorAt orOne pairOf restOf valuesOf chemicalIn receptorIn givenIn scenarioWith orNone timeGiven depositionOf stayIf laterIf receptorWith entered enteredFrom calls.longEntry years.time years.amount years.isYears years.wordsOf years.timeOf years.none years.least years.printedAmount years.printed years.together years.atMost years.asPair years.beyond ordinary scenarioOf valueIn byOwner inputs pairsAt asAnswers nineFigures inReach zeroExponent isZero isNumber zero one lesser rise unitsAt lower atMost isPair extra divided excessFrom excess carried rounded sumEnd productEnd quotientEnd restEnd provided calls.ends after afterOne zeroPair onePair entry sum product quotient oneMinusEntry pairs read letters noGrowth plainWith plain exponents grownAt stayIn compared paceIf paceOf pacesOf pairGrowing sixtyFour worked series.first series.step terms fromZero pairSeries u kse ksr ksl k x page.x′ page.gWith growth page.gathered page.mean page.soil A D C aboveGround belowGround AT B exposure factor byMedium medium intakeBy intake byRoute referenceSlot reference figureBy intakeLine byGuidance line guidanceOf guidanceIn pathwayAt isGiven hasReference figureAt chained kindOrder befores among kinds rulesIn rulesOf ruleIn ruleAt lineRules above below valueAtMost valueAtLeast withinBounds inRange first upTo misspelled misplaced outOfRange fieldConditions fieldAt badBytes badKind begins sameLetter wrongId badId lineConditionsAfter lineConditions badLength noEnd conditions capOf linesPerReceptor linesOfReport isAbove highAbove overCap lineTooLarge largeLines reportConditions allConditions lengthOf
+unfolding bytes lines deckOf deckWith deck within leading linesOf lineOf fieldIn fieldOf digitsValue idSpelled idIn signSpelled exponentSpelled powerOf digitsRead endedOf pointedOf spelledOf loneDash wordOf kindOf idOf countOf tabulate valueOf slotSpelled recordOf recordsOf caseWith caseOf table same isIn placeIn ownerOf placeOf valueAt chemicalAt receptorAt orOne pairOf restOf valuesOf chemicalIn receptorIn givenIn scenarioWith orNone timeGiven depositionOf stayIf laterIf receptorWith entered enteredFrom calls.longEntry years.time years.amount years.isYears years.wordsOf years.timeOf years.none years.least years.printedAmount years.printed years.together years.atMost years.asPair years.beyond ordinary scenarioOf valueIn byOwner inputs pairsAt asAnswers nineFigures inReach zeroExponent isZero isNumber zero one lesser rise unitsAt lower atMost isPair extra divided excessFrom excess carried rounded sumEnd productEnd quotientEnd restEnd provided calls.ends after afterOne zeroPair onePair entry sum product quotient oneMinusEntry pairs read letters noGrowth plainWith plain exponents grownAt stayIn compared paceIf paceOf pacesOf pairGrowing sixtyFour worked series.first series.step terms fromZero pairSeries u kse ksr ksl k x page.x′ page.gWith growth page.gathered page.mean page.soil A D C aboveGround belowGround AT B exposure factor byMedium medium intakeBy intake byRoute referenceSlot reference figureBy intakeLine byGuidance line guidanceOf guidanceIn pathwayAt isGiven hasReference figureAt chained kindOrder befores among kinds rulesIn rulesOf ruleIn ruleAt lineRules above below valueAtMost valueAtLeast withinBounds inRange first upTo misspelled misplaced outOfRange fieldConditions fieldAt badBytes badKind begins sameLetter wrongId badId lineConditionsAfter lineConditions badLength noEnd conditions capOf linesPerReceptor isAbove highAbove overCap lineTooLarge largeLines rowsOf rowsAt rowsFor tooShort formConditions allConditions lengthOf
 read-whole = refl
 
 answer-is : outcomeOf ordinary deck 665 ≡ record { number = 0; line = 665; field = 0 }
-unfolding bytes lines deckOf deckWith deck within leading linesOf lineOf fieldIn fieldOf digitsValue idSpelled idIn signSpelled exponentSpelled powerOf digitsRead endedOf pointedOf spelledOf loneDash wordOf kindOf idOf countOf tabulate valueOf slotSpelled recordOf recordsOf caseWith caseOf enteredFrom scenarioWith ordinary scenarioOf linesPerReceptor linesOfReport lengthOf statusOf outcomeFor outcomeOf
-answer-is = ap (λ (s : Status). outcomeFor s (scenarioOf ordinary deck)) read-whole
+unfolding bytes lines deckOf deckWith deck within leading linesOf lineOf fieldIn fieldOf digitsValue idSpelled idIn signSpelled exponentSpelled powerOf digitsRead endedOf pointedOf spelledOf loneDash wordOf kindOf idOf countOf tabulate valueOf slotSpelled recordOf recordsOf caseWith caseOf enteredFrom scenarioWith ordinary scenarioOf rowsFor rowsOf rowsAt chained lengthOf statusOf outcomeFor outcomeOf
+answer-is = ap (λ (s : Status). outcomeFor s (rowsFor ordinary deck)) read-whole
 
 -- the composite's
 composite-lines : rowsOf (scenarioOf composite compositeDeck) ≡ compositeRows
@@ -123,12 +124,12 @@ unfolding bytes lines compositeText row compositeRows linesText rowText columnsT
 composite-text = refl
 
 composite-whole : first (allConditions composite compositeDeck 665) ≡ Passed
-unfolding bytes lines deckOf deckWith compositeDeck within leading linesOf lineOf fieldIn fieldOf digitsValue idSpelled idIn signSpelled exponentSpelled powerOf digitsRead endedOf pointedOf spelledOf loneDash wordOf kindOf idOf countOf tabulate valueOf slotSpelled recordOf recordsOf caseWith caseOf table same isIn placeIn ownerOf placeOf valueAt chemicalAt receptorAt orOne pairOf restOf valuesOf chemicalIn receptorIn givenIn scenarioWith composed mean summed sumOfYears yearsTogether pairStage lastStage stageYears timeExposed pairComposite orNone timeGiven depositionOf stayIf laterIf receptorWith compositeReceptor calls.longEntry years.time years.amount years.isYears years.wordsOf years.timeOf years.none years.least years.printedAmount years.printed years.together years.atMost years.asPair years.beyond compositeFrom composite noReceptor scenarioOf valueIn byOwner inputs pairsAt asAnswers nineFigures inReach zeroExponent isZero isNumber zero one lesser rise unitsAt lower atMost isPair extra divided excessFrom excess carried rounded sumEnd productEnd quotientEnd restEnd provided calls.ends after afterOne zeroPair onePair entry sum product quotient oneMinusEntry pairs read letters noGrowth plainWith plain exponents grownAt stayIn compared paceIf paceOf pacesOf pairGrowing sixtyFour worked series.first series.step terms fromZero pairSeries u kse ksr ksl k x page.x′ page.gWith growth page.gathered page.mean page.soil A D C aboveGround belowGround AT B exposure factor byMedium medium intakeBy intake byRoute referenceSlot reference figureBy intakeLine byGuidance line guidanceOf guidanceIn pathwayAt isGiven hasReference figureAt chained kindOrder befores among kinds rulesIn rulesOf ruleIn ruleAt lineRules above below valueAtMost valueAtLeast withinBounds inRange first upTo misspelled misplaced outOfRange fieldConditions fieldAt badBytes badKind begins sameLetter wrongId badId lineConditionsAfter lineConditions badLength noEnd conditions capOf linesPerReceptor linesOfReport isAbove highAbove overCap lineTooLarge largeLines reportConditions allConditions lengthOf
+unfolding bytes lines deckOf deckWith compositeDeck within leading linesOf lineOf fieldIn fieldOf digitsValue idSpelled idIn signSpelled exponentSpelled powerOf digitsRead endedOf pointedOf spelledOf loneDash wordOf kindOf idOf countOf tabulate valueOf slotSpelled recordOf recordsOf caseWith caseOf table same isIn placeIn ownerOf placeOf valueAt chemicalAt receptorAt orOne pairOf restOf valuesOf chemicalIn receptorIn givenIn scenarioWith composed mean summed sumOfYears yearsTogether pairStage lastStage stageYears timeExposed pairComposite orNone timeGiven depositionOf stayIf laterIf receptorWith compositeReceptor calls.longEntry years.time years.amount years.isYears years.wordsOf years.timeOf years.none years.least years.printedAmount years.printed years.together years.atMost years.asPair years.beyond compositeFrom composite noReceptor scenarioOf valueIn byOwner inputs pairsAt asAnswers nineFigures inReach zeroExponent isZero isNumber zero one lesser rise unitsAt lower atMost isPair extra divided excessFrom excess carried rounded sumEnd productEnd quotientEnd restEnd provided calls.ends after afterOne zeroPair onePair entry sum product quotient oneMinusEntry pairs read letters noGrowth plainWith plain exponents grownAt stayIn compared paceIf paceOf pacesOf pairGrowing sixtyFour worked series.first series.step terms fromZero pairSeries u kse ksr ksl k x page.x′ page.gWith growth page.gathered page.mean page.soil A D C aboveGround belowGround AT B exposure factor byMedium medium intakeBy intake byRoute referenceSlot reference figureBy intakeLine byGuidance line guidanceOf guidanceIn pathwayAt isGiven hasReference figureAt chained kindOrder befores among kinds rulesIn rulesOf ruleIn ruleAt lineRules above below valueAtMost valueAtLeast withinBounds inRange first upTo misspelled misplaced outOfRange fieldConditions fieldAt badBytes badKind begins sameLetter wrongId badId lineConditionsAfter lineConditions badLength noEnd conditions capOf linesPerReceptor isAbove highAbove overCap lineTooLarge largeLines rowsOf rowsAt rowsFor tooShort formConditions allConditions lengthOf
 composite-whole = refl
 
 composite-answer : outcomeOf composite compositeDeck 665 ≡ record { number = 0; line = 665; field = 0 }
-unfolding bytes lines deckOf deckWith compositeDeck within leading linesOf lineOf fieldIn fieldOf digitsValue idSpelled idIn signSpelled exponentSpelled powerOf digitsRead endedOf pointedOf spelledOf loneDash wordOf kindOf idOf countOf tabulate valueOf slotSpelled recordOf recordsOf caseWith caseOf scenarioWith compositeFrom composite scenarioOf linesPerReceptor linesOfReport lengthOf statusOf outcomeFor outcomeOf
-composite-answer = ap (λ (s : Status). outcomeFor s (scenarioOf composite compositeDeck)) composite-whole
+unfolding bytes lines deckOf deckWith compositeDeck within leading linesOf lineOf fieldIn fieldOf digitsValue idSpelled idIn signSpelled exponentSpelled powerOf digitsRead endedOf pointedOf spelledOf loneDash wordOf kindOf idOf countOf tabulate valueOf slotSpelled recordOf recordsOf caseWith caseOf scenarioWith compositeFrom composite scenarioOf rowsFor rowsOf rowsAt chained lengthOf statusOf outcomeFor outcomeOf
+composite-answer = ap (λ (s : Status). outcomeFor s (rowsFor composite compositeDeck)) composite-whole
 
 -- 002's five stages
 stages-weigh : (composed pairs fiveStages (whole 76) 4 (placeOf "BW") ≡ bothEnds 624401315 624401316 (negsuc 6)) × (composed pairs fiveStages (whole 76) 4 (placeOf "ED") ≡ whole 76)

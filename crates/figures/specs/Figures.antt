@@ -34,7 +34,8 @@ use Rattle.text.specs.Text.{linesText}
 use Rattle.scenario.specs.Scenario.{orNone, stayIn, pairsAt}
 use Rattle.sheet.specs.Sheet.{columnsAt}
 use Rattle.composite.specs.Composite.{composed, yearsTogether, composite}
-use Rattle.report.specs.Report.{rowsOf, ordinary, scenarioOf, allConditions, outcomeOf}
+use Rattle.report.specs.Forms.{scenarioOf, allConditions, outcomeOf}
+use Rattle.report.specs.Report.{rowsOf, ordinary}
 
 -- a text's bytes; every character here is one byte
 unfoldable pub bytes : String → List ℕ

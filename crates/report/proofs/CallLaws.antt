@@ -3,7 +3,7 @@
 use mathlib.Core.Path.{_≡_, refl, sym, ap, _∙_}
 use mathlib.Core.Bool.{true, false}
 use mathlib.Core.List.{List, _++_}
-use Prim.Native.Nat.{ℕ, _≤_, _<_}
+use Prim.Native.Nat.{ℕ, _*_, _≤_, _<_}
 use borrow.Author.Tests.{lt-ltb, le-ltb}
 use lib.Dec.{ltb}
 use lib.ListN.{length, drop}
@@ -17,16 +17,16 @@ use Rattle.deck.specs.DeckConditions.{conditions}
 use Rattle.deck.specs.DeckCase.{caseOf, caseFor, readOf}
 use Rattle.cases.proofs.FirstMet.{orElse, first-append, first-read}
 use Rattle.text.specs.declared.Row.{Row}
-use Rattle.text.specs.Text.{linesText}
+use Rattle.sizes.specs.Sizes.{maxChemicals, mostReceptors}
+use Rattle.text.specs.Text.{reportLineWidth, linesText}
 use Rattle.scenario.specs.Scenario.{Scenario, scenarioWith, Exact}
 use Rattle.scenario.specs.declared.Receptors.{Receptors}
 use Rattle.sheet.specs.Sheet.{largeLines}
 use Rattle.sheet.specs.Counts.{tooMany, cellsOf, cellsFor, sheetStatus, sheetCells}
-use Rattle.report.specs.Report.{rowsOf, lengthOf, reportConditions, Call, scenarioOf, exactOf, allConditions, statusOf, outcomeFor, outcomeOf, bufferWith, bufferFor, bufferOf}
-use Rattle.report.specs.InMemory.{reportIn, writtenRows, writtenConditions, writtenStatus, writtenOutcome, writtenBuffer}
+use Rattle.report.specs.Forms.{Form, lengthOf, tooShort, formConditions, Call, scenarioOf, exactOf, rowsFor, allConditions, statusOf, outcomeFor, outcomeOf, bufferFor, bufferOf}
+use Rattle.report.specs.InMemory.{writtenConditions, writtenStatus, writtenOutcome, writtenBuffer}
 use Rattle.scenario.proofs.Sound.{Sound}
 use Rattle.sheet.proofs.SheetCaseLaws.{few-records, conditions-agree}
-use Rattle.report.proofs.ReportLaws.{rows-held}
 
 -- ---- two lists of conditions, one after the other
 stays : (s : Status) (number line field : ℕ) (t : Status) → s ≡ Stopped number line field → s ≡ orElse s t
@@ -41,15 +41,15 @@ first-passes : (xs ys : List Condition) (s : Status) → first xs ≡ Passed →
 unfolding orElse
 first-passes xs ys s e q = q ∙ sym (first-append xs ys ∙ ap (λ (x : Status). orElse x (first ys)) e)
 
--- ---- a scenario and a buffer
-module _ (scenario : Scenario) (buffer : List ℕ) where
-  refused : (s : Status) (number line field : ℕ) (told : Told) → s ≡ writtenStatus scenario (length buffer) → s ≡ Stopped number line field → told ≡ toldOf s
-      → (told ≡ writtenOutcome scenario (length buffer)) × (buffer ≡ writtenBuffer scenario buffer)
-  unfolding toldOf writtenOutcome outcomeFor writtenBuffer bufferWith
+-- ---- a form, a scenario and a buffer
+module _ (form : Form) (scenario : Scenario) (buffer : List ℕ) where
+  refused : (s : Status) (number line field : ℕ) (told : Told) → s ≡ writtenStatus form scenario (length buffer) → s ≡ Stopped number line field → told ≡ toldOf s
+      → (told ≡ writtenOutcome form scenario (length buffer)) × (buffer ≡ writtenBuffer form scenario buffer)
+  unfolding toldOf writtenOutcome outcomeFor writtenBuffer bufferFor
   refused s number line field told e q t = (t ∙ rw (← e, q) refl, rw (← e, q) refl)
 
   -- 21
-  many : tooMany scenario ≡ true → (told : Told) → told ≡ toldOf (Stopped 21 0 0) → (told ≡ writtenOutcome scenario (length buffer)) × (buffer ≡ writtenBuffer scenario buffer)
+  many : tooMany scenario ≡ true → (told : Told) → told ≡ toldOf (Stopped 21 0 0) → (told ≡ writtenOutcome form scenario (length buffer)) × (buffer ≡ writtenBuffer form scenario buffer)
   unfolding writtenStatus writtenConditions first
   many h told t = refused (Stopped 21 0 0) 21 0 0 told (rw h refl) refl t
 
@@ -57,37 +57,37 @@ module _ (scenario : Scenario) (buffer : List ℕ) where
   unfolding toldOf
   refusal number told e = λ i. record { number = e .0 i; line = e .1 i; field = e .2 i }
 
-  pub many-chemicals : 16 < scenario .chemicals .count → (told : Told) → (told .number ≡ 21) × (told .line ≡ 0) × (told .field ≡ 0)
-      → (told ≡ writtenOutcome scenario (length buffer)) × (buffer ≡ writtenBuffer scenario buffer)
+  pub many-chemicals : maxChemicals < scenario .chemicals .count → (told : Told) → (told .number ≡ 21) × (told .line ≡ 0) × (told .field ≡ 0)
+      → (told ≡ writtenOutcome form scenario (length buffer)) × (buffer ≡ writtenBuffer form scenario buffer)
   unfolding tooMany
-  many-chemicals h told t = many (rw (lt-ltb 16 (scenario .chemicals .count) h) refl) told (refusal 21 told t)
+  many-chemicals h told t = many (rw (lt-ltb maxChemicals (scenario .chemicals .count) h) refl) told (refusal 21 told t)
 
-  module _ (few-chemicals : scenario .chemicals .count ≤ 16) where
-    pub many-receptors : 4 < scenario .receptors .count → (told : Told) → (told .number ≡ 21) × (told .line ≡ 0) × (told .field ≡ 0)
-        → (told ≡ writtenOutcome scenario (length buffer)) × (buffer ≡ writtenBuffer scenario buffer)
+  module _ (few-chemicals : scenario .chemicals .count ≤ maxChemicals) where
+    pub many-receptors : mostReceptors < scenario .receptors .count → (told : Told) → (told .number ≡ 21) × (told .line ≡ 0) × (told .field ≡ 0)
+        → (told ≡ writtenOutcome form scenario (length buffer)) × (buffer ≡ writtenBuffer form scenario buffer)
     unfolding tooMany
-    many-receptors h told t = many (rw (le-ltb 16 (scenario .chemicals .count) few-chemicals, lt-ltb 4 (scenario .receptors .count) h) refl) told (refusal 21 told t)
+    many-receptors h told t = many (rw (le-ltb maxChemicals (scenario .chemicals .count) few-chemicals, lt-ltb mostReceptors (scenario .receptors .count) h) refl) told (refusal 21 told t)
 
-    module _ (few-receptors : scenario .receptors .count ≤ 4) where
+    module _ (few-receptors : scenario .receptors .count ≤ mostReceptors) where
       few : tooMany scenario ≡ false
       unfolding tooMany
-      few = rw (le-ltb 16 (scenario .chemicals .count) few-chemicals, le-ltb 4 (scenario .receptors .count) few-receptors) refl
+      few = rw (le-ltb maxChemicals (scenario .chemicals .count) few-chemicals, le-ltb mostReceptors (scenario .receptors .count) few-receptors) refl
 
       -- 51
-      pub too-short : length buffer < lengthOf scenario → (told : Told) → (told .number ≡ 51) × (told .line ≡ 0) × (told .field ≡ 0)
-          → (told ≡ writtenOutcome scenario (length buffer)) × (buffer ≡ writtenBuffer scenario buffer)
-      unfolding writtenStatus writtenConditions first
+      pub too-short : length buffer < lengthOf (form scenario) → (told : Told) → (told .number ≡ 51) × (told .line ≡ 0) × (told .field ≡ 0)
+          → (told ≡ writtenOutcome form scenario (length buffer)) × (buffer ≡ writtenBuffer form scenario buffer)
+      unfolding writtenStatus writtenConditions tooShort first
       too-short h told t = refused (Stopped 51 0 0) 51 0 0 told (rw (few, lt-ltb _ _ h) refl) refl (refusal 51 told t)
 
       -- the report has room
-      module _ (room : lengthOf scenario ≤ length buffer) (status : Status) (is-status : status ≡ sheetStatus scenario) where
-        status-is : status ≡ writtenStatus scenario (length buffer)
-        unfolding writtenStatus writtenConditions first sheetStatus
+      module _ (room : lengthOf (form scenario) ≤ length buffer) (status : Status) (is-status : status ≡ sheetStatus scenario) where
+        status-is : status ≡ writtenStatus form scenario (length buffer)
+        unfolding writtenStatus writtenConditions tooShort first sheetStatus
         status-is = is-status ∙ rw (few, le-ltb _ _ room) refl
 
         -- the sheet stops
         pub sheet-stops : (number line field : ℕ) (told : Told) → status ≡ Stopped number line field → told ≡ toldOf status
-            → (told ≡ writtenOutcome scenario (length buffer)) × (buffer ≡ writtenBuffer scenario buffer)
+            → (told ≡ writtenOutcome form scenario (length buffer)) × (buffer ≡ writtenBuffer form scenario buffer)
         sheet-stops number line field told q t = refused status number line field told status-is q t
 
         -- and the report is written
@@ -96,32 +96,40 @@ module _ (scenario : Scenario) (buffer : List ℕ) where
           unfolding sheetCells cellsFor
           cells-are = held ∙ ap (λ (x : Status). cellsFor x scenario) (sym is-status ∙ none)
 
-          pub written : (out : List ℕ) (n : ℕ) → n ≡ lengthOf scenario
-              → out ≡ linesText (reportIn cells (scenario .chemicals) (scenario .receptors .list) (scenario .receptors .count)) ++ drop (lengthOf scenario) buffer
-              → (_≡_ {A = Told} (record { number = 0; line = n; field = 0 }) (writtenOutcome scenario (length buffer))) × (out ≡ writtenBuffer scenario buffer)
-          unfolding writtenOutcome outcomeFor writtenBuffer bufferWith writtenRows
-          written out n m o =
-              let s : writtenStatus scenario (length buffer) ≡ Passed = sym status-is ∙ none in (
+          -- its rows are made from cells
+          pub written : (from : List ℕ → List Row) → form scenario ≡ from (cellsOf scenario) → (out : List ℕ) (n : ℕ) → n ≡ lengthOf (form scenario)
+              → out ≡ linesText (from cells) ++ drop (lengthOf (form scenario)) buffer
+              → (_≡_ {A = Told} (record { number = 0; line = n; field = 0 }) (writtenOutcome form scenario (length buffer))) × (out ≡ writtenBuffer form scenario buffer)
+          unfolding writtenOutcome outcomeFor writtenBuffer bufferFor
+          written from made out n m o =
+              let s : writtenStatus form scenario (length buffer) ≡ Passed = sym status-is ∙ none in (
                 rw (s, m) refl,
-                rw s
-                    (o
-                    ∙ ap (λ (x : List ℕ). linesText (reportIn x (scenario .chemicals) (scenario .receptors .list) (scenario .receptors .count)) ++ drop (lengthOf scenario) buffer) cells-are),
+                rw s (o ∙ ap (λ (rows : List Row). linesText rows ++ drop (lengthOf (form scenario)) buffer) (ap from cells-are ∙ sym made)),
               )
 
--- ---- a sound scenario: the report is document 01's
-module _ (scenario : Scenario) {exact : Exact} (sound : Sound scenario exact) (buffer : List ℕ) where
-  status-agrees : writtenStatus scenario (length buffer) ≡ first (reportConditions scenario (length buffer))
-  unfolding writtenStatus writtenConditions reportConditions first
-  status-agrees = rw (few-records scenario sound, conditions-agree scenario sound) refl
+-- ---- a sound scenario, of which a form in memory prints what a call's form does: where no line is too large, its rows; and always as many of them
+pub record Prints (memory form : Form) (scenario : Scenario) : Type 0 where
+  pub many : length (memory scenario) ≡ length (form scenario)
+  pub rows : first (largeLines scenario) ≡ Passed → memory scenario ≡ form scenario
 
-  rows-agree : first (reportConditions scenario (length buffer)) ≡ Passed → writtenRows scenario ≡ rowsOf scenario
-  unfolding writtenRows reportConditions
-  rows-agree e =
-      rows-held scenario sound (first-read (at 51 0 0 (ltb (length buffer) (lengthOf scenario))) (largeLines scenario) e .1)
+module _ (memory form : Form) (scenario : Scenario) {exact : Exact} (sound : Sound scenario exact) (prints : Prints memory form scenario) (buffer : List ℕ) where
+  same-length : lengthOf (memory scenario) ≡ lengthOf (form scenario)
+  unfolding lengthOf
+  same-length = ap (λ (n : ℕ). reportLineWidth * n) (prints .many)
 
-  buffer-if : (s : Status) → first (reportConditions scenario (length buffer)) ≡ s → bufferWith s (writtenRows scenario) (lengthOf scenario) buffer ≡ bufferFor s scenario buffer
-  unfolding bufferWith bufferFor
-  buffer-if Passed e = ap (λ (rows : List Row). linesText rows ++ drop (lengthOf scenario) buffer) (rows-agree e)
+  status-agrees : writtenStatus memory scenario (length buffer) ≡ first (formConditions (form scenario) scenario (length buffer))
+  unfolding writtenStatus writtenConditions formConditions tooShort first
+  status-agrees = rw (few-records scenario sound, conditions-agree scenario sound, same-length) refl
+
+  told-if : (s : Status) → outcomeFor s (memory scenario) ≡ outcomeFor s (form scenario)
+  unfolding outcomeFor
+  told-if Passed = rw same-length refl
+  told-if (Stopped number line field) = refl
+
+  buffer-if : (s : Status) → first (formConditions (form scenario) scenario (length buffer)) ≡ s → bufferFor s (memory scenario) buffer ≡ bufferFor s (form scenario) buffer
+  unfolding bufferFor formConditions
+  buffer-if Passed e =
+      ap (λ (rows : List Row). linesText rows ++ drop (lengthOf rows) buffer) (prints .rows (first-read (tooShort (form scenario) (length buffer)) (largeLines scenario) e .1))
   buffer-if (Stopped number line field) e = refl
 
 -- ---- any call on a deck
@@ -129,9 +137,9 @@ module _ (call : Call) (deck buffer : List ℕ) where
   -- the deck stops
   pub deck-stops : (s : Status) (number line field : ℕ) (told : Told) → s ≡ first (conditions (call .sort) deck) → s ≡ Stopped number line field → told ≡ toldOf s
       → (told ≡ outcomeOf call deck (length buffer)) × (buffer ≡ bufferOf call deck buffer)
-  unfolding statusOf allConditions toldOf outcomeOf outcomeFor bufferOf bufferFor bufferWith
+  unfolding statusOf allConditions toldOf outcomeOf outcomeFor bufferOf bufferFor
   deck-stops s number line field told e q t =
-      let f : s ≡ statusOf call deck (length buffer) = first-stops (conditions (call .sort) deck) (reportConditions (scenarioOf call deck) (length buffer)) s number line field e q in
+      let f : s ≡ statusOf call deck (length buffer) = first-stops (conditions (call .sort) deck) (formConditions (rowsFor call deck) (scenarioOf call deck) (length buffer)) s number line field e q in
       (t ∙ rw (← f, q) refl, rw (← f, q) refl)
 
   -- the deck is read, and its scenario handed to the call above
@@ -144,19 +152,24 @@ module _ (call : Call) (deck buffer : List ℕ) where
     unfolding readOf caseFor
     case-is = ap (λ (r : Reading). r .case) of-deck ∙ ap (λ (s : Status). caseFor s deck) deck-read
 
-    pub answers : Sound (scenarioOf call deck) (exactOf call deck) → (receptors′ : Receptors) → receptors′ ≡ call .receptors (reading .case)
-        → (told : Told) (out : List ℕ) → told ≡ writtenOutcome (scenarioWith (reading .case) receptors′) (length buffer) → out ≡ writtenBuffer (scenarioWith (reading .case) receptors′) buffer
+    pub answers : Sound (scenarioOf call deck) (exactOf call deck) → (memory : Form) → Prints memory (call .form) (scenarioOf call deck)
+        → (receptors′ : Receptors) → receptors′ ≡ call .receptors (reading .case)
+        → (told : Told) (out : List ℕ) → told ≡ writtenOutcome memory (scenarioWith (reading .case) receptors′) (length buffer) → out ≡ writtenBuffer memory (scenarioWith (reading .case) receptors′) buffer
         → (told ≡ outcomeOf call deck (length buffer)) × (out ≡ bufferOf call deck buffer)
-    unfolding writtenOutcome writtenBuffer outcomeOf bufferOf statusOf allConditions scenarioOf
-    answers sound receptors′ made told out t o =
-        let same : scenarioWith (reading .case) receptors′ ≡ scenarioOf call deck = ap (scenarioWith (reading .case)) made ∙ ap (λ (c : Case). scenarioWith c (call .receptors c)) case-is in
-        let here : first (reportConditions (scenarioOf call deck) (length buffer)) ≡ statusOf call deck (length buffer) =
-        first-passes (conditions (call .sort) deck) (reportConditions (scenarioOf call deck) (length buffer)) _ deck-read refl
+    unfolding writtenOutcome writtenBuffer outcomeOf bufferOf statusOf allConditions scenarioOf rowsFor
+    answers sound memory prints receptors′ made told out t o =
+        let scenario = scenarioOf call deck in
+        let same : scenarioWith (reading .case) receptors′ ≡ scenario = ap (scenarioWith (reading .case)) made ∙ ap (λ (c : Case). scenarioWith c (call .receptors c)) case-is in
+        let here : first (formConditions (call .form scenario) scenario (length buffer)) ≡ statusOf call deck (length buffer) =
+        first-passes (conditions (call .sort) deck) (formConditions (call .form scenario) scenario (length buffer)) _ deck-read refl
         in
-        let agreed : writtenStatus (scenarioOf call deck) (length buffer) ≡ statusOf call deck (length buffer) = status-agrees (scenarioOf call deck) sound buffer ∙ here in (
-          t ∙ ap (λ (x : Scenario). outcomeFor (writtenStatus x (length buffer)) x) same ∙ ap (λ (s : Status). outcomeFor s (scenarioOf call deck)) agreed,
+        let agreed : writtenStatus memory scenario (length buffer) ≡ statusOf call deck (length buffer) = status-agrees memory (call .form) scenario sound prints buffer ∙ here in (
+          t
+              ∙ ap (λ (x : Scenario). writtenOutcome memory x (length buffer)) same
+              ∙ ap (λ (s : Status). outcomeFor s (memory scenario)) agreed
+              ∙ told-if memory (call .form) scenario sound prints buffer (statusOf call deck (length buffer)),
           o
-              ∙ ap (λ (x : Scenario). bufferWith (writtenStatus x (length buffer)) (writtenRows x) (lengthOf x) buffer) same
-              ∙ ap (λ (s : Status). bufferWith s (writtenRows (scenarioOf call deck)) (lengthOf (scenarioOf call deck)) buffer) agreed
-              ∙ buffer-if (scenarioOf call deck) sound buffer (statusOf call deck (length buffer)) here,
+              ∙ ap (λ (x : Scenario). writtenBuffer memory x buffer) same
+              ∙ ap (λ (s : Status). bufferFor s (memory scenario) buffer) agreed
+              ∙ buffer-if memory (call .form) scenario sound prints buffer (statusOf call deck (length buffer)) here,
         )

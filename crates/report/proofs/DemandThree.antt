@@ -1,7 +1,8 @@
 -- Demand 3 of document 01, for every accepted deck of any call whose scenarios are sound. Assumes nothing.
 use Rattle.cases.specs.declared.Case.{Case}
 use Rattle.sheet.proofs.SheetDemandThree.{scenario-demand-3}
-use Rattle.report.specs.Report.{Call, ordinary, scenarioOf}
+use Rattle.report.specs.Forms.{Call, scenarioOf}
+use Rattle.report.specs.Report.{ordinary}
 use Rattle.report.specs.DemandTwo.{Entered}
 use Rattle.report.specs.DemandThree.{Demand3}
 use Rattle.report.proofs.DemandTwo.{Sounds, clear, ordinary-sounds}

@@ -26,20 +26,24 @@ use Rattle.cases.specs.Ranged.{Ranged}
 use Rattle.deck.proofs.Accepted.{accepted}
 use Rattle.cases.proofs.FirstMet.{read-none, never, first-read, append-read}
 use Rattle.text.specs.declared.Row.{Row}
-use Rattle.text.specs.Text.{rowText, linesText}
+use Rattle.sizes.specs.Sizes.{pathwaysPerChemical}
+use Rattle.spelling.specs.Columns.{idWidth}
+use Rattle.text.specs.Text.{reportLineWidth, rowText, linesText}
 use Rattle.text.proofs.Rows.{length-row, length-lines, lines-append}
 use Rattle.scenario.specs.declared.Receptor as receptors
 use Rattle.scenario.specs.declared.Receptors.{Receptors}
 use Rattle.scenario.specs.Scenario.{Scenario, chemicalIn, receptorIn, stayIn, givenIn, pairsAt, timeGiven, depositionOf, receptorWith, scenarioWith, entered, enteredFrom, ordinaryOf, exactAt, Exact}
 use Rattle.sheet.specs.Sheet.{pathwayAt, hasReference, linesPerReceptor, largeLines}
 use Rattle.lists.specs.Lists.{chained}
-use Rattle.report.specs.Report.{rowAt, totalRow, rowsAt, rowsOf, linesOfReport, lengthOf, reportConditions, Call, ordinary, scenarioOf, exactOf, allConditions, statusOf, outcomeFor, outcomeOf, bufferWith, bufferFor, bufferOf}
+use Rattle.report.specs.Forms.{Form, lengthOf, tooShort, formConditions, Call, scenarioOf, exactOf, rowsFor, allConditions, statusOf, outcomeFor, outcomeOf, bufferFor, bufferOf}
+use Rattle.report.specs.Report.{rowAt, totalRow, rowsAt, rowsOf, ordinary}
 use Rattle.report.specs.DemandTwo.{lineIn, ByRule, Printed, Reported, Refused, Demand2, Exposed, Entered}
 use Rattle.sheet.proofs.SheetCaseLaws.{line-by-rule}
 use Rattle.scenario.proofs.Sound.{Sound}
 use Rattle.scenario.proofs.InputLaws.{source-entered, source-rested}
 use Rattle.scenario.proofs.DepositionLaws.{deposition-told}
 use Rattle.scenario.proofs.Entered.{entered-at, exposure-told, ordinary-sound, receptor-entered}
+use Rattle.report.proofs.ReportLaws.{lines, lines-many, lines-all, rows-length}
 use Rattle.report.proofs.Exposures.{exposed}
 use Rattle.lists.proofs.Chained.{chained-split, chained-length}
 use Rattle.deck.proofs.DeckIds.{small-ids}
@@ -69,7 +73,7 @@ stopped-met [] number line field e = absurd (never (Stopped number line field) n
 stopped-met (c ∷ cs) number line field e = met-here c cs number line field (c .holds) refl e (stopped-met cs number line field)
 
 refused : (call : Call) (deck buffer : List ℕ) (number line field : ℕ) → statusOf call deck (length buffer) ≡ Stopped number line field → Refused call deck buffer
-unfolding statusOf outcomeOf outcomeFor bufferOf bufferFor bufferWith
+unfolding statusOf outcomeOf outcomeFor bufferOf bufferFor
 refused call deck buffer number line field e =
     let m : Met (allConditions call deck (length buffer)) number line field = stopped-met (allConditions call deck (length buffer)) number line field e in
     record {
@@ -79,8 +83,8 @@ refused call deck buffer number line field e =
       order = m .order;
       none = m .none;
       holds = m .holds;
-      told = ap (λ (s : Status). outcomeFor s (scenarioOf call deck)) (e ∙ m .told);
-      same = ap (λ (s : Status). bufferFor s (scenarioOf call deck) buffer) e;
+      told = ap (λ (s : Status). outcomeFor s (rowsFor call deck)) (e ∙ m .told);
+      same = ap (λ (s : Status). bufferFor s (rowsFor call deck) buffer) e;
     }
 
 -- ---- where a row stands among rows, and its line in their text
@@ -99,10 +103,10 @@ at-line rows l row rest a =
     ∙ append-assoc (linesText (a .before)) (rowText row ++ linesText (a .after)) rest
     ∙ ap (λ (t : List ℕ). linesText (a .before) ++ t) (append-assoc (rowText row) (linesText (a .after)) rest)
     in
-    let long : length (linesText (a .before)) ≡ 95 * l = length-lines (a .before) ∙ ap (λ (n : ℕ). 95 * n) (a .place) in
-    ap (λ (t : List ℕ). take 95 (drop (95 * l) t)) text
-    ∙ ap (take 95) (drop-at (linesText (a .before)) (rowText row ++ (linesText (a .after) ++ rest)) (95 * l) long)
-    ∙ take-at (rowText row) (linesText (a .after) ++ rest) 95 (length-row row)
+    let long : length (linesText (a .before)) ≡ reportLineWidth * l = length-lines (a .before) ∙ ap (λ (n : ℕ). reportLineWidth * n) (a .place) in
+    ap (λ (t : List ℕ). take reportLineWidth (drop (reportLineWidth * l) t)) text
+    ∙ ap (take reportLineWidth) (drop-at (linesText (a .before)) (rowText row ++ (linesText (a .after) ++ rest)) (reportLineWidth * l) long)
+    ∙ take-at (rowText row) (linesText (a .after) ++ rest) reportLineWidth (length-row row)
 
 -- before other rows, and after some
 at-before : (ys zs : List Row) (l : ℕ) (row : Row) → At ys l row → At (ys ++ zs) l row
@@ -147,41 +151,23 @@ sources-of sort case ranged receptors′ =
 
 -- ---- the report of a scenario
 module _ (scenario : Scenario) where
-  lines : ℕ → ℕ → List Row
-  lines j i = chained (λ p. rowAt scenario j i p ∷ []) 6
-
-  lines-six : (j i : ℕ) → length (lines j i) ≡ 6
-  unfolding lines
-  lines-six j i = chained-length (λ p. rowAt scenario j i p ∷ []) 6 1 (λ p. refl)
-
-  lines-all : (j : ℕ) → length (chained (lines j) (scenario .chemicals .count)) ≡ scenario .chemicals .count * 6
-  lines-all j = chained-length (lines j) (scenario .chemicals .count) 6 (lines-six j)
-
-  rows-length : (j : ℕ) → length (rowsAt scenario j) ≡ linesPerReceptor scenario
-  unfolding rowsAt linesPerReceptor lines
-  rows-length j = length-append (chained (lines j) (scenario .chemicals .count)) (totalRow scenario j ∷ []) ∙ omega (arith, lines-all j)
-
-  report-length : length (rowsOf scenario) ≡ linesOfReport scenario
-  unfolding rowsOf linesOfReport
-  report-length = chained-length (rowsAt scenario) (scenario .receptors .count) (linesPerReceptor scenario) rows-length
-
-  line-at : (j i p : ℕ) → j < scenario .receptors .count → i < scenario .chemicals .count → p < 6 → At (rowsOf scenario) (j * linesPerReceptor scenario + (i * 6 + (p * 1 + 0))) (rowAt scenario j i p)
+  line-at : (j i p : ℕ) → j < scenario .receptors .count → i < scenario .chemicals .count → p < pathwaysPerChemical → At (rowsOf scenario) (j * linesPerReceptor scenario + (i * pathwaysPerChemical + (p * 1 + 0))) (rowAt scenario j i p)
   unfolding rowsOf rowsAt lines
   line-at j i p a b c =
-      at-part (rowsAt scenario) (scenario .receptors .count) (linesPerReceptor scenario) j (i * 6 + (p * 1 + 0)) (rowAt scenario j i p) a rows-length
-      (at-before (chained (lines j) (scenario .chemicals .count)) (totalRow scenario j ∷ []) (i * 6 + (p * 1 + 0)) (rowAt scenario j i p)
-      (at-part (lines j) (scenario .chemicals .count) 6 i (p * 1 + 0) (rowAt scenario j i p) b (lines-six j)
-      (at-part (λ p. rowAt scenario j i p ∷ []) 6 1 p 0 (rowAt scenario j i p) c (λ q. refl) (alone (rowAt scenario j i p)))))
+      at-part (rowsAt scenario) (scenario .receptors .count) (linesPerReceptor scenario) j (i * pathwaysPerChemical + (p * 1 + 0)) (rowAt scenario j i p) a (rows-length scenario)
+      (at-before (chained (lines scenario j) (scenario .chemicals .count)) (totalRow scenario j ∷ []) (i * pathwaysPerChemical + (p * 1 + 0)) (rowAt scenario j i p)
+      (at-part (lines scenario j) (scenario .chemicals .count) pathwaysPerChemical i (p * 1 + 0) (rowAt scenario j i p) b (lines-many scenario j)
+      (at-part (λ p. rowAt scenario j i p ∷ []) pathwaysPerChemical 1 p 0 (rowAt scenario j i p) c (λ q. refl) (alone (rowAt scenario j i p)))))
 
-  total-at : (j : ℕ) → j < scenario .receptors .count → At (rowsOf scenario) (j * linesPerReceptor scenario + (scenario .chemicals .count * 6 + 0)) (totalRow scenario j)
+  total-at : (j : ℕ) → j < scenario .receptors .count → At (rowsOf scenario) (j * linesPerReceptor scenario + (scenario .chemicals .count * pathwaysPerChemical + 0)) (totalRow scenario j)
   unfolding rowsOf rowsAt lines
   total-at j a =
-      at-part (rowsAt scenario) (scenario .receptors .count) (linesPerReceptor scenario) j (scenario .chemicals .count * 6 + 0) (totalRow scenario j) a rows-length
-      (at-after (chained (lines j) (scenario .chemicals .count)) (totalRow scenario j ∷ []) (scenario .chemicals .count * 6) 0 (totalRow scenario j) (lines-all j) (alone (totalRow scenario j)))
+      at-part (rowsAt scenario) (scenario .receptors .count) (linesPerReceptor scenario) j (scenario .chemicals .count * pathwaysPerChemical + 0) (totalRow scenario j) a (rows-length scenario)
+      (at-after (chained (lines scenario j) (scenario .chemicals .count)) (totalRow scenario j ∷ []) (scenario .chemicals .count * pathwaysPerChemical) 0 (totalRow scenario j) (lines-all scenario j) (alone (totalRow scenario j)))
 
   -- the whole of it
   module _ (ids : SmallIds scenario) {exact : Exact} (sound : Sound scenario exact) (small : first (largeLines scenario) ≡ Passed) where
-    by-rule : (e : Effect) (j i p : ℕ) → j < scenario .receptors .count → i < scenario .chemicals .count → p < 6 → hasReference e scenario i (pathwayAt p) ≡ true
+    by-rule : (e : Effect) (j i p : ℕ) → j < scenario .receptors .count → i < scenario .chemicals .count → p < pathwaysPerChemical → hasReference e scenario i (pathwayAt p) ≡ true
         → ByRule e scenario j i (pathwayAt p)
     by-rule e j i p a b h t =
         let l = line-by-rule scenario sound small e j i p a b h t in
@@ -191,13 +177,13 @@ module _ (scenario : Scenario) where
     printed sources rest =
         record {
           line = λ j i p a b c.
-              let e : j * linesPerReceptor scenario + (i * 6 + (p * 1 + 0)) ≡ j * linesPerReceptor scenario + i * 6 + p = omega arith in
+              let e : j * linesPerReceptor scenario + (i * pathwaysPerChemical + (p * 1 + 0)) ≡ j * linesPerReceptor scenario + i * pathwaysPerChemical + p = omega arith in
               subst (λ (l : ℕ). lineIn (linesText (rowsOf scenario) ++ rest) l ≡ rowText (rowAt scenario j i p)) e
-              (at-line (rowsOf scenario) (j * linesPerReceptor scenario + (i * 6 + (p * 1 + 0))) (rowAt scenario j i p) rest (line-at j i p a b c));
+              (at-line (rowsOf scenario) (j * linesPerReceptor scenario + (i * pathwaysPerChemical + (p * 1 + 0))) (rowAt scenario j i p) rest (line-at j i p a b c));
           total = λ j a.
-              let e : j * linesPerReceptor scenario + (scenario .chemicals .count * 6 + 0) ≡ j * linesPerReceptor scenario + scenario .chemicals .count * 6 = omega arith in
+              let e : j * linesPerReceptor scenario + (scenario .chemicals .count * pathwaysPerChemical + 0) ≡ j * linesPerReceptor scenario + scenario .chemicals .count * pathwaysPerChemical = omega arith in
               subst (λ (l : ℕ). lineIn (linesText (rowsOf scenario) ++ rest) l ≡ rowText (totalRow scenario j)) e
-              (at-line (rowsOf scenario) (j * linesPerReceptor scenario + (scenario .chemicals .count * 6 + 0)) (totalRow scenario j) rest (total-at j a));
+              (at-line (rowsOf scenario) (j * linesPerReceptor scenario + (scenario .chemicals .count * pathwaysPerChemical + 0)) (totalRow scenario j) rest (total-at j a));
           rule = by-rule;
           line-fits = row-fits scenario ids sound small;
           total-fits = total-row-fits scenario ids sound small;
@@ -205,20 +191,22 @@ module _ (scenario : Scenario) where
           rested = λ j i h. sources .rested j i;
         }
 
--- What the laws ask of a call: that every deck which it reads gives a sound scenario with ids of six digits, and receptors made as it says.
+-- What the laws ask of a call: that every deck which it reads gives a sound scenario with ids of six digits, and receptors made as it says; and that it
+-- prints the report.
 pub record Sounds (call : Call) (Made : Case → Type 0) : Type 0 where
   pub sound : (deck : List ℕ) → first (conditions (call .sort) deck) ≡ Passed → Sound (scenarioOf call deck) (exactOf call deck)
   pub ids : (deck : List ℕ) → first (conditions (call .sort) deck) ≡ Passed → SmallIds (scenarioOf call deck)
   pub made : (deck : List ℕ) → first (conditions (call .sort) deck) ≡ Passed → Made (caseOf deck)
+  pub form : call .form ≡ rowsOf
 
 -- none of the conditions after the deck's own holds
 pub clear : (call : Call) (deck : List ℕ) (room : ℕ) → first (allConditions call deck room) ≡ Passed
     → (first (conditions (call .sort) deck) ≡ Passed) × (first (largeLines (scenarioOf call deck)) ≡ Passed)
-unfolding allConditions reportConditions
+unfolding allConditions formConditions
 clear call deck room e =
     let scenario = scenarioOf call deck in
-    let t = append-read (conditions (call .sort) deck) (reportConditions scenario room) e in
-    let u = first-read (at 51 0 0 (ltb room (lengthOf scenario))) (largeLines scenario) (t .1) in
+    let t = append-read (conditions (call .sort) deck) (formConditions (rowsFor call deck) scenario room) e in
+    let u = first-read (tooShort (rowsFor call deck) room) (largeLines scenario) (t .1) in
     (t .0, u .1)
 
 module _ (call : Call) (Made : Case → Type 0) (sounds : Sounds call Made) where
@@ -227,20 +215,20 @@ module _ (call : Call) (Made : Case → Type 0) (sounds : Sounds call Made) wher
   deck-sources deck e = sources-of (call .sort) (caseOf deck) (accepted (call .sort) deck e) (call .receptors (caseOf deck))
 
   reported : (deck buffer : List ℕ) → statusOf call deck (length buffer) ≡ Passed → Reported call Made deck buffer
-  unfolding statusOf outcomeOf outcomeFor bufferOf bufferFor bufferWith lengthOf
+  unfolding statusOf outcomeOf outcomeFor bufferOf bufferFor lengthOf rowsFor
   reported deck buffer e =
       let scenario = scenarioOf call deck in
+      let rows = call .form scenario in
       let none = clear call deck (length buffer) e in
-      let text : bufferOf call deck buffer ≡ linesText (rowsOf scenario) ++ drop (lengthOf scenario) buffer = ap (λ (s : Status). bufferFor s scenario buffer) e in
-      let long : length (linesText (rowsOf scenario)) ≡ lengthOf scenario = length-lines (rowsOf scenario) ∙ ap (λ (n : ℕ). 95 * n) (report-length scenario) in
+      let text : bufferOf call deck buffer ≡ linesText rows ++ drop (lengthOf rows) buffer = ap (λ (s : Status). bufferFor s rows buffer) e in
       record {
         none = read-none (allConditions call deck (length buffer)) e;
-        told = ap (λ (s : Status). outcomeFor s scenario) e;
+        told = ap (λ (s : Status). outcomeFor s rows) e;
         printed =
-            subst (Printed scenario) (sym text)
-            (printed scenario (sounds .ids deck (none .0)) (sounds .sound deck (none .0)) (none .1) (deck-sources deck (none .0)) (drop (lengthOf scenario) buffer));
+            subst (Printed scenario) (sym (text ∙ ap (λ (form : Form). linesText (form scenario) ++ drop (lengthOf rows) buffer) (sounds .form)))
+            (printed scenario (sounds .ids deck (none .0)) (sounds .sound deck (none .0)) (none .1) (deck-sources deck (none .0)) (drop (lengthOf rows) buffer));
         made = sounds .made deck (none .0);
-        past = ap (drop (lengthOf scenario)) text ∙ drop-at (linesText (rowsOf scenario)) (drop (lengthOf scenario) buffer) (lengthOf scenario) long;
+        past = ap (drop (lengthOf rows)) text ∙ drop-at (linesText rows) (drop (lengthOf rows) buffer) (lengthOf rows) (length-lines rows);
       }
 
   by-status : (deck buffer : List ℕ) (s : Status) → statusOf call deck (length buffer) ≡ s → Reported call Made deck buffer ⊎ Refused call deck buffer
@@ -271,9 +259,9 @@ module _ (case : Case) (ranged : Ranged Ordinary case) where
         exposed = exposed-at;
       }
 
-entered-ids : (deck : List ℕ) → Ranged Ordinary (caseOf deck) → (j : ℕ) → j < caseOf deck .receptors .count → receptorIn (scenarioOf ordinary deck) j .id < 10 ^ 6
+entered-ids : (deck : List ℕ) → Ranged Ordinary (caseOf deck) → (j : ℕ) → j < caseOf deck .receptors .count → receptorIn (scenarioOf ordinary deck) j .id < 10 ^ idWidth
 unfolding receptorIn scenarioOf ordinary scenarioWith entered receptorWith
-entered-ids deck ranged j h = subst (λ (r : receptors.Receptor). r .id < 10 ^ 6) (sym (entered-at (caseOf deck) ranged j h)) (small-ids deck .0 j h)
+entered-ids deck ranged j h = subst (λ (r : receptors.Receptor). r .id < 10 ^ idWidth) (sym (entered-at (caseOf deck) ranged j h)) (small-ids deck .0 j h)
 
 pub ordinary-sounds : Sounds ordinary Entered
 unfolding ordinary scenarioOf exactOf exactAt ordinaryOf scenarioWith enteredFrom chemicalIn chemicalAt
@@ -282,6 +270,7 @@ ordinary-sounds =
       sound = λ deck e. ordinary-sound (caseOf deck) (accepted Ordinary deck e);
       ids = λ deck e. record { receptor = entered-ids deck (accepted Ordinary deck e); chemical = small-ids deck .1 };
       made = λ deck e. ordinary-made (caseOf deck) (accepted Ordinary deck e);
+      form = refl;
     }
 
 pub demand-2 : Demand2 ordinary Entered

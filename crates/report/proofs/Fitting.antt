@@ -13,6 +13,9 @@ use Rattle.cases.specs.declared.Status.the-variants.{Passed}
 use Rattle.cases.specs.Conditions.{first}
 use Rattle.totals.specs.declared.Columns.{Columns}
 use Rattle.totals.specs.declared.Columns.the-variants.{Absent, Counted}
+use Rattle.sizes.specs.Sizes.{pathwaysPerChemical, mostLines}
+use Rattle.spelling.specs.Columns.{idWidth}
+use Rattle.totals.specs.Totals.{largestNumber}
 use Rattle.text.specs.Text.{countWidth, CountsFit, FitsColumns}
 use Rattle.scenario.specs.Scenario.{Scenario, chemicalIn, receptorIn, Exact}
 use Rattle.sheet.specs.Sheet.{pathwayAt, columnsAt, totalAt, largeLines}
@@ -23,8 +26,8 @@ use Rattle.sheet.proofs.SheetCaseLaws.{columns-small, total-small}
 
 -- a scenario whose records have ids of six digits
 pub record SmallIds (scenario : Scenario) : Type 0 where
-  pub receptor : (j : ℕ) → j < scenario .receptors .count → receptorIn scenario j .id < 10 ^ 6
-  pub chemical : (i : ℕ) → i < scenario .chemicals .count → chemicalIn scenario i .id < 10 ^ 6
+  pub receptor : (j : ℕ) → j < scenario .receptors .count → receptorIn scenario j .id < 10 ^ idWidth
+  pub chemical : (i : ℕ) → i < scenario .chemicals .count → chemicalIn scenario i .id < 10 ^ idWidth
 
 -- ---- counts
 counts-fit : (m : ℕ) (columns : Columns) → m < 10 ^ countWidth → CountsMost m columns → CountsFit columns
@@ -34,14 +37,14 @@ counts-fit m (Counted low high) h most = (omega (arith, most .0), omega (arith, 
 
 -- ---- lines
 module _ (scenario : Scenario) (ids : SmallIds scenario) {exact : Exact} (sound : Sound scenario exact) (small : first (largeLines scenario) ≡ Passed) where
-  pub row-fits : (j i p : ℕ) → j < scenario .receptors .count → i < scenario .chemicals .count → p < 6 → FitsColumns (rowAt scenario j i p)
+  pub row-fits : (j i p : ℕ) → j < scenario .receptors .count → i < scenario .chemicals .count → p < pathwaysPerChemical → FitsColumns (rowAt scenario j i p)
   unfolding rowAt
   row-fits j i p a b h =
-      let counts : (e : Effect) → CountsFit (columnsAt e scenario j i (pathwayAt p)) = λ e. counts-fit (10 ^ 16) _ (lit< tt) (columns-small scenario sound small e j i p a b h) in
+      let counts : (e : Effect) → CountsFit (columnsAt e scenario j i (pathwayAt p)) = λ e. counts-fit largestNumber _ (lit< tt) (columns-small scenario sound small e j i p a b h) in
       record { receptor = ids .receptor j a; chemical = ids .chemical i b; pathway = omega arith; hazard = counts Hazard; cancer = counts Cancer }
 
   pub total-row-fits : (j : ℕ) → j < scenario .receptors .count → FitsColumns (totalRow scenario j)
   unfolding totalRow
   total-row-fits j a =
-      let counts : (e : Effect) → CountsFit (totalAt e scenario j) = λ e. counts-fit (96 * 10 ^ 16) _ (lit< tt) (total-small scenario sound small e j a) in
+      let counts : (e : Effect) → CountsFit (totalAt e scenario j) = λ e. counts-fit (mostLines * largestNumber) _ (lit< tt) (total-small scenario sound small e j a) in
       record { receptor = ids .receptor j a; chemical = lit< tt; pathway = lit< tt; hazard = counts Hazard; cancer = counts Cancer }

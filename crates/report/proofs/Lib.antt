@@ -1,12 +1,12 @@
 -- The crate's laws: the report as it is written, demands 1 to 3 of document 01 (`DemandTwo`, `DemandThree`), that no call
 -- tells 41 (`Never`), and that a deck of 2005 prints what it printed (`Guidance`). Assumes nothing.
 mod Written
-mod ReportLaws
+pub mod ReportLaws
 pub mod CallLaws
 pub mod Fitting
 pub mod Exposures
 pub mod DemandTwo
 pub mod DemandThree
-mod YearRows
+pub mod YearRows
 pub mod ReportGuidance
 pub mod ReportNever

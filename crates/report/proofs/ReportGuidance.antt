@@ -3,7 +3,7 @@
 use mathlib.Core.Path.{_≡_, refl, sym, _∙_, ap, ap₂}
 use mathlib.Core.Bool.{true, cond}
 use mathlib.Core.List.{List}
-use Prim.Native.Nat.{ℕ, _≤_}
+use Prim.Native.Nat.{ℕ, _≤_, _*_}
 use lib.ListN.{length}
 use Rattle.slots.specs.declared.Guidance.{Guidance}
 use Rattle.slots.specs.declared.Guidance.the-variants.{Of2005}
@@ -20,6 +20,8 @@ use Rattle.cases.specs.Conditions.{first}
 use Rattle.deck.specs.DeckConditions.{conditions, misspelled, misplaced, outOfRange, fieldConditions}
 use Rattle.deck.specs.DeckCase.{caseOf}
 use Rattle.cases.specs.Cases.{guidanceOf, clearYear, caseWithoutYear}
+use Rattle.sizes.specs.Sizes.{siteLines}
+use Rattle.deck.specs.Parts.{deckLineWidth}
 use Rattle.deck.specs.Guidance.{yearWord, is2005, withoutYear}
 use Rattle.cases.proofs.FirstMet.{orElse, first-append}
 use Rattle.deck.proofs.WithoutYear.{case-without, status-without, year-printed, guidance-2005}
@@ -29,22 +31,18 @@ use Rattle.sheet.specs.Sheet.{hasReference, figureAt}
 use Rattle.sheet.specs.DemandThree.{inUnitsOf, nothing, exactLine}
 use Rattle.sheet.proofs.YearLaws.{yearBlank, entered-blank}
 use Rattle.text.specs.declared.Row.{Row}
-use Rattle.report.specs.Report.{Call, ordinary, rowsOf, lengthOf, reportConditions, scenarioOf, exactOf, allConditions, statusOf, outcomeFor, outcomeOf, bufferWith, bufferFor, bufferOf}
+use Rattle.report.specs.Forms.{formConditions, Call, scenarioOf, exactOf, rowsFor, allConditions, statusOf, outcomeFor, outcomeOf, bufferFor, bufferOf}
+use Rattle.report.specs.Report.{ordinary}
 use Rattle.report.specs.Guidance.{As2005, Law2005}
-use Rattle.report.proofs.YearRows.{length-same, rows-same, conditions-same}
+use Rattle.report.proofs.YearRows.{rows-same, conditions-same}
 
 -- a blank year is read as a blank later slot
 blank-later : (n f : ℕ) → fieldConditions guidanceYear Blank n f ≡ fieldConditions unused Blank n f
 unfolding fieldConditions misspelled misplaced outOfRange
 blank-later n f = refl
 
--- what is told hangs on the report's length alone
-told-alike : (s t : Scenario) → lengthOf s ≡ lengthOf t → (x : Status) → outcomeFor x s ≡ outcomeFor x t
-unfolding outcomeFor
-told-alike s t e Passed = rw e refl
-told-alike s t e (Stopped number line field) = refl
-
-module _ (call : Call) (same : (case : Case) → call .receptors (caseWithoutYear case) ≡ call .receptors case) (deck : List ℕ) (long : 162 ≤ length deck) (of : is2005 (yearWord deck) ≡ true) where
+module _ (call : Call) (same : (case : Case) → call .receptors (caseWithoutYear case) ≡ call .receptors case)
+    (alike : (s : Scenario) → guidanceIn s ≡ Of2005 → call .form (yearBlank s) ≡ call .form s) (deck : List ℕ) (long : deckLineWidth * siteLines ≤ length deck) (of : is2005 (yearWord deck) ≡ true) where
   made : Scenario
   made = scenarioOf call deck
 
@@ -68,41 +66,35 @@ module _ (call : Call) (same : (case : Case) → call .receptors (caseWithoutYea
       ap (λ (case : Case). scenarioWith case (call .receptors case)) (case-without deck long)
       ∙ ap (λ (r : Receptors). scenarioFrom (clearYear (caseOf deck .site)) (caseOf deck .chemicals) r) (same (caseOf deck))
 
+  rows-are : rowsFor call (withoutYear deck) ≡ rowsFor call deck
+  unfolding rowsFor made
+  rows-are = ap (call .form) scenario-is ∙ alike made guidance
+
   status-is : (room : ℕ) → statusOf call (withoutYear deck) room ≡ statusOf call deck room
   unfolding statusOf allConditions made
   status-is room =
-      first-append (conditions (call .sort) (withoutYear deck)) (reportConditions (scenarioOf call (withoutYear deck)) room)
-      ∙ ap₂ orElse (status-without (call .sort) deck long of) (ap first (ap (λ (s : Scenario). reportConditions s room) scenario-is ∙ conditions-same made guidance room))
-      ∙ sym (first-append (conditions (call .sort) deck) (reportConditions made room))
-
-  length-is : lengthOf (scenarioOf call (withoutYear deck)) ≡ lengthOf made
-  length-is = ap lengthOf scenario-is ∙ length-same made
-
-  rows-are : rowsOf (scenarioOf call (withoutYear deck)) ≡ rowsOf made
-  unfolding made
-  rows-are = ap rowsOf scenario-is ∙ rows-same made guidance
+      let rows = rowsFor call deck in
+      first-append (conditions (call .sort) (withoutYear deck)) (formConditions (rowsFor call (withoutYear deck)) (scenarioOf call (withoutYear deck)) room)
+      ∙ ap₂ orElse (status-without (call .sort) deck long of)
+      (ap first (ap₂ (λ (r : List Row) (s : Scenario). formConditions r s room) rows-are scenario-is ∙ conditions-same made guidance rows room))
+      ∙ sym (first-append (conditions (call .sort) deck) (formConditions rows made room))
 
   told-2005 : (room : ℕ) → outcomeOf call deck room ≡ outcomeOf call (withoutYear deck) room
-  unfolding outcomeOf made
-  told-2005 room =
-      sym
-      (told-alike (scenarioOf call (withoutYear deck)) made length-is (statusOf call (withoutYear deck) room)
-      ∙ ap (λ (x : Status). outcomeFor x made) (status-is room))
+  unfolding outcomeOf
+  told-2005 room = sym (ap₂ outcomeFor (status-is room) rows-are)
 
   written-2005 : (buffer : List ℕ) → bufferOf call deck buffer ≡ bufferOf call (withoutYear deck) buffer
-  unfolding bufferOf bufferFor made
-  written-2005 buffer =
-      sym
-      (ap₂ (λ (rows : List Row) (n : ℕ). bufferWith (statusOf call (withoutYear deck) (length buffer)) rows n buffer) rows-are length-is
-      ∙ ap (λ (x : Status). bufferWith x (rowsOf made) (lengthOf made) buffer) (status-is (length buffer)))
+  unfolding bufferOf
+  written-2005 buffer = sym (ap₂ (λ (x : Status) (rows : List Row). bufferFor x rows buffer) (status-is (length buffer)) rows-are)
 
   as-2005 : As2005 call deck
   as-2005 = record { line = line-2005; exact = exact-2005; told = told-2005; written = written-2005; blank = blank-later }
 
-pub law-2005-of : (call : Call) → ((case : Case) → call .receptors (caseWithoutYear case) ≡ call .receptors case) → Law2005 call
+pub law-2005-of : (call : Call) → ((case : Case) → call .receptors (caseWithoutYear case) ≡ call .receptors case)
+    → ((s : Scenario) → guidanceIn s ≡ Of2005 → call .form (yearBlank s) ≡ call .form s) → Law2005 call
 unfolding Law2005
-law-2005-of call same deck long of = as-2005 call same deck long of
+law-2005-of call same alike deck long of = as-2005 call same alike deck long of
 
 pub law-2005 : Law2005 ordinary
 unfolding ordinary
-law-2005 = law-2005-of ordinary entered-blank
+law-2005 = law-2005-of ordinary entered-blank rows-same

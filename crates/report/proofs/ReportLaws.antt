@@ -1,33 +1,89 @@
--- The rows that a sound scenario's cells hold are those of its report. Assumes nothing.
+-- The rows of a scenario's report, how many they are, and that a sound scenario's cells hold them. Assumes nothing.
 use mathlib.Core.Path.{_≡_, refl, sym, _∙_, ap}
 use mathlib.Core.List.{List, [], _∷_, _++_}
 use Prim.Native.Nat.{ℕ, _+_, _*_, _/_, _%_, _<_}
 use native.Mathlib.Numerals.{add-one}
+use native.Mathlib.Omega.{arith}
+use lib.ListN.{length, getD, drop, length-append}
+use Rattle.text.specs.Text.{reportLineWidth, linesText}
+use Rattle.report.specs.Forms.{lengthOf}
+use Rattle.sizes.specs.Sizes.{pathwaysPerChemical}
+use Rattle.cases.specs.Cases.{noRecord}
 use Rattle.equations.specs.declared.Effect.the-variants.{Hazard, Cancer}
 use Rattle.cases.specs.declared.Status.the-variants.{Passed}
 use Rattle.cases.specs.Conditions.{first}
 use Rattle.text.specs.declared.Row.{Row}
 use Rattle.scenario.specs.Scenario.{Scenario, chemicalIn, receptorIn, Exact}
 use Rattle.lists.specs.Lists.{chained}
-use Rattle.sheet.specs.Sheet.{largeLines}
+use Rattle.sheet.specs.Sheet.{linesPerReceptor, largeLines}
 use Rattle.sheet.specs.Counts.{cellsOf}
 use Rattle.report.specs.Report.{rowAt, totalRow, rowsAt, rowsOf}
-use Rattle.report.specs.InMemory.{rowIn, totalRowIn, linesIn, rowsIn, reportIn}
+use Rattle.report.specs.InMemory.{perReceptor, rowIn, totalRowIn, linesIn, rowsIn, reportIn, writtenRows}
 use Rattle.scenario.proofs.Sound.{Sound}
 use Rattle.sheet.proofs.Held.{columns-held}
 use Rattle.sheet.proofs.SheetCaseLaws.{total-held}
-use Rattle.lists.proofs.Chained.{chained-same, flat}
+use Rattle.lists.proofs.Chained.{chained-same, chained-length, flat}
+use Rattle.report.proofs.CallLaws.{Prints}
 
+-- ---- how many they are
+module _ (scenario : Scenario) where
+  unfoldable pub lines : ℕ → ℕ → List Row
+  lines j i = chained (λ p. rowAt scenario j i p ∷ []) pathwaysPerChemical
+
+  pub lines-many : (j i : ℕ) → length (lines j i) ≡ pathwaysPerChemical
+  unfolding lines
+  lines-many j i = chained-length (λ p. rowAt scenario j i p ∷ []) pathwaysPerChemical 1 (λ p. refl)
+
+  pub lines-all : (j : ℕ) → length (chained (lines j) (scenario .chemicals .count)) ≡ scenario .chemicals .count * pathwaysPerChemical
+  lines-all j = chained-length (lines j) (scenario .chemicals .count) pathwaysPerChemical (lines-many j)
+
+  pub rows-length : (j : ℕ) → length (rowsAt scenario j) ≡ linesPerReceptor scenario
+  unfolding rowsAt linesPerReceptor lines
+  rows-length j = length-append (chained (lines j) (scenario .chemicals .count)) (totalRow scenario j ∷ []) ∙ omega (arith, lines-all j)
+
+  pub report-length : length (rowsOf scenario) ≡ scenario .receptors .count * linesPerReceptor scenario
+  unfolding rowsOf
+  report-length = chained-length (rowsAt scenario) (scenario .receptors .count) (linesPerReceptor scenario) rows-length
+
+  -- and from cells, whatever these are
+  lines-in : (cells : List ℕ) (j id′ n : ℕ) → length (linesIn cells j id′ (scenario .chemicals) n) ≡ n
+  unfolding linesIn
+  lines-in cells j id′ n =
+      chained-length (λ q. rowIn cells j id′ (getD (scenario .chemicals .records) (q / pathwaysPerChemical) noRecord .id) q ∷ []) n 1 (λ q. refl) ∙ omega arith
+
+  rows-in : (cells : List ℕ) (j id′ : ℕ) → length (rowsIn cells j id′ (scenario .chemicals)) ≡ linesPerReceptor scenario
+  unfolding rowsIn linesPerReceptor
+  rows-in cells j id′ =
+      length-append (linesIn cells j id′ (scenario .chemicals) (scenario .chemicals .count * pathwaysPerChemical)) _ ∙ omega (arith, lines-in cells j id′ (scenario .chemicals .count * pathwaysPerChemical))
+
+  pub written-length : length (writtenRows scenario) ≡ scenario .receptors .count * linesPerReceptor scenario
+  unfolding writtenRows reportIn
+  written-length = chained-length _ (scenario .receptors .count) (linesPerReceptor scenario) (λ j. rows-in (cellsOf scenario) j _)
+
+  -- so many bytes
+  pub length-is : (n : ℕ) → n ≡ reportLineWidth * (scenario .receptors .count * perReceptor (scenario .chemicals .count)) → n ≡ lengthOf (writtenRows scenario)
+  unfolding lengthOf linesPerReceptor
+  length-is n e = e ∙ ap (λ (m : ℕ). reportLineWidth * m) (sym written-length)
+
+  pub rows-from : writtenRows scenario ≡ reportIn (cellsOf scenario) (scenario .chemicals) (scenario .receptors .list) (scenario .receptors .count)
+  unfolding writtenRows
+  rows-from = refl
+
+  pub past-rows : (out : List ℕ) (rows : List Row) (buffer : List ℕ) → out ≡ linesText rows ++ drop (reportLineWidth * (scenario .receptors .count * perReceptor (scenario .chemicals .count))) buffer
+      → out ≡ linesText rows ++ drop (lengthOf (writtenRows scenario)) buffer
+  past-rows out rows buffer e = e ∙ ap (λ (n : ℕ). linesText rows ++ drop n buffer) (length-is _ refl)
+
+-- ---- what the cells of a sound scenario hold
 module _ (scenario : Scenario) {exact : Exact} (sound : Sound scenario exact) (small : first (largeLines scenario) ≡ Passed) where
   module _ (j : ℕ) (here : j < scenario .receptors .count) where
-    line-held : (q : ℕ) → q < scenario .chemicals .count * 6
-        → rowIn (cellsOf scenario) j (receptorIn scenario j .id) (chemicalIn scenario (q / 6) .id) q ≡ rowAt scenario j (q / 6) (q % 6)
+    line-held : (q : ℕ) → q < scenario .chemicals .count * pathwaysPerChemical
+        → rowIn (cellsOf scenario) j (receptorIn scenario j .id) (chemicalIn scenario (q / pathwaysPerChemical) .id) q ≡ rowAt scenario j (q / pathwaysPerChemical) (q % pathwaysPerChemical)
     unfolding rowIn rowAt
     line-held q h =
         let held = columns-held scenario (sound .few-chemicals) (sound .few-receptors) j q here h in
         rw (held Hazard, held Cancer, add-one) refl
 
-    total-row-held : totalRowIn (cellsOf scenario) j (receptorIn scenario j .id) (scenario .chemicals .count * 6) ≡ totalRow scenario j
+    total-row-held : totalRowIn (cellsOf scenario) j (receptorIn scenario j .id) (scenario .chemicals .count * pathwaysPerChemical) ≡ totalRow scenario j
     unfolding totalRowIn totalRow
     total-row-held =
         let held = total-held scenario sound small j here in
@@ -38,12 +94,16 @@ module _ (scenario : Scenario) {exact : Exact} (sound : Sound scenario exact) (s
     receptor-held =
         let n = scenario .chemicals .count in
         let line : ℕ → ℕ → List Row = λ i p. rowAt scenario j i p ∷ [] in
-        ap (λ (l : List Row). l ++ (totalRowIn (cellsOf scenario) j (receptorIn scenario j .id) (n * 6) ∷ []))
-        (chained-same (λ q. rowIn (cellsOf scenario) j (receptorIn scenario j .id) (chemicalIn scenario (q / 6) .id) q ∷ []) (λ q. line (q / 6) (q % 6)) (n * 6)
+        ap (λ (l : List Row). l ++ (totalRowIn (cellsOf scenario) j (receptorIn scenario j .id) (n * pathwaysPerChemical) ∷ []))
+        (chained-same (λ q. rowIn (cellsOf scenario) j (receptorIn scenario j .id) (chemicalIn scenario (q / pathwaysPerChemical) .id) q ∷ []) (λ q. line (q / pathwaysPerChemical) (q % pathwaysPerChemical)) (n * pathwaysPerChemical)
         (λ q h. ap (λ (row : Row). row ∷ []) (line-held q h))
         ∙ sym (flat line n))
-        ∙ ap (λ (row : Row). chained (λ i. chained (line i) 6) n ++ (row ∷ [])) total-row-held
+        ∙ ap (λ (row : Row). chained (λ i. chained (line i) pathwaysPerChemical) n ++ (row ∷ [])) total-row-held
 
   pub rows-held : reportIn (cellsOf scenario) (scenario .chemicals) (scenario .receptors .list) (scenario .receptors .count) ≡ rowsOf scenario
   unfolding reportIn rowsOf receptorIn
   rows-held = chained-same (λ j. rowsIn (cellsOf scenario) j (receptorIn scenario j .id) (scenario .chemicals)) (rowsAt scenario) (scenario .receptors .count) receptor-held
+
+pub report-prints : (scenario : Scenario) {exact : Exact} → Sound scenario exact → Prints writtenRows rowsOf scenario
+unfolding writtenRows
+report-prints scenario sound = record { many = written-length scenario ∙ sym (report-length scenario); rows = λ small. rows-held scenario sound small }

@@ -12,31 +12,34 @@ use Rattle.cases.proofs.FirstMet.{without-append, told-without}
 use Rattle.deck.proofs.DeckWithout.{deck-without}
 use Rattle.scenario.specs.Scenario.{Scenario}
 use Rattle.sheet.proofs.SheetWithout.{large-without, sheet-without}
-use Rattle.report.specs.Report.{reportConditions, Call, scenarioOf, allConditions, statusOf, outcomeFor, outcomeOf}
+use Rattle.text.specs.declared.Row.{Row}
+use Rattle.report.specs.Forms.{Form, tooShort, formConditions, Call, scenarioOf, rowsFor, allConditions, statusOf, outcomeFor, outcomeOf}
 use Rattle.report.specs.InMemory.{writtenConditions, writtenStatus, writtenOutcome}
 
-same-number : (s : Status) (scenario : Scenario) → outcomeFor s scenario .number ≡ toldOf s .number
+same-number : (s : Status) (rows : List Row) → outcomeFor s rows .number ≡ toldOf s .number
 unfolding outcomeFor toldOf
-same-number Passed scenario = refl
-same-number (Stopped number line field) scenario = refl
+same-number Passed rows = refl
+same-number (Stopped number line field) rows = refl
 
-outcome-without : (cs : List Condition) (scenario : Scenario) → Without 41 cs → outcomeFor (first cs) scenario .number ≢ 41
-outcome-without cs scenario h = rw (same-number (first cs) scenario) (told-without 41 (λ e. omega arith) cs h)
+outcome-without : (cs : List Condition) (rows : List Row) → Without 41 cs → outcomeFor (first cs) rows .number ≢ 41
+outcome-without cs rows h = rw (same-number (first cs) rows) (told-without 41 (λ e. omega arith) cs h)
 
-report-without : (scenario : Scenario) (room : ℕ) → Without 41 (reportConditions scenario room)
-unfolding reportConditions
-report-without scenario room = (λ e. omega arith, large-without scenario)
+form-without : (rows : List Row) (scenario : Scenario) (room : ℕ) → Without 41 (formConditions rows scenario room)
+unfolding formConditions tooShort
+form-without rows scenario room = (λ e. omega arith, large-without scenario)
 
 -- no condition of a call's list has this number
 pub conditions-without : (call : Call) (deck : List ℕ) (room : ℕ) → Without 41 (allConditions call deck room)
 unfolding allConditions
 conditions-without call deck room =
-    without-append 41 (conditions (call .sort) deck) (reportConditions (scenarioOf call deck) room) (deck-without (call .sort) deck) (report-without (scenarioOf call deck) room)
+    without-append 41 (conditions (call .sort) deck) (formConditions (rowsFor call deck) (scenarioOf call deck) room) (deck-without (call .sort) deck)
+    (form-without (rowsFor call deck) (scenarioOf call deck) room)
 
 pub report-never : (call : Call) (deck : List ℕ) (room : ℕ) → outcomeOf call deck room .number ≢ 41
 unfolding outcomeOf statusOf
-report-never call deck room = outcome-without (allConditions call deck room) (scenarioOf call deck) (conditions-without call deck room)
+report-never call deck room = outcome-without (allConditions call deck room) (rowsFor call deck) (conditions-without call deck room)
 
-pub written-never : (scenario : Scenario) (room : ℕ) → writtenOutcome scenario room .number ≢ 41
-unfolding writtenOutcome writtenStatus writtenConditions
-written-never scenario room = outcome-without (writtenConditions scenario room) scenario (λ e. omega arith, (λ e. omega arith, sheet-without scenario))
+pub written-never : (form : Form) (scenario : Scenario) (room : ℕ) → writtenOutcome form scenario room .number ≢ 41
+unfolding writtenOutcome writtenStatus writtenConditions tooShort
+written-never form scenario room =
+    outcome-without (writtenConditions (form scenario) scenario room) (form scenario) (λ e. omega arith, (λ e. omega arith, sheet-without scenario))

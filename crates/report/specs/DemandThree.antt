@@ -7,7 +7,7 @@ use Rattle.cases.specs.declared.Status.the-variants.{Passed}
 use Rattle.cases.specs.Conditions.{first}
 use Rattle.sheet.specs.Sheet.{totalAt}
 use Rattle.sheet.specs.DemandThree.{TotalHolds, linesAdded, exactTotal}
-use Rattle.report.specs.Report.{Call, scenarioOf, exactOf, allConditions}
+use Rattle.report.specs.Forms.{Call, scenarioOf, exactOf, allConditions}
 
 -- a deck is accepted by a call where no condition of document 01's table holds, with some buffer
 pub record Accepted (call : Call) (deck : List ℕ) : Type 0 where

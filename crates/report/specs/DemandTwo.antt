@@ -31,7 +31,8 @@ use Rattle.text.specs.Text.{reportLineWidth, rowText, FitsColumns}
 use Rattle.scenario.specs.Scenario.{Scenario, stayIn, givenIn, pairsAt, timeGiven, depositionOf, ordinaryOf}
 use Rattle.sizes.specs.Sizes.{pathwaysPerChemical}
 use Rattle.sheet.specs.Sheet.{pathwayAt, hasReference, figureAt, unitOf, columnsAt, linesPerReceptor}
-use Rattle.report.specs.Report.{rowAt, totalRow, Call, scenarioOf, allConditions, lengthOf, outcomeOf, bufferOf}
+use Rattle.report.specs.Forms.{Call, scenarioOf, allConditions, lengthOf, outcomeOf, bufferOf, rowsFor}
+use Rattle.report.specs.Report.{rowAt, totalRow}
 
 -- line l of a report, counted from 0
 unfoldable pub lineIn : List ℕ → ℕ → List ℕ
@@ -67,10 +68,10 @@ pub record Printed (scenario : Scenario) (report : List ℕ) : Type 0 where
 -- no condition holds: 0, the report's length, 0; the report, of receptors made so; and past it what was there before
 pub record Reported (call : Call) (Made : Case → Type 0) (deck buffer : List ℕ) : Type 0 where
   pub none : NoneHolds (allConditions call deck (length buffer))
-  pub told : outcomeOf call deck (length buffer) ≡ record { number = 0; line = lengthOf (scenarioOf call deck); field = 0 }
+  pub told : outcomeOf call deck (length buffer) ≡ record { number = 0; line = lengthOf (rowsFor call deck); field = 0 }
   pub printed : Printed (scenarioOf call deck) (bufferOf call deck buffer)
   pub made : Made (caseOf deck)
-  pub past : drop (lengthOf (scenarioOf call deck)) (bufferOf call deck buffer) ≡ drop (lengthOf (scenarioOf call deck)) buffer
+  pub past : drop (lengthOf (rowsFor call deck)) (bufferOf call deck buffer) ≡ drop (lengthOf (rowsFor call deck)) buffer
 
 -- the first condition that holds is told, and no byte changed
 pub record Refused (call : Call) (deck buffer : List ℕ) : Type 0 where

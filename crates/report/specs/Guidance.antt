@@ -18,7 +18,7 @@ use Rattle.deck.specs.Guidance.{yearWord, is2005, withoutYear}
 use Rattle.scenario.specs.Scenario.{stayIn, pairsAt}
 use Rattle.sheet.specs.Sheet.{hasReference, figureAt}
 use Rattle.sheet.specs.DemandThree.{inUnitsOf, nothing, exactLine}
-use Rattle.report.specs.Report.{Call, scenarioOf, exactOf, outcomeOf, bufferOf}
+use Rattle.report.specs.Forms.{Call, scenarioOf, exactOf, outcomeOf, bufferOf}
 
 pub record As2005 (call : Call) (deck : List ℕ) : Type 0 where
   -- the line of every receptor, chemical and pathway is that of an intake, on pairs and exactly

@@ -1,8 +1,7 @@
--- The report of a scenario in memory, whatever its values are: its rows from the cells that hold its counts, and where it stops. For the
--- scenario of a deck that is read these are the report's (Report.antt): `proofs/CallLaws.antt`.
+-- A sheet of a scenario in memory, whatever its values are: where it stops and what is written, by any form; and the report's rows from the cells
+-- that hold its counts. For the scenario of a deck that is read these are the report's (Report.antt): `proofs/CallLaws.antt`.
 use Prim.Native.Nat.{ℕ, _+_, _*_, _/_, _%_}
 use mathlib.Core.List.{List, [], _∷_, _++_}
-use lib.Dec.{ltb}
 use lib.ListN.{length, getD}
 use Rattle.equations.specs.declared.Effect.the-variants.{Hazard, Cancer}
 use Rattle.cases.specs.declared.Chemicals.{Chemicals}
@@ -17,7 +16,7 @@ use Rattle.sheet.specs.Counts.{tooMany, sheetConditions, cellsOf, columnsIn, to
 pub use Rattle.sheet.specs.Inner.{perReceptor}
 use Rattle.scenario.specs.declared.Receptor.{Receptor}
 use Rattle.scenario.specs.Scenario.{Scenario, noReceptor}
-use Rattle.report.specs.Report.{lengthOf, outcomeFor, bufferWith}
+use Rattle.report.specs.Forms.{Form, tooShort, outcomeFor, bufferFor}
 
 -- receptor j's line q, counted from 0, and the total line of its first n lines
 unfoldable pub rowIn : List ℕ → ℕ → ℕ → ℕ → ℕ → Row
@@ -39,18 +38,19 @@ rowsIn cells j id′ chemicals′ =
 unfoldable pub reportIn : List ℕ → Chemicals → List Receptor → ℕ → List Row
 reportIn cells chemicals′ list = chained (λ j. rowsIn cells j (getD list j noReceptor .id) chemicals′)
 
-unfoldable pub writtenRows : Scenario → List Row
+-- the report as a form
+unfoldable pub writtenRows : Form
 writtenRows scenario = reportIn (cellsOf scenario) (scenario .chemicals) (scenario .receptors .list) (scenario .receptors .count)
 
 -- 21 for more records than a sheet has room for, 51, then the sheet's own conditions
-unfoldable pub writtenConditions : Scenario → ℕ → List Condition
-writtenConditions scenario room = at 21 0 0 (tooMany scenario) ∷ at 51 0 0 (ltb room (lengthOf scenario)) ∷ sheetConditions scenario
+unfoldable pub writtenConditions : List Row → Scenario → ℕ → List Condition
+writtenConditions rows scenario room = at 21 0 0 (tooMany scenario) ∷ tooShort rows room ∷ sheetConditions scenario
 
-unfoldable pub writtenStatus : Scenario → ℕ → Status
-writtenStatus scenario room = first (writtenConditions scenario room)
+unfoldable pub writtenStatus : Form → Scenario → ℕ → Status
+writtenStatus form scenario room = first (writtenConditions (form scenario) scenario room)
 
-unfoldable pub writtenOutcome : Scenario → ℕ → Told
-writtenOutcome scenario room = outcomeFor (writtenStatus scenario room) scenario
+unfoldable pub writtenOutcome : Form → Scenario → ℕ → Told
+writtenOutcome form scenario room = outcomeFor (writtenStatus form scenario room) (form scenario)
 
-unfoldable pub writtenBuffer : Scenario → List ℕ → List ℕ
-writtenBuffer scenario buffer = bufferWith (writtenStatus scenario (length buffer)) (writtenRows scenario) (lengthOf scenario) buffer
+unfoldable pub writtenBuffer : Form → Scenario → List ℕ → List ℕ
+writtenBuffer form scenario buffer = bufferFor (writtenStatus form scenario (length buffer)) (form scenario) buffer

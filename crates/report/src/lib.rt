@@ -18,8 +18,9 @@ ghost use Prim.Native.Nat.{_*_, _≤_};
 ghost use lib.ListN.{length};
 ghost use Rattle.text.specs.Text.{reportLineWidth};
 ghost use Rattle.scenario.specs.Scenario.{scenarioFrom};
-ghost use Rattle.report.specs.Report.{ordinary, outcomeOf, bufferOf};
-ghost use Rattle.report.specs.InMemory.{perReceptor, writtenOutcome, writtenBuffer};
+ghost use Rattle.report.specs.Forms.{outcomeOf, bufferOf};
+ghost use Rattle.report.specs.Report.{ordinary};
+ghost use Rattle.report.specs.InMemory.{perReceptor, writtenRows, writtenOutcome, writtenBuffer};
 
 // The longest report: 388 lines.
 pub const MAX_REPORT: usize = LINE_WIDTH * MAX_RECEPTORS * (MAX_CHEMICALS * PATHWAYS + 1);
@@ -55,8 +56,8 @@ pub fn write_report(
     receptors: Receptors,
     out: &mut [u8],
 ) -> Told
-    ensures { λ r. ⌜ r ≡ writtenOutcome (scenarioFrom site chemicals receptors) (length (now (out .entry))) ⌝ }
-    ensures { λ _. ⌜ now (out .exit) ≡ writtenBuffer (scenarioFrom site chemicals receptors) (now (out .entry)) ⌝ }
+    ensures { λ r. ⌜ r ≡ writtenOutcome writtenRows (scenarioFrom site chemicals receptors) (length (now (out .entry))) ⌝ }
+    ensures { λ _. ⌜ now (out .exit) ≡ writtenBuffer writtenRows (scenarioFrom site chemicals receptors) (now (out .entry)) ⌝ }
 {
     if MAX_CHEMICALS < chemicals.count {
         return refused(TOO_MANY);

@@ -9,7 +9,8 @@ use Rattle.pair.specs.Calls as calls
 use Rattle.equations.specs.Series.{phi, psi, pairSeries}
 use Rattle.slots.specs.declared.Sort.the-variants.{Ordinary, Composite}
 use Rattle.totals.specs.Totals.{totalOf}
-use Rattle.report.specs.Report.{ordinary, outcomeOf}
+use Rattle.report.specs.Forms.{outcomeOf}
+use Rattle.report.specs.Report.{ordinary}
 use Rattle.composite.specs.Composite.{composite}
 use Rattle.zilmorga.specs.Numbers.{numbersOf}
 use Rattle.zilmorga.specs.Calls.{leaves, readTold, onOnePair, onTwoPairs, comparison, unitsLeft}

@@ -5,6 +5,8 @@ use denote.Ref.{now}
 use Rattle.deck.specs.declared.Reading.{Reading}
 use Rattle.deck.specs.DeckCase.{readOf}
 use Rattle.scenario.specs.Scenario.{scenarioWith}
+use Rattle.report.specs.InMemory.{writtenRows}
+use Rattle.report.proofs.ReportLaws.{report-prints}
 use Rattle.report.proofs.CallLaws.{deck-stops, deck-read, answers}
 use Rattle.composite.specs.Composite.{composite}
 use Rattle.composite.proofs.Demands.{composite-sounds, stages-few}
@@ -47,7 +49,8 @@ returns-2 c =
     let a = c .before .before .before .before .before .before .before .before .before .before .args in
     let reading = c .before .before .before .before .before .before .before .read .ensures .0 in
     let none = c .before .before .before .before .before .enum-told .given .1 in
-    answers composite (now (a .deck)) (now (a .out)) _ reading none (composite-sounds .sound (now (a .deck)) (deck-read composite (now (a .deck)) (now (a .out)) _ reading none)) _ (c .before .before .before .before .composite-of .ensures) _ _ (c .before .before .write-report .ensures .0) (c .before .before .write-report .ensures .1)
+    answers composite (now (a .deck)) (now (a .out)) _ reading none (composite-sounds .sound (now (a .deck)) (deck-read composite (now (a .deck)) (now (a .out)) _ reading none))
+    writtenRows (report-prints _ (composite-sounds .sound (now (a .deck)) (deck-read composite (now (a .deck)) (now (a .out)) _ reading none))) _ (c .before .before .before .before .composite-of .ensures) _ _ (c .before .before .write-report .ensures .0) (c .before .before .write-report .ensures .1)
 
 pub report-spec : {M : Type 1} → statement M
 report-spec =

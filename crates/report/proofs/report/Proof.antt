@@ -6,7 +6,9 @@ use Rattle.deck.specs.declared.Reading.{Reading}
 use Rattle.deck.specs.DeckCase.{readOf}
 use Rattle.scenario.specs.Scenario.{scenarioWith}
 use Rattle.report.specs.Report.{ordinary}
+use Rattle.report.specs.InMemory.{writtenRows}
 use Rattle.report.proofs.CallLaws.{deck-stops, deck-read, answers}
+use Rattle.report.proofs.ReportLaws.{report-prints}
 use Rattle.report.proofs.DemandTwo.{ordinary-sounds}
 use Rattle.report.proofs.report.Statement.{statement}
 use Rattle.report.proofs.report.Tie as tie
@@ -44,7 +46,8 @@ returns-2 c =
     let a = c .before .before .before .before .before .before .before .before .before .before .args in
     let reading = c .before .before .before .before .before .before .before .read .ensures .0 in
     let none = c .before .before .before .before .before .enum-told .given .1 in
-    answers ordinary (now (a .deck)) (now (a .out)) _ reading none (ordinary-sounds .sound (now (a .deck)) (deck-read ordinary (now (a .deck)) (now (a .out)) _ reading none)) _ (c .before .before .before .before .entered-from .ensures) _ _ (c .before .before .write-report .ensures .0) (c .before .before .write-report .ensures .1)
+    answers ordinary (now (a .deck)) (now (a .out)) _ reading none (ordinary-sounds .sound (now (a .deck)) (deck-read ordinary (now (a .deck)) (now (a .out)) _ reading none))
+    writtenRows (report-prints _ (ordinary-sounds .sound (now (a .deck)) (deck-read ordinary (now (a .deck)) (now (a .out)) _ reading none))) _ (c .before .before .before .before .entered-from .ensures) _ _ (c .before .before .write-report .ensures .0) (c .before .before .write-report .ensures .1)
 
 pub report-spec : {M : Type 1} → statement M
 report-spec =

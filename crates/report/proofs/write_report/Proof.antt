@@ -4,9 +4,9 @@ use borrow.Author.Needs.{needs}
 use denote.Ref.{now}
 use lib.ListN.{length}
 use Rattle.scenario.specs.Scenario.{scenarioFrom}
-use Rattle.sheet.specs.Sheet.{linesPerReceptor}
-use Rattle.report.specs.Report.{linesOfReport, lengthOf}
+use Rattle.report.specs.InMemory.{reportIn, writtenRows}
 use Rattle.sheet.proofs.Held.{cells-many}
+use Rattle.report.proofs.ReportLaws.{length-is, rows-from, past-rows}
 use Rattle.report.proofs.CallLaws.{many-chemicals, many-receptors, too-short, sheet-stops, written}
 use Rattle.report.proofs.write_report.Statement.{statement}
 use Rattle.report.proofs.write_report.Tie as tie
@@ -17,7 +17,7 @@ refused-requires c κs = search needs
 returns : tie.Need-returns
 returns c =
     let a = c .before .before .before .before .args in
-    many-chemicals (scenarioFrom (a .site) (a .chemicals) (a .receptors)) (now (a .out)) (c .before .if1 .taken) (c .refused .result) (c .refused .ensures)
+    many-chemicals writtenRows (scenarioFrom (a .site) (a .chemicals) (a .receptors)) (now (a .out)) (c .before .if1 .taken) (c .refused .result) (c .refused .ensures)
 
 refused-requires-2 : tie.Need-refused-requires-2
 refused-requires-2 c κs = search needs
@@ -25,7 +25,7 @@ refused-requires-2 c κs = search needs
 returns-2 : tie.Need-returns-2
 returns-2 c =
     let a = c .before .before .before .before .before .before .args in
-    many-receptors (scenarioFrom (a .site) (a .chemicals) (a .receptors)) (now (a .out)) (c .before .before .before .if1 .left) (c .before .if2 .taken) (c .refused2 .result) (c .refused2 .ensures)
+    many-receptors writtenRows (scenarioFrom (a .site) (a .chemicals) (a .receptors)) (now (a .out)) (c .before .before .before .if1 .left) (c .before .if2 .taken) (c .refused2 .result) (c .refused2 .ensures)
 
 length-of-requires : tie.Need-length-of-requires
 length-of-requires c κs = search needs
@@ -34,10 +34,9 @@ refused-requires-3 : tie.Need-refused-requires-3
 refused-requires-3 c κs = search needs
 
 returns-3 : tie.Need-returns-3
-unfolding lengthOf linesOfReport linesPerReceptor
 returns-3 c =
     let a = c .before .before .before .before .before .before .before .before .args in
-    too-short (scenarioFrom (a .site) (a .chemicals) (a .receptors)) (now (a .out)) (c .before .before .before .before .before .if1 .left) (c .before .before .before .if2 .left) (rw (c .before .before .length-of .ensures) at (c .before .if3 .taken)) (c .refused3 .result) (c .refused3 .ensures)
+    too-short writtenRows (scenarioFrom (a .site) (a .chemicals) (a .receptors)) (now (a .out)) (c .before .before .before .before .before .if1 .left) (c .before .before .before .if2 .left) (rw (length-is (scenarioFrom (a .site) (a .chemicals) (a .receptors)) _ (c .before .before .length-of .ensures)) at (c .before .if3 .taken)) (c .refused3 .result) (c .refused3 .ensures)
 
 counts-of-requires : tie.Need-counts-of-requires
 counts-of-requires c κs = search needs
@@ -52,11 +51,10 @@ tell-requires : tie.Need-tell-requires
 tell-requires c κs = search needs
 
 returns-4 : tie.Need-returns-4
-unfolding lengthOf linesOfReport linesPerReceptor
 returns-4 c =
     let a = c .before .before .before .before .before .before .before .before .before .before .before .before .args in
-    let room = rw (c .before .before .before .before .before .before .length-of .ensures) at (c .before .before .before .before .before .if3 .left) in
-    sheet-stops (scenarioFrom (a .site) (a .chemicals) (a .receptors)) (now (a .out)) (c .before .before .before .before .before .before .before .before .before .if1 .left) (c .before .before .before .before .before .before .before .if2 .left) room _ (c .before .before .before .counts-of .ensures .0) _ _ _ _ (c .before .enum-told2 .given .1) (c .tell .ensures)
+    let room = rw (length-is (scenarioFrom (a .site) (a .chemicals) (a .receptors)) _ (c .before .before .before .before .before .before .length-of .ensures)) at (c .before .before .before .before .before .if3 .left) in
+    sheet-stops writtenRows (scenarioFrom (a .site) (a .chemicals) (a .receptors)) (now (a .out)) (c .before .before .before .before .before .before .before .before .before .if1 .left) (c .before .before .before .before .before .before .before .if2 .left) room _ (c .before .before .before .counts-of .ensures .0) _ _ _ _ (c .before .enum-told2 .given .1) (c .tell .ensures)
 
 slice-aggregate-write-rows : tie.Need-slice-aggregate-write-rows
 slice-aggregate-write-rows c =
@@ -70,13 +68,14 @@ same-length : tie.Need-same-length
 same-length c = search needs
 
 returns-5 : tie.Need-returns-5
-unfolding lengthOf linesOfReport linesPerReceptor
 returns-5 c =
     let a = c .before .before .before .before .before .before .before .before .before .before .before .before .before .before .before .before .args in
-    let long = c .before .before .before .before .before .before .before .before .before .before .length-of .ensures in
+    let scenario = scenarioFrom (a .site) (a .chemicals) (a .receptors) in
+    let long = length-is scenario _ (c .before .before .before .before .before .before .before .before .before .before .length-of .ensures) in
     let room = rw long at (c .before .before .before .before .before .before .before .before .before .if3 .left) in
     let worked = c .before .before .before .before .before .before .before .counts-of in
-    written (scenarioFrom (a .site) (a .chemicals) (a .receptors)) (now (a .out)) (c .before .before .before .before .before .before .before .before .before .before .before .before .before .if1 .left) (c .before .before .before .before .before .before .before .before .before .before .before .if2 .left) room _ (worked .ensures .0) (c .before .before .before .before .before .enum-told .given .1) _ (worked .ensures .1) _ _ long (c .before .before .write-rows .ensures)
+    written writtenRows (scenarioFrom (a .site) (a .chemicals) (a .receptors)) (now (a .out)) (c .before .before .before .before .before .before .before .before .before .before .before .before .before .if1 .left) (c .before .before .before .before .before .before .before .before .before .before .before .if2 .left) room _ (worked .ensures .0) (c .before .before .before .before .before .enum-told .given .1) _ (worked .ensures .1)
+    (λ cells. reportIn cells (a .chemicals) (a .receptors .list) (a .receptors .count)) (rows-from scenario) _ _ long (past-rows scenario _ _ (now (a .out)) (c .before .before .write-rows .ensures))
 
 pub write-report-spec : {M : Type 1} → statement M
 write-report-spec =
