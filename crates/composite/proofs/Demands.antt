@@ -7,6 +7,7 @@ use native.Mathlib.Omega.{arith}
 use lib.Dec.{leb, lit≤}
 use lib.IntN.{ℤ}
 use lib.ListN.{getD}
+use Rattle.spelling.specs.Columns.{idWidth}
 use Rattle.pair.specs.declared.Pair.{Pair}
 use Rattle.pair.specs.Fraction.{Fraction, minus, times, over}
 use Rattle.pair.specs.Calls.{Outcome, is, entry, onePair}
@@ -14,7 +15,7 @@ use Rattle.pair.proofs.Promises.{_=ᶠ_}
 use Rattle.times.specs.declared.Years.{Years}
 use Rattle.times.specs.Times as years
 use Rattle.times.specs.Times.{amount}
-use Rattle.sizes.specs.Sizes.{mostStages}
+use Rattle.sizes.specs.Sizes.{mostStages, slotsPerRecord}
 use Rattle.slots.specs.declared.Owner.{Owner}
 use Rattle.slots.specs.declared.Owner.the-variants.{Receptor}
 use Rattle.slots.specs.declared.Sort.the-variants.{Composite}
@@ -72,7 +73,7 @@ unfolding neverZero ruleOf entryRule placeOf ownerOf placeIn isIn same table
 years-above = refl
 
 module _ (case : Case) (ranged : Ranged Composite case) where
-  few : lastStage case < 8
+  few : lastStage case < mostStages
   unfolding lastStage
   few = omega (arith, ranged .few-receptors, ranged .some-receptors)
 
@@ -114,9 +115,9 @@ module _ (case : Case) (ranged : Ranged Composite case) where
   slot-taken : (s : Slot) → ownerOf s ≡ Receptor → pairComposite case (placeOf s) ≡ is (valueIn (compositeReceptor case .values) (placeOf s))
   unfolding compositeReceptor receptorWith valueIn places
   slot-taken s e =
-      let k : placeOf s < 24 = subst (λ (o : Owner). placeOf s < places o) e (inside s) in
+      let k : placeOf s < slotsPerRecord = subst (λ (o : Owner). placeOf s < places o) e (inside s) in
       answer-taken (ofSlot s) (pairComposite case (placeOf s)) (composed fractions (exactStage case) exact-sum (lastStage case) (placeOf s)) (slot-good s e)
-      ∙ ap (λ (p : Pair). is p) (sym (tabulated (λ i. orOne (pairComposite case i)) onePair 24 (placeOf s) k))
+      ∙ ap (λ (p : Pair). is p) (sym (tabulated (λ i. orOne (pairComposite case i)) onePair slotsPerRecord (placeOf s) k))
 
   receptor-good : (j : ℕ) → j < 1 → (s : Slot) → ownerOf s ≡ Receptor
       → Good (ofSlot s) (is (valueIn (getD (compositeFrom case .list) j noReceptor .values) (placeOf s))) (exactComposite case j s)
@@ -177,7 +178,7 @@ module _ (case : Case) (ranged : Ranged Composite case) where
         exposed = set-against;
       }
 
-ids : (deck : List ℕ) → Ranged Composite (caseOf deck) → (j : ℕ) → j < 1 → receptorIn (scenarioOf composite deck) j .id < 10 ^ 6
+ids : (deck : List ℕ) → Ranged Composite (caseOf deck) → (j : ℕ) → j < 1 → receptorIn (scenarioOf composite deck) j .id < 10 ^ idWidth
 unfolding receptorIn scenarioOf composite scenarioWith compositeFrom compositeReceptor receptorWith
 ids deck ranged zero h = small-ids deck .0 0 (ranged .some-receptors)
 ids deck ranged (suc j) h = absurd (omega arith)

@@ -18,7 +18,7 @@ use Rattle.equations.proofs.ValueLaws.{read-any}
 use Rattle.equations.specs.declared.Values.{Values}
 use Rattle.cases.specs.declared.Case.{Case}
 use Rattle.cases.specs.declared.Record.{Record}
-use Rattle.sizes.specs.Sizes.{slotsPerRecord}
+use Rattle.sizes.specs.Sizes.{slotsPerRecord, mostStages}
 use Rattle.lists.specs.Lists.{tabulate}
 use Rattle.cases.specs.Cases.{noRecord, valueAt, receptorAt}
 use Rattle.scenario.specs.declared.Receptor.{Receptor}
@@ -50,15 +50,15 @@ weight-is records years blank none j k h l value e = ap₂ (after product) (year
 
 -- of the years that were entered, the sums are those of the stages
 module _ (records : List Record) (years : List Pair) (entered : years ≡ yearsIn records) where
-  year-entered : (j : ℕ) → j < 8 → yearAt years j ≡ stageIn records j (placeOf "years")
+  year-entered : (j : ℕ) → j < mostStages → yearAt years j ≡ stageIn records j (placeOf "years")
   unfolding yearAt stageIn yearsIn
-  year-entered j h = ap (λ (p : Pair). is p) (ap (λ (l : List Pair). getD l j onePair) entered ∙ tabulated (λ i. pairIn records i (placeOf "years")) onePair 8 j h)
+  year-entered j h = ap (λ (p : Pair). is p) (ap (λ (l : List Pair). getD l j onePair) entered ∙ tabulated (λ i. pairIn records i (placeOf "years")) onePair mostStages j h)
 
-  pub years-summed : (last : ℕ) → last < 8 → summed pairs (yearAt years) last ≡ sumOfYears pairs (stageIn records) last
+  pub years-summed : (last : ℕ) → last < mostStages → summed pairs (yearAt years) last ≡ sumOfYears pairs (stageIn records) last
   unfolding sumOfYears
   years-summed last h = summed-same (yearAt years) (λ j. stageIn records j (placeOf "years")) last (λ j l. year-entered j (omega arith))
 
-  pub weights-summed : (last k : ℕ) → last < 8
+  pub weights-summed : (last k : ℕ) → last < mostStages
       → summed pairs (weightAt records years k) last ≡ summed pairs (λ j. after product (stageIn records j (placeOf "years")) (stageIn records j k)) last
   unfolding weightAt
   weights-summed last k h =

@@ -8,6 +8,7 @@ use native.Mathlib.Nat.{mul-pos, mul-le-mul-right, le-of-mul-le-mul-right, eq-ze
 use native.Mathlib.Omega.{arith}
 use lib.Dec.{lit≤}
 use lib.IntN.{ℤ}
+use Rattle.sizes.specs.Sizes.{mostStages}
 use Rattle.pair.specs.Fraction.{Fraction, Proper, plus}
 use Rattle.pair.specs.Number.{depth, place}
 use Rattle.pair.specs.Calls.{Outcome, is, refused}
@@ -108,7 +109,7 @@ module _ (a b : Years) (x y : Fraction) (m n : ℕ) (few : m + n < 10) (p : Last
         most = omega (arith, p .most, q .most);
       }
 
-module _ (y : ℕ → Years) (x : ℕ → Fraction) (last : ℕ) (few : last < 8) (each : (j : ℕ) → j ≤ last → Lasting 1 (y j) (x j)) where
+module _ (y : ℕ → Years) (x : ℕ → Fraction) (last : ℕ) (few : last < mostStages) (each : (j : ℕ) → j ≤ last → Lasting 1 (y j) (x j)) where
   pub together-lasts : (n : ℕ) → n ≤ last → Lasting (suc n) (yearsTogether y n) (summed fractions x n)
   unfolding yearsTogether summed fractions
   together-lasts zero h = each 0 (omega arith)

@@ -8,6 +8,7 @@ use native.Mathlib.Omega.{arith}
 use borrow.Author.Tests.{leb-true}
 use lib.Dec.{leb, eqb}
 use lib.IntN.{pos}
+use Rattle.sizes.specs.Sizes.{mostStages}
 use Rattle.pair.specs.declared.Pair.{Pair}
 use Rattle.pair.specs.Fraction.{Fraction}
 use Rattle.pair.specs.Calls.{Outcome}
@@ -51,7 +52,7 @@ average b n = joined quotients (weights b n) (total n)
 taken : Bool → Profile → Bool
 taken b P = P .answered && (leb (P .size) 74 && (leb (P .width) 35 && (not b || P .positive)))
 
-all-taken : (b : Bool) (n : ℕ) → n < 8 → (taken true (total n) && (taken true (days n) && (taken b (average b n) && (weights b n .answered && total n .answered)))) ≡ true
+all-taken : (b : Bool) (n : ℕ) → n < mostStages → (taken true (total n) && (taken true (days n) && (taken b (average b n) && (weights b n .answered && total n .answered)))) ≡ true
 unfolding taken total days average weights summed profiles ofNumber joined joint spread positives usable
 all-taken true zero h = refl
 all-taken true (suc zero) h = refl
@@ -100,7 +101,7 @@ weighted-answered true = refl
 weighted-answered false = refl
 
 -- ---- the composite of stages 0 to last, whose exposure, years and values are good
-module _ (stage : ℕ → ℕ → Outcome Pair) (exact : ℕ → ℕ → Fraction) (exposure : Outcome Pair) (exact-exposure : Fraction) (last : ℕ) (few : last < 8) (s : Slot) (e : ownerOf s ≡ Receptor)
+module _ (stage : ℕ → ℕ → Outcome Pair) (exact : ℕ → ℕ → Fraction) (exposure : Outcome Pair) (exact-exposure : Fraction) (last : ℕ) (few : last < mostStages) (s : Slot) (e : ownerOf s ≡ Receptor)
     (of-exposure : Good (answeredAs 27 1 true) exposure exact-exposure)
     (of-years : (j : ℕ) → j ≤ last → Good years (stage j (placeOf "years")) (exact j (placeOf "years")))
     (of-values : (j : ℕ) → j ≤ last → Good (answeredAs 20 1 (neverZero s)) (stage j (placeOf s)) (exact j (placeOf s))) where

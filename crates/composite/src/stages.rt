@@ -17,6 +17,7 @@ use times::Time;
 use times::Years;
 ghost use mathlib.Core.Path.{_≡_};
 ghost use Prim.Native.Nat.{_<_, _≤_};
+ghost use Rattle.sizes.specs.Sizes.{mostStages, slotsPerRecord};
 ghost use Rattle.pair.specs.Calls.{answer};
 ghost use Rattle.times.specs.Times.{together};
 ghost use Rattle.slots.specs.Slots.{placeOf};
@@ -33,7 +34,7 @@ struct YearPairs {
 
 // A stage's value at place k.
 fn value_in(stage: Record, k: usize) -> Pair
-    requires { ⌜ k < 24 ⌝ }
+    requires { ⌜ k < slotsPerRecord ⌝ }
     ensures { λ r. ⌜ r ≡ pairOf (valueAt stage k) ⌝ }
 {
     let slot = stage.slots[k];
@@ -56,7 +57,7 @@ fn years_of(stages: Receptors) -> YearPairs
 
 // The sum of the years of stages 0 to last, in deck order.
 fn sum_of_years(years: YearPairs, last: usize) -> Answer
-    requires { ⌜ last < 8 ⌝ }
+    requires { ⌜ last < mostStages ⌝ }
     ensures { λ r. ⌜ answer r ≡ summed pairs (yearAt (years .list)) last ⌝ }
 {
     let first = years.list[0];
@@ -73,7 +74,7 @@ fn sum_of_years(years: YearPairs, last: usize) -> Answer
 
 // The sum of years × value at place k, of stages 0 to last. A stage is copied out for its turn; all of them are passed on once for each place.
 fn weighted_sum(stages: Receptors, years: YearPairs, last: usize, k: usize) -> Answer
-    requires { ⌜ (last < 8) × (k < 24) ⌝ }
+    requires { ⌜ (last < mostStages) × (k < slotsPerRecord) ⌝ }
     ensures { λ r. ⌜ answer r ≡ summed pairs (weightAt (stages .records) (years .list) k) last ⌝ }
 {
     let first = stages.records[0];
@@ -110,7 +111,7 @@ fn added(sum: Years, next: Years) -> Years
 
 // The exposure of stages 0 to last, exact.
 fn time_exposed(stages: Receptors, last: usize) -> Years
-    requires { ⌜ last < 8 ⌝ }
+    requires { ⌜ last < mostStages ⌝ }
     ensures { λ y. ⌜ y ≡ yearsTogether (timeIn (stages .records)) last ⌝ }
 {
     let first = stages.records[0];
@@ -134,7 +135,7 @@ fn composed_at(
     last: usize,
     k: usize,
 ) -> Answer
-    requires { ⌜ (last < 8) × (k < 24) × (years .list ≡ yearsIn (stages .records)) ⌝ }
+    requires { ⌜ (last < mostStages) × (k < slotsPerRecord) × (years .list ≡ yearsIn (stages .records)) ⌝ }
     requires { ⌜ answer total ≡ sumOfYears pairs (stageIn (stages .records)) last ⌝ }
     ensures { λ r. ⌜ answer r ≡ composed pairs (stageIn (stages .records)) (answer exposure) last k ⌝ }
 {
@@ -147,7 +148,7 @@ fn composed_at(
 }
 
 fn composed_values(stages: Receptors, exposure: Answer, last: usize) -> Values
-    requires { ⌜ last < 8 ⌝ }
+    requires { ⌜ last < mostStages ⌝ }
     ensures { λ r. ⌜ r .list ≡ composedIn (stages .records) (answer exposure) last ⌝ }
 {
     let years = years_of(stages);
@@ -175,7 +176,7 @@ fn no_receptor() -> Receptor
 
 // A single receptor, made of all of the deck's, under the first one's id.
 pub(crate) fn composite_of(case: Case) -> scenario::Receptors
-    requires { ⌜ (1 ≤ case .receptors .count) × (case .receptors .count ≤ 8) ⌝ }
+    requires { ⌜ (1 ≤ case .receptors .count) × (case .receptors .count ≤ mostStages) ⌝ }
     ensures { λ r. ⌜ r ≡ compositeFrom case ⌝ }
 {
     let stages = case.receptors;

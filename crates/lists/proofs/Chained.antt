@@ -2,7 +2,7 @@
 use mathlib.Core.Path.{_≡_, refl, sym, ap, _∙_}
 use mathlib.Core.List.{List, _++_, append-assoc, append-nil}
 use Prim.Native.Nat.{ℕ, zero, suc, _+_, _-_, _*_, _/_, _%_, _<_}
-use native.Mathlib.Nat.{add-zero, add-suc}
+use native.Mathlib.Nat.{add-zero, add-suc, add-comm, zero-mul, suc-mul, div-eq-of-lt, mod-eq-of-lt, mul-add-div-right, add-mul-mod-self-right}
 use native.Mathlib.Numerals.{add-one}
 use native.Mathlib.Omega.{arith}
 use lib.ListN.{length, length-append}
@@ -43,20 +43,19 @@ module _ {A : Type 0} where
   chained-length f zero m h = omega arith
   chained-length f (suc n) m h = length-append (chained f n) (f n) ∙ omega (arith, chained-length f n m h, h n)
 
-  -- two loops, the inner one of six, as one
-  pub flat : (f : ℕ → ℕ → List A) (n : ℕ) → chained (λ i. chained (f i) 6) n ≡ chained (λ q. f (q / 6) (q % 6)) (n * 6)
+  -- two loops, the inner one of m, as one
+  pub flat : (m : ℕ) → 0 < m → (f : ℕ → ℕ → List A) (n : ℕ) → chained (λ i. chained (f i) m) n ≡ chained (λ q. f (q / m) (q % m)) (n * m)
   unfolding chained
-  flat f zero = refl
-  flat f (suc n) =
-      let more : suc n * 6 ≡ n * 6 + 6 = omega arith in
-      let same : chained (f n) 6 ≡ chained (λ k. f ((n * 6 + k) / 6) ((n * 6 + k) % 6)) 6 =
-      chained-same (f n) (λ k. f ((n * 6 + k) / 6) ((n * 6 + k) % 6)) 6
+  flat m some f zero = ap (chained (λ q. f (q / m) (q % m))) (sym (zero-mul m))
+  flat m some f (suc n) =
+      let same : chained (f n) m ≡ chained (λ k. f ((n * m + k) / m) ((n * m + k) % m)) m =
+      chained-same (f n) (λ k. f ((n * m + k) / m) ((n * m + k) % m)) m
       (λ k h.
-      let d : n ≡ (n * 6 + k) / 6 = omega arith in
-      let m : k ≡ (n * 6 + k) % 6 = omega arith in
-      ap (λ (i : ℕ). f i k) d ∙ ap (λ (p : ℕ). f ((n * 6 + k) / 6) p) m)
+      let d : n ≡ (n * m + k) / m = sym (mul-add-div-right some n k ∙ ap (λ (x : ℕ). n + x) (div-eq-of-lt h) ∙ add-zero n) in
+      let r : k ≡ (n * m + k) % m = sym (ap (λ (x : ℕ). x % m) (add-comm (n * m) k) ∙ add-mul-mod-self-right k n m ∙ mod-eq-of-lt h) in
+      ap (λ (i : ℕ). f i k) d ∙ ap (λ (p : ℕ). f ((n * m + k) / m) p) r)
       in
-      ap (λ (l : List A). l ++ chained (f n) 6) (flat f n)
-      ∙ ap (λ (l : List A). chained (λ q. f (q / 6) (q % 6)) (n * 6) ++ l) same
-      ∙ sym (chained-add (λ q. f (q / 6) (q % 6)) (n * 6) 6)
-      ∙ ap (chained (λ q. f (q / 6) (q % 6))) (sym more)
+      ap (λ (l : List A). l ++ chained (f n) m) (flat m some f n)
+      ∙ ap (λ (l : List A). chained (λ q. f (q / m) (q % m)) (n * m) ++ l) same
+      ∙ sym (chained-add (λ q. f (q / m) (q % m)) (n * m) m)
+      ∙ ap (chained (λ q. f (q / m) (q % m))) (sym (suc-mul n m))

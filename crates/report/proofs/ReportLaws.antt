@@ -4,6 +4,7 @@ use mathlib.Core.List.{List, [], _∷_, _++_}
 use Prim.Native.Nat.{ℕ, _+_, _*_, _/_, _%_, _<_}
 use native.Mathlib.Numerals.{add-one}
 use native.Mathlib.Omega.{arith}
+use lib.Dec.{lit<}
 use lib.ListN.{length, getD, drop, length-append}
 use Rattle.text.specs.Text.{reportLineWidth, linesText}
 use Rattle.report.specs.Forms.{lengthOf}
@@ -97,7 +98,7 @@ module _ (scenario : Scenario) {exact : Exact} (sound : Sound scenario exact) (s
         ap (λ (l : List Row). l ++ (totalRowIn (cellsOf scenario) j (receptorIn scenario j .id) (n * pathwaysPerChemical) ∷ []))
         (chained-same (λ q. rowIn (cellsOf scenario) j (receptorIn scenario j .id) (chemicalIn scenario (q / pathwaysPerChemical) .id) q ∷ []) (λ q. line (q / pathwaysPerChemical) (q % pathwaysPerChemical)) (n * pathwaysPerChemical)
         (λ q h. ap (λ (row : Row). row ∷ []) (line-held q h))
-        ∙ sym (flat line n))
+        ∙ sym (flat pathwaysPerChemical (lit< tt) line n))
         ∙ ap (λ (row : Row). chained (λ i. chained (line i) pathwaysPerChemical) n ++ (row ∷ [])) total-row-held
 
   pub rows-held : reportIn (cellsOf scenario) (scenario .chemicals) (scenario .receptors .list) (scenario .receptors .count) ≡ rowsOf scenario

@@ -16,6 +16,7 @@ use text::LINE_WIDTH;
 ghost use mathlib.Core.Path.{_≡_};
 ghost use Prim.Native.Nat.{_*_, _≤_};
 ghost use lib.ListN.{length};
+ghost use Rattle.sizes.specs.Sizes.{maxChemicals, mostReceptors};
 ghost use Rattle.text.specs.Text.{reportLineWidth};
 ghost use Rattle.scenario.specs.Scenario.{scenarioFrom};
 ghost use Rattle.report.specs.Forms.{outcomeOf, bufferOf};
@@ -31,7 +32,7 @@ const TOO_SHORT: u32 = 51;
 
 // How many bytes a report has for so many chemicals and receptors.
 fn length_of(chemicals: usize, receptors: usize) -> usize
-    requires { ⌜ (chemicals ≤ 16) × (receptors ≤ 4) ⌝ }
+    requires { ⌜ (chemicals ≤ maxChemicals) × (receptors ≤ mostReceptors) ⌝ }
     ensures { λ r. ⌜ r ≡ reportLineWidth * (receptors * perReceptor chemicals) ⌝ }
 {
     LINE_WIDTH * (receptors * (chemicals * PATHWAYS + 1))

@@ -10,6 +10,7 @@ ghost use mathlib.Core.Path.{_≡_};
 ghost use mathlib.Core.List.{_++_};
 ghost use Prim.Native.Nat.{_*_, _≤_};
 ghost use lib.ListN.{length, drop};
+ghost use Rattle.sizes.specs.Sizes.{maxChemicals, mostReceptors};
 ghost use Rattle.text.specs.Text.{reportLineWidth, linesText};
 ghost use Rattle.report.specs.InMemory.{perReceptor, rowIn, totalRowIn, rowsIn, reportIn};
 
@@ -40,7 +41,7 @@ fn total_row(cells: &[u64], receptor: usize, id: u32, lines: usize) -> Row
 
 // Writes a receptor's lines and its total line into their part of the report.
 fn write_receptor(part: &mut [u8], cells: &[u64], receptor: usize, id: u32, chemicals: Chemicals)
-    requires { ⌜ chemicals .count ≤ 16 ⌝ }
+    requires { ⌜ chemicals .count ≤ maxChemicals ⌝ }
     requires { ⌜ length (now part) ≡ reportLineWidth * perReceptor (chemicals .count) ⌝ }
     ensures { λ _. ⌜ now (part .exit) ≡ linesText (rowsIn (now (cells .entry)) receptor id chemicals) ⌝ }
 {
@@ -61,7 +62,7 @@ fn write_receptor(part: &mut [u8], cells: &[u64], receptor: usize, id: u32, chem
 
 // Writes the report from the start of the buffer.
 pub(crate) fn write_rows(out: &mut [u8], cells: &[u64], chemicals: Chemicals, receptors: Receptors)
-    requires { ⌜ (chemicals .count ≤ 16) × (receptors .count ≤ 4) ⌝ }
+    requires { ⌜ (chemicals .count ≤ maxChemicals) × (receptors .count ≤ mostReceptors) ⌝ }
     requires { ⌜ reportLineWidth * (receptors .count * perReceptor (chemicals .count)) ≤ length (now out) ⌝ }
     ensures { λ _. ⌜ now (out .exit) ≡ linesText (reportIn (now (cells .entry)) chemicals (receptors .list) (receptors .count)) ++ drop (reportLineWidth * (receptors .count * perReceptor (chemicals .count))) (now (out .entry)) ⌝ }
 {

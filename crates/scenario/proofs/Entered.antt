@@ -7,6 +7,7 @@ use native.Mathlib.Omega.{arith}
 use lib.Dec.{lit<}
 use lib.IntN.{ℤ}
 use lib.ListN.{length, getD}
+use Rattle.sizes.specs.Sizes.{mostReceptors}
 use Rattle.pair.specs.declared.Pair.{Pair}
 use Rattle.pair.specs.Fraction.{minus}
 use Rattle.pair.specs.Calls.{is, entry}
@@ -42,7 +43,7 @@ T2-owner = refl
 module _ (case : Case) (ranged : Ranged Ordinary case) where
   pub entered-at : (j : ℕ) → j < case .receptors .count → getD (enteredFrom case .list) j noReceptor ≡ entered (depositionOf (case .site)) (receptorAt case j)
   unfolding enteredFrom
-  entered-at j h = tabulated (λ k. entered (depositionOf (case .site)) (receptorAt case k)) noReceptor 4 j (omega (arith, ranged .few-receptors))
+  entered-at j h = tabulated (λ k. entered (depositionOf (case .site)) (receptorAt case k)) noReceptor mostReceptors j (omega (arith, ranged .few-receptors))
 
   entered-good : (j : ℕ) → j < case .receptors .count → (s : Slot) → ownerOf s ≡ Receptor
       → Good (ofSlot s) (is (valueIn (getD (enteredFrom case .list) j noReceptor .values) (placeOf s))) (exactFrom case j s)
@@ -85,11 +86,11 @@ module _ (case : Case) (ranged : Ranged Ordinary case) where
   ordinary-sound = made-sound Ordinary case ranged (enteredFrom case) (exactFrom case) (ranged .some-receptors) (ranged .few-receptors) entered-good later-entered
 
 -- the receptors as they are made: the first four records entered
-pub entered-all : (case : Case) (blank : Record) → 4 ≤ length (case .receptors .records) → (a b c d : receptors.Receptor)
+pub entered-all : (case : Case) (blank : Record) → mostReceptors ≤ length (case .receptors .records) → (a b c d : receptors.Receptor)
     → a ≡ entered (depositionOf (case .site)) (getD (case .receptors .records) 0 blank) → b ≡ entered (depositionOf (case .site)) (getD (case .receptors .records) 1 blank)
     → c ≡ entered (depositionOf (case .site)) (getD (case .receptors .records) 2 blank) → d ≡ entered (depositionOf (case .site)) (getD (case .receptors .records) 3 blank)
     → _≡_ {A = many.Receptors} (record { count = case .receptors .count; list = a ∷ b ∷ c ∷ d ∷ [] }) (enteredFrom case)
 unfolding enteredFrom tabulate receptorAt
 entered-all case blank long a b c d p q r s =
-    let at : (k : ℕ) → k < 4 → getD (case .receptors .records) k blank ≡ getD (case .receptors .records) k noRecord = λ k h. read-any (case .receptors .records) k (omega arith) blank noRecord in
+    let at : (k : ℕ) → k < mostReceptors → getD (case .receptors .records) k blank ≡ getD (case .receptors .records) k noRecord = λ k h. read-any (case .receptors .records) k (omega arith) blank noRecord in
     rw (p, q, r, s, at 0 (lit< tt), at 1 (lit< tt), at 2 (lit< tt), at 3 (lit< tt)) refl

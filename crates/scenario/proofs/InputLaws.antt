@@ -13,6 +13,7 @@ use lib.ListN.{getD, List·getD-map}
 use lib.Pow.{pow-add}
 use lib.Signed.{mag}
 use borrow.Author.Tests.{leb-true, not-true}
+use Rattle.sizes.specs.Sizes.{mostReceptors}
 use Rattle.pair.specs.declared.Pair.{Pair}
 use Rattle.pair.specs.Fraction.{Fraction, rest, minus}
 use Rattle.pair.specs.Number.{depth, place}
@@ -252,7 +253,7 @@ module _ (sort : Sort) (case : Case) (ranged : Ranged sort case) where
           rest = λ z. rest-by i i-small s (ownerOf s) (receptor j s) (fits i i-small s) z;
         }
 
-    pub made-sound : 1 ≤ receptors′ .count → receptors′ .count ≤ 4
+    pub made-sound : 1 ≤ receptors′ .count → receptors′ .count ≤ mostReceptors
         → ((j : ℕ) → j < receptors′ .count → (s : Slot) → ownerOf s ≡ Receptor → Good (ofSlot s) (is (valueIn (getD (receptors′ .list) j noReceptor .values) (placeOf s))) (receptor j s))
         → ((j : ℕ) → j < receptors′ .count → ofLater (getD (receptors′ .list) j noReceptor .stay) .answered ≡ true
         → Good (ofLater (getD (receptors′ .list) j noReceptor .stay)) (is (getD (receptors′ .list) j noReceptor .later)) (minus (receptor j "T2") (fractionOf (valueAt (case .site) (placeOf "tD")))))

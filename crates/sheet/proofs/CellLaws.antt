@@ -11,6 +11,7 @@ use borrow.Author.Tests.{ltb-true, ltb-false}
 use lib.Dec.{ltb, lit<}
 use lib.ListN.{length, getD, set, replicate, length-set}
 use lib.Seq.{ext-getD, getD-set-same, getD-set-other}
+use Rattle.sizes.specs.Sizes.{maxChemicals, mostLines, pathwaysPerChemical}
 use Rattle.equations.specs.declared.Effect.{Effect}
 use Rattle.equations.specs.declared.Effect.the-variants.{Hazard, Cancer}
 use Rattle.equations.specs.declared.Values.{Values}
@@ -20,7 +21,7 @@ use Rattle.scenario.specs.declared.Receptor.{Receptor}
 use Rattle.scenario.specs.declared.Site.{Site}
 use Rattle.sheet.specs.declared.Sources.{Sources}
 use Rattle.scenario.specs.Scenario.{noReceptor}
-use Rattle.sheet.specs.Counts.{Part, Mark, Low, High, cellOf, sideOf, noCells}
+use Rattle.sheet.specs.Counts.{Part, Mark, Low, High, cellOf, sideOf, noCells, allCells, effectCells, receptorCells}
 use Rattle.sheet.specs.Inner.{withCounts, columnsWorked, partOf, CellsHold, CellsEmpty, CellsFilled, SameBelow, SameBut, ZeroFrom}
 
 pub side-small : (e : Effect) → sideOf e < 2
@@ -45,10 +46,10 @@ cleared-more cells k h zero′ i l =
     let most : i ≤ k = omega arith in
     ⊎-elim (λ z. rw z (getD-set-same cells k 0 0 h)) (λ m. getD-set-other cells k i 0 0 (λ z. omega arith) ∙ zero′ i m) (eq-or-lt-of-le most)
 
-pub all-cleared : (cells : List ℕ) → length cells ≡ 2304 → ((i : ℕ) → i < 2304 → getD cells i 0 ≡ 0) → cells ≡ noCells
+pub all-cleared : (cells : List ℕ) → length cells ≡ allCells → ((i : ℕ) → i < allCells → getD cells i 0 ≡ 0) → cells ≡ noCells
 unfolding noCells
 all-cleared cells long zero′ =
-    ext-getD 0 cells noCells (long ∙ sym (length-tabulate (λ k. 0) 0 0 2304)) (λ i h. zero′ i (omega arith) ∙ sym (tabulated (λ k. 0) 0 2304 i (omega arith)))
+    ext-getD 0 cells noCells (long ∙ sym (length-tabulate (λ k. 0) 0 0 allCells)) (λ i h. zero′ i (omega arith) ∙ sym (tabulated (λ k. 0) 0 allCells i (omega arith)))
 
 -- ---- the counts of a line stored
 module _ (cells : List ℕ) (at : ℕ) (columns : Columns) where
@@ -56,49 +57,49 @@ module _ (cells : List ℕ) (at : ℕ) (columns : Columns) where
   marked = set cells at (cellOf Mark columns)
 
   abbrev marked-low : List ℕ
-  marked-low = set marked (at + 96) (cellOf Low columns)
+  marked-low = set marked (at + mostLines) (cellOf Low columns)
 
   counts-length : length (withCounts cells at columns) ≡ length cells
   unfolding withCounts
   counts-length = simp length-set
 
-  counts-other : (k : ℕ) → k ≢ at → k ≢ at + 96 → k ≢ at + 192 → getD (withCounts cells at columns) k 0 ≡ getD cells k 0
+  counts-other : (k : ℕ) → k ≢ at → k ≢ at + mostLines → k ≢ at + 2 * mostLines → getD (withCounts cells at columns) k 0 ≡ getD cells k 0
   unfolding withCounts
   counts-other k a b c =
-      getD-set-other marked-low (at + 192) k (cellOf High columns) 0 c
-      ∙ getD-set-other marked (at + 96) k (cellOf Low columns) 0 b
+      getD-set-other marked-low (at + 2 * mostLines) k (cellOf High columns) 0 c
+      ∙ getD-set-other marked (at + mostLines) k (cellOf Low columns) 0 b
       ∙ getD-set-other cells at k (cellOf Mark columns) 0 a
 
-  counts-at : at + 192 < length cells → (w : Part) (k : ℕ) → k ≡ at + 96 * partOf w → getD (withCounts cells at columns) k 0 ≡ cellOf w columns
+  counts-at : at + 2 * mostLines < length cells → (w : Part) (k : ℕ) → k ≡ at + mostLines * partOf w → getD (withCounts cells at columns) k 0 ≡ cellOf w columns
   unfolding withCounts partOf
   counts-at room Mark k e =
       let p : k ≡ at = omega arith in
       rw p
-      (getD-set-other marked-low (at + 192) at (cellOf High columns) 0 (λ z. omega arith)
-      ∙ getD-set-other marked (at + 96) at (cellOf Low columns) 0 (λ z. omega arith)
+      (getD-set-other marked-low (at + 2 * mostLines) at (cellOf High columns) 0 (λ z. omega arith)
+      ∙ getD-set-other marked (at + mostLines) at (cellOf Low columns) 0 (λ z. omega arith)
       ∙ getD-set-same cells at (cellOf Mark columns) 0 (omega arith))
   counts-at room Low k e =
-      let p : k ≡ at + 96 = omega arith in
+      let p : k ≡ at + mostLines = omega arith in
       rw p
-      (getD-set-other marked-low (at + 192) (at + 96) (cellOf High columns) 0 (λ z. omega arith)
-      ∙ getD-set-same marked (at + 96) (cellOf Low columns) 0 (simp length-set (omega arith)))
+      (getD-set-other marked-low (at + 2 * mostLines) (at + mostLines) (cellOf High columns) 0 (λ z. omega arith)
+      ∙ getD-set-same marked (at + mostLines) (cellOf Low columns) 0 (simp length-set (omega arith)))
   counts-at room High k e =
-      let p : k ≡ at + 192 = omega arith in
-      rw p (getD-set-same marked-low (at + 192) (cellOf High columns) 0 (simp length-set (omega arith)))
+      let p : k ≡ at + 2 * mostLines = omega arith in
+      rw p (getD-set-same marked-low (at + 2 * mostLines) (cellOf High columns) 0 (simp length-set (omega arith)))
 
 -- ---- line q's counts stored, hazard's and cancer's, after those of the lines before it
 module _ (cells : List ℕ) (base q : ℕ) (u v : Columns) where
   abbrev lineStored : List ℕ
-  lineStored = withCounts (withCounts cells (base + q) u) (base + q + 288) v
+  lineStored = withCounts (withCounts cells (base + q) u) (base + q + effectCells) v
 
   pub line-length : length lineStored ≡ length cells
-  line-length = counts-length (withCounts cells (base + q) u) (base + q + 288) v ∙ counts-length cells (base + q) u
+  line-length = counts-length (withCounts cells (base + q) u) (base + q + effectCells) v ∙ counts-length cells (base + q) u
 
   -- no cell of line q
-  line-other : (k : ℕ) → k ≢ base + q → k ≢ base + q + 96 → k ≢ base + q + 192 → k ≢ base + q + 288 → k ≢ base + q + 384 → k ≢ base + q + 480
+  line-other : (k : ℕ) → k ≢ base + q → k ≢ base + q + mostLines → k ≢ base + q + 2 * mostLines → k ≢ base + q + effectCells → k ≢ base + q + (effectCells + mostLines) → k ≢ base + q + (effectCells + 2 * mostLines)
       → getD lineStored k 0 ≡ getD cells k 0
   line-other k a b c d e f =
-      counts-other (withCounts cells (base + q) u) (base + q + 288) v k d (λ z. e (omega arith)) (λ z. f (omega arith)) ∙ counts-other cells (base + q) u k a b c
+      counts-other (withCounts cells (base + q) u) (base + q + effectCells) v k d (λ z. e (omega arith)) (λ z. f (omega arith)) ∙ counts-other cells (base + q) u k a b c
 
   -- the cells of other lines stay
   pub line-others : (n : ℕ) (entry : List ℕ) → q < n → SameBut n base entry cells → SameBut n base entry lineStored
@@ -109,25 +110,25 @@ module _ (cells : List ℕ) (base q : ℕ) (u v : Columns) where
       (λ z. other Cancer Mark q l (omega arith)) (λ z. other Cancer Low q l (omega arith)) (λ z. other Cancer High q l (omega arith))
       ∙ same k other
 
-  module _ (small : q < 96) where
+  module _ (small : q < mostLines) where
     -- another line's cell
-    line-apart : (e : Effect) (w : Part) (k : ℕ) → k ≢ q → k < 96 → getD lineStored (base + 288 * sideOf e + 96 * partOf w + k) 0 ≡ getD cells (base + 288 * sideOf e + 96 * partOf w + k) 0
+    line-apart : (e : Effect) (w : Part) (k : ℕ) → k ≢ q → k < mostLines → getD lineStored (base + effectCells * sideOf e + mostLines * partOf w + k) 0 ≡ getD cells (base + effectCells * sideOf e + mostLines * partOf w + k) 0
     line-apart e w k n l =
         let s : sideOf e < 2 = side-small e in
         let p : partOf w < 3 = part-small w in
-        line-other (base + 288 * sideOf e + 96 * partOf w + k)
+        line-other (base + effectCells * sideOf e + mostLines * partOf w + k)
         (λ z. n (omega arith)) (λ z. n (omega arith)) (λ z. n (omega arith)) (λ z. n (omega arith)) (λ z. n (omega arith)) (λ z. n (omega arith))
 
-    module _ (columns : ℕ → Effect → Columns) (fits : base + q + 480 < length cells) (hazard′ : u ≡ columns q Hazard) (cancer′ : v ≡ columns q Cancer) where
-      line-here : (e : Effect) (w : Part) → getD lineStored (base + 288 * sideOf e + 96 * partOf w + q) 0 ≡ cellOf w (columns q e)
+    module _ (columns : ℕ → Effect → Columns) (fits : base + q + (effectCells + 2 * mostLines) < length cells) (hazard′ : u ≡ columns q Hazard) (cancer′ : v ≡ columns q Cancer) where
+      line-here : (e : Effect) (w : Part) → getD lineStored (base + effectCells * sideOf e + mostLines * partOf w + q) 0 ≡ cellOf w (columns q e)
       unfolding sideOf
       line-here Hazard w =
           let p : partOf w < 3 = part-small w in
-          counts-other (withCounts cells (base + q) u) (base + q + 288) v (base + 288 * 0 + 96 * partOf w + q) (λ z. omega arith) (λ z. omega arith) (λ z. omega arith)
+          counts-other (withCounts cells (base + q) u) (base + q + effectCells) v (base + effectCells * 0 + mostLines * partOf w + q) (λ z. omega arith) (λ z. omega arith) (λ z. omega arith)
           ∙ counts-at cells (base + q) u (omega arith) w _ (omega arith)
           ∙ ap (cellOf w) hazard′
       line-here Cancer w =
-          counts-at (withCounts cells (base + q) u) (base + q + 288) v (omega (arith, counts-length cells (base + q) u)) w _ (omega arith) ∙ ap (cellOf w) cancer′
+          counts-at (withCounts cells (base + q) u) (base + q + effectCells) v (omega (arith, counts-length cells (base + q) u)) w _ (omega arith) ∙ ap (cellOf w) cancer′
 
       pub line-held : CellsHold columns q cells base → CellsHold columns (q + 1) lineStored base
       line-held held e w k h =
@@ -135,14 +136,14 @@ module _ (cells : List ℕ) (base q : ℕ) (u v : Columns) where
           ⊎-elim (λ z. rw z (line-here e w)) (λ l. line-apart e w k (λ z. omega arith) (omega arith) ∙ held e w k l) (eq-or-lt-of-le most)
 
 -- ---- the cells of chemical i's lines filled after those of the chemicals before it
-module _ (base i : ℕ) (before after : List ℕ) (few : i < 16) (same : SameBut 6 (base + i * 6) before after) where
+module _ (base i : ℕ) (before after : List ℕ) (few : i < maxChemicals) (same : SameBut pathwaysPerChemical (base + i * pathwaysPerChemical) before after) where
   -- a cell of another chemical's line
-  chemical-apart : (e : Effect) (w : Part) (q : ℕ) → q < 96 → ((p : ℕ) → p < 6 → q ≢ i * 6 + p)
-      → getD after (base + 288 * sideOf e + 96 * partOf w + q) 0 ≡ getD before (base + 288 * sideOf e + 96 * partOf w + q) 0
+  chemical-apart : (e : Effect) (w : Part) (q : ℕ) → q < mostLines → ((p : ℕ) → p < pathwaysPerChemical → q ≢ i * pathwaysPerChemical + p)
+      → getD after (base + effectCells * sideOf e + mostLines * partOf w + q) 0 ≡ getD before (base + effectCells * sideOf e + mostLines * partOf w + q) 0
   chemical-apart e w q l n =
       let s : sideOf e < 2 = side-small e in
       let t : partOf w < 3 = part-small w in
-      same (base + 288 * sideOf e + 96 * partOf w + q)
+      same (base + effectCells * sideOf e + mostLines * partOf w + q)
       (λ e′ w′ p h z.
       let s′ : sideOf e′ < 2 = side-small e′ in
       let t′ : partOf w′ < 3 = part-small w′ in
@@ -151,10 +152,10 @@ module _ (base i : ℕ) (before after : List ℕ) (few : i < 16) (same : SameBut
   pub chemical-below : (entry : List ℕ) → SameBelow base entry before → SameBelow base entry after
   chemical-below entry below k h = same k (λ e w p l z. omega arith) ∙ below k h
 
-  pub chemical-empty : (n : ℕ) → (i + 1) * 6 ≤ n → CellsEmpty (i * 6) before base → CellsEmpty n after base
+  pub chemical-empty : (n : ℕ) → (i + 1) * pathwaysPerChemical ≤ n → CellsEmpty (i * pathwaysPerChemical) before base → CellsEmpty n after base
   chemical-empty n l empty e w q h m = chemical-apart e w q m (λ p t z. omega arith) ∙ empty e w q (omega arith) m
 
-  pub chemical-zero : ZeroFrom (base + 576) before → ZeroFrom (base + 576) after
+  pub chemical-zero : ZeroFrom (base + receptorCells) before → ZeroFrom (base + receptorCells) after
   chemical-zero empty k h =
       same k
       (λ e w p l z.
@@ -163,32 +164,32 @@ module _ (base i : ℕ) (before after : List ℕ) (few : i < 16) (same : SameBut
       omega arith)
       ∙ empty k h
 
-  module _ (columns : ℕ → Effect → Columns) (held : CellsHold columns (i * 6) before base) (here : CellsHold (λ p. columns (i * 6 + p)) 6 after (base + i * 6)) where
-    chemical-cell : (e : Effect) (w : Part) (q : ℕ) → q < (i + 1) * 6 → (t : Bool) → ltb q (i * 6) ≡ t → getD after (base + 288 * sideOf e + 96 * partOf w + q) 0 ≡ cellOf w (columns q e)
+  module _ (columns : ℕ → Effect → Columns) (held : CellsHold columns (i * pathwaysPerChemical) before base) (here : CellsHold (λ p. columns (i * pathwaysPerChemical + p)) pathwaysPerChemical after (base + i * pathwaysPerChemical)) where
+    chemical-cell : (e : Effect) (w : Part) (q : ℕ) → q < (i + 1) * pathwaysPerChemical → (t : Bool) → ltb q (i * pathwaysPerChemical) ≡ t → getD after (base + effectCells * sideOf e + mostLines * partOf w + q) 0 ≡ cellOf w (columns q e)
     chemical-cell e w q h true t =
-        let m : q < i * 6 = ltb-true q (i * 6) t in
+        let m : q < i * pathwaysPerChemical = ltb-true q (i * pathwaysPerChemical) t in
         chemical-apart e w q (omega arith) (λ p l z. omega arith) ∙ held e w q m
     chemical-cell e w q h false t =
-        let m : i * 6 ≤ q = ltb-false q (i * 6) t in
-        let place : base + 288 * sideOf e + 96 * partOf w + q ≡ base + i * 6 + 288 * sideOf e + 96 * partOf w + (q - i * 6) = omega arith in
-        let line : i * 6 + (q - i * 6) ≡ q = omega arith in
-        ap (λ (k : ℕ). getD after k 0) place ∙ here e w (q - i * 6) (omega arith) ∙ ap (λ (k : ℕ). cellOf w (columns k e)) line
+        let m : i * pathwaysPerChemical ≤ q = ltb-false q (i * pathwaysPerChemical) t in
+        let place : base + effectCells * sideOf e + mostLines * partOf w + q ≡ base + i * pathwaysPerChemical + effectCells * sideOf e + mostLines * partOf w + (q - i * pathwaysPerChemical) = omega arith in
+        let line : i * pathwaysPerChemical + (q - i * pathwaysPerChemical) ≡ q = omega arith in
+        ap (λ (k : ℕ). getD after k 0) place ∙ here e w (q - i * pathwaysPerChemical) (omega arith) ∙ ap (λ (k : ℕ). cellOf w (columns k e)) line
 
-    pub chemical-held : CellsHold columns ((i + 1) * 6) after base
-    chemical-held e w q h = chemical-cell e w q h (ltb q (i * 6)) refl
+    pub chemical-held : CellsHold columns ((i + 1) * pathwaysPerChemical) after base
+    chemical-held e w q h = chemical-cell e w q h (ltb q (i * pathwaysPerChemical)) refl
 
 -- ---- a receptor's cells filled after those of the receptors before it
-module _ (site′ : Site) (sources : Sources) (list : List Receptor) (j : ℕ) (before after : List ℕ) (few : sources .count ≤ 16) where
+module _ (site′ : Site) (sources : Sources) (list : List Receptor) (j : ℕ) (before after : List ℕ) (few : sources .count ≤ maxChemicals) where
   -- a cell of an earlier receptor
-  earlier : SameBelow (576 * j) before after → (i : ℕ) → i < j → (e : Effect) (w : Part) (q : ℕ) → q < 96
-      → getD after (576 * i + 288 * sideOf e + 96 * partOf w + q) 0 ≡ getD before (576 * i + 288 * sideOf e + 96 * partOf w + q) 0
+  earlier : SameBelow (receptorCells * j) before after → (i : ℕ) → i < j → (e : Effect) (w : Part) (q : ℕ) → q < mostLines
+      → getD after (receptorCells * i + effectCells * sideOf e + mostLines * partOf w + q) 0 ≡ getD before (receptorCells * i + effectCells * sideOf e + mostLines * partOf w + q) 0
   earlier same i h e w q l =
       let s : sideOf e < 2 = side-small e in
       let p : partOf w < 3 = part-small w in
-      same (576 * i + 288 * sideOf e + 96 * partOf w + q) (omega arith)
+      same (receptorCells * i + effectCells * sideOf e + mostLines * partOf w + q) (omega arith)
 
-  pub receptor-held : (r : Values) → r ≡ getD list j noReceptor .values → CellsFilled site′ sources list j before → SameBelow (576 * j) before after
-      → CellsHold (columnsWorked site′ sources j r) (sources .count * 6) after (576 * j) → CellsEmpty (sources .count * 6) after (576 * j)
+  pub receptor-held : (r : Values) → r ≡ getD list j noReceptor .values → CellsFilled site′ sources list j before → SameBelow (receptorCells * j) before after
+      → CellsHold (columnsWorked site′ sources j r) (sources .count * pathwaysPerChemical) after (receptorCells * j) → CellsEmpty (sources .count * pathwaysPerChemical) after (receptorCells * j)
       → CellsFilled site′ sources list (j + 1) after
   receptor-held r is-receptor filled same held empty i h =
       let most : i ≤ j = omega arith in

@@ -9,6 +9,7 @@ use borrow.Author.Tests.{ltb-true, ltb-false, lt-ltb, le-ltb}
 use lib.Dec.{ltb}
 use lib.ListN.{length, getD}
 use lib.Seq.{ext-getD}
+use Rattle.sizes.specs.Sizes.{maxChemicals, mostLines, mostReceptors, pathwaysPerChemical}
 use Rattle.equations.specs.declared.Effect.{Effect}
 use Rattle.equations.specs.declared.Effect.the-variants.{Hazard, Cancer}
 use Rattle.equations.specs.declared.Values.{Values}
@@ -25,7 +26,7 @@ use Rattle.sheet.specs.declared.Source.{Source}
 use Rattle.sheet.specs.declared.Sources.{Sources}
 use Rattle.lists.specs.Lists.{chained}
 use Rattle.sheet.specs.Sheet.{pathwayAt, columnsAt, overCap, linesPerReceptor, lineTooLarge, largeLines}
-use Rattle.sheet.specs.Counts.{tooMany, groundFor, meanFor, stopsAt, noMediaAt, sheetConditions, Part, cellOf, sideOf, effectAt, partAt, lineColumns, cellAt, cellsOf, noCells, cellsFor, sheetStatus, sheetCells}
+use Rattle.sheet.specs.Counts.{tooMany, groundFor, meanFor, stopsAt, noMediaAt, sheetConditions, Part, cellOf, sideOf, effectAt, partAt, lineColumns, cellAt, cellsOf, noCells, cellsFor, sheetStatus, sheetCells, allCells, effectCells, receptorCells}
 use Rattle.sheet.specs.Inner.{columnsOf, aboveCap, groundWith, sourceOf, sourcesOf, sourceAt, stopsWith, refusedSource, figuresFrom, figureFor, figuresWorked, columnsWorked, isLarge, largeLine, largeChemical, largeWorked, perReceptor, allLarge, partOf, CellsFilled, ZeroFrom}
 use Rattle.lists.proofs.Chained.{chained-same}
 use Rattle.sheet.proofs.ChemicalLaws.{source-at}
@@ -33,7 +34,7 @@ use Rattle.sheet.proofs.SourceLaws.{line-figures}
 
 -- ---- the cells
 -- column c of a receptor's six stands at this place
-column-place : (c : ℕ) → c < 6 → 3 * sideOf (effectAt c) + partOf (partAt c) ≡ c
+column-place : (c : ℕ) → c < 2 * 3 → 3 * sideOf (effectAt c) + partOf (partAt c) ≡ c
 unfolding sideOf effectAt partOf partAt
 column-place zero h = refl
 column-place (suc zero) h = refl
@@ -44,32 +45,32 @@ column-place (suc (suc (suc (suc (suc zero))))) h = refl
 column-place (suc (suc (suc (suc (suc (suc c)))))) h = absurd (omega arith)
 
 module _ (scenario : Scenario) (site′ : Site) (sources : Sources) (cells : List ℕ) (count-is : sources .count ≡ scenario .chemicals .count)
-    (agree : (j q : ℕ) → j < scenario .receptors .count → q < scenario .chemicals .count * 6 → (e : Effect) → columnsWorked site′ sources j (receptorIn scenario j .values) q e ≡ columnsAt e scenario j (q / 6) (pathwayAt (q % 6)))
-    (filled : CellsFilled site′ sources (scenario .receptors .list) (scenario .receptors .count) cells) (rest : ZeroFrom (576 * scenario .receptors .count) cells) where
-  cell-is : (j q k : ℕ) (e : Effect) (w : Part) → k ≡ 576 * j + 288 * sideOf e + 96 * partOf w + q → 576 * j ≤ k → q < 96 → (t u : Bool) → ltb j (scenario .receptors .count) ≡ t
-      → ltb q (scenario .chemicals .count * 6) ≡ u → getD cells k 0 ≡ cellOf w (cond (t && u) (columnsAt e scenario j (q / 6) (pathwayAt (q % 6))) Cols.Absent)
+    (agree : (j q : ℕ) → j < scenario .receptors .count → q < scenario .chemicals .count * pathwaysPerChemical → (e : Effect) → columnsWorked site′ sources j (receptorIn scenario j .values) q e ≡ columnsAt e scenario j (q / pathwaysPerChemical) (pathwayAt (q % pathwaysPerChemical)))
+    (filled : CellsFilled site′ sources (scenario .receptors .list) (scenario .receptors .count) cells) (rest : ZeroFrom (receptorCells * scenario .receptors .count) cells) where
+  cell-is : (j q k : ℕ) (e : Effect) (w : Part) → k ≡ receptorCells * j + effectCells * sideOf e + mostLines * partOf w + q → receptorCells * j ≤ k → q < mostLines → (t u : Bool) → ltb j (scenario .receptors .count) ≡ t
+      → ltb q (scenario .chemicals .count * pathwaysPerChemical) ≡ u → getD cells k 0 ≡ cellOf w (cond (t && u) (columnsAt e scenario j (q / pathwaysPerChemical) (pathwayAt (q % pathwaysPerChemical))) Cols.Absent)
   unfolding cellOf receptorIn
   cell-is j q k e w place least small true true a b =
       rw place
-      (filled j (ltb-true j (scenario .receptors .count) a) .0 e w q (rw count-is (ltb-true q (scenario .chemicals .count * 6) b))
-      ∙ ap (cellOf w) (agree j q (ltb-true j (scenario .receptors .count) a) (ltb-true q (scenario .chemicals .count * 6) b) e))
+      (filled j (ltb-true j (scenario .receptors .count) a) .0 e w q (rw count-is (ltb-true q (scenario .chemicals .count * pathwaysPerChemical) b))
+      ∙ ap (cellOf w) (agree j q (ltb-true j (scenario .receptors .count) a) (ltb-true q (scenario .chemicals .count * pathwaysPerChemical) b) e))
   cell-is j q k e w place least small true false a b =
-      rw place (filled j (ltb-true j (scenario .receptors .count) a) .1 e w q (omega (arith, count-is, ltb-false q (scenario .chemicals .count * 6) b)) small)
+      rw place (filled j (ltb-true j (scenario .receptors .count) a) .1 e w q (omega (arith, count-is, ltb-false q (scenario .chemicals .count * pathwaysPerChemical) b)) small)
   cell-is j q k e w place least small false u a b = rest k (omega (arith, ltb-false j (scenario .receptors .count) a))
 
-  filled-at-place : (k : ℕ) → k < 2304 → getD cells k 0 ≡ cellAt scenario k
+  filled-at-place : (k : ℕ) → k < allCells → getD cells k 0 ≡ cellAt scenario k
   unfolding cellAt lineColumns
   filled-at-place k h =
-      let c : ℕ = k % 576 / 96 in
+      let c : ℕ = k % receptorCells / mostLines in
       let p : 3 * sideOf (effectAt c) + partOf (partAt c) ≡ c = column-place c (omega arith) in
-      cell-is (k / 576) (k % 96) k (effectAt c) (partAt c) (omega arith) (omega arith) (omega arith)
-      (ltb (k / 576) (scenario .receptors .count)) (ltb (k % 96) (scenario .chemicals .count * 6)) refl refl
+      cell-is (k / receptorCells) (k % mostLines) k (effectAt c) (partAt c) (omega arith) (omega arith) (omega arith)
+      (ltb (k / receptorCells) (scenario .receptors .count)) (ltb (k % mostLines) (scenario .chemicals .count * pathwaysPerChemical)) refl refl
 
-  filled-cells : length cells ≡ 2304 → cells ≡ cellsOf scenario
+  filled-cells : length cells ≡ allCells → cells ≡ cellsOf scenario
   unfolding cellsOf
   filled-cells long =
-      ext-getD 0 cells (cellsOf scenario) (long ∙ sym (length-tabulate (cellAt scenario) 0 0 2304))
-      (λ k h. filled-at-place k (omega arith) ∙ sym (tabulated (cellAt scenario) 0 2304 k (omega arith)))
+      ext-getD 0 cells (cellsOf scenario) (long ∙ sym (length-tabulate (cellAt scenario) 0 0 allCells))
+      (λ k h. filled-at-place k (omega arith) ∙ sym (tabulated (cellAt scenario) 0 allCells k (omega arith)))
 
 -- ---- the lines of a scenario of which no chemical stops
 module _ (scenario : Scenario) (site′ : Site) (sources : Sources) (at-site : site′ ≡ siteOf (scenario .site)) (sources-are : sources ≡ sourcesOf (site′ .values) (scenario .receptors) (scenario .chemicals))
@@ -99,31 +100,31 @@ module _ (scenario : Scenario) (site′ : Site) (sources : Sources) (at-site : s
     cap-agrees : (e : Effect) → aboveCap e (figureFor e (figuresFrom site′ j (receptorIn scenario j .values) (sourceAt sources i) (pathwayAt p))) ≡ overCap e scenario j i (pathwayAt p)
     cap-agrees e = ap (λ (f : Figured). aboveCap e (figureFor e f)) figures-are ∙ line-figures scenario j i (pathwayAt p) l (media-found i h) e .1
 
-    line-agrees : largeLine site′ j (receptorIn scenario j .values) (sourceAt sources i) (j * perReceptor (sources .count) + i * 6) p ≡ lineTooLarge scenario j i p
+    line-agrees : largeLine site′ j (receptorIn scenario j .values) (sourceAt sources i) (j * perReceptor (sources .count) + i * pathwaysPerChemical) p ≡ lineTooLarge scenario j i p
     unfolding largeLine lineTooLarge linesPerReceptor isLarge figureFor
     line-agrees =
-        let place : j * perReceptor (sources .count) + i * 6 + suc p ≡ j * perReceptor (scenario .chemicals .count) + i * 6 + suc p = rw count-is refl in
+        let place : j * perReceptor (sources .count) + i * pathwaysPerChemical + suc p ≡ j * perReceptor (scenario .chemicals .count) + i * pathwaysPerChemical + suc p = rw count-is refl in
         ap₂ (λ (n : ℕ) (b : Bool). at 42 n 0 b ∷ []) place (ap₂ _||_ (cap-agrees Hazard) (cap-agrees Cancer))
 
-  columns-agree : (j q : ℕ) → j < scenario .receptors .count → q < scenario .chemicals .count * 6 → (e : Effect) → columnsWorked site′ sources j (receptorIn scenario j .values) q e ≡ columnsAt e scenario j (q / 6) (pathwayAt (q % 6))
+  columns-agree : (j q : ℕ) → j < scenario .receptors .count → q < scenario .chemicals .count * pathwaysPerChemical → (e : Effect) → columnsWorked site′ sources j (receptorIn scenario j .values) q e ≡ columnsAt e scenario j (q / pathwaysPerChemical) (pathwayAt (q % pathwaysPerChemical))
   unfolding columnsWorked figuresWorked
-  columns-agree j q l h e = figure-columns j (q / 6) (q % 6) l (omega arith) e
+  columns-agree j q l h e = figure-columns j (q / pathwaysPerChemical) (q % pathwaysPerChemical) l (omega arith) e
 
   receptor-agrees : (j : ℕ) → j < scenario .receptors .count → largeWorked site′ sources j (receptorIn scenario j .values) (j * perReceptor (sources .count))
-      ≡ chained (λ i. chained (lineTooLarge scenario j i) 6) (scenario .chemicals .count)
+      ≡ chained (λ i. chained (lineTooLarge scenario j i) pathwaysPerChemical) (scenario .chemicals .count)
   unfolding largeWorked largeChemical
   receptor-agrees j m =
       let r : Values = receptorIn scenario j .values in
       let before : ℕ = j * perReceptor (sources .count) in
-      ap (chained (λ i. chained (largeLine site′ j r (sourceAt sources i) (before + i * 6)) 6)) count-is
-      ∙ chained-same (λ i. chained (largeLine site′ j r (sourceAt sources i) (before + i * 6)) 6) (λ i. chained (lineTooLarge scenario j i) 6) (scenario .chemicals .count)
-      (λ i h. chained-same (largeLine site′ j r (sourceAt sources i) (before + i * 6)) (lineTooLarge scenario j i) 6 (λ p l. line-agrees j i p m h))
+      ap (chained (λ i. chained (largeLine site′ j r (sourceAt sources i) (before + i * pathwaysPerChemical)) pathwaysPerChemical)) count-is
+      ∙ chained-same (λ i. chained (largeLine site′ j r (sourceAt sources i) (before + i * pathwaysPerChemical)) pathwaysPerChemical) (λ i. chained (lineTooLarge scenario j i) pathwaysPerChemical) (scenario .chemicals .count)
+      (λ i h. chained-same (largeLine site′ j r (sourceAt sources i) (before + i * pathwaysPerChemical)) (lineTooLarge scenario j i) pathwaysPerChemical (λ p l. line-agrees j i p m h))
 
   lines-agree : allLarge site′ sources (scenario .receptors .list) (scenario .receptors .count) ≡ largeLines scenario
   unfolding allLarge largeLines receptorIn
   lines-agree =
       chained-same (λ j. largeWorked site′ sources j (receptorIn scenario j .values) (j * perReceptor (sources .count)))
-      (λ j. chained (λ i. chained (lineTooLarge scenario j i) 6) (scenario .chemicals .count)) (scenario .receptors .count) (λ j h. receptor-agrees j h)
+      (λ j. chained (λ i. chained (lineTooLarge scenario j i) pathwaysPerChemical) (scenario .chemicals .count)) (scenario .receptors .count) (λ j h. receptor-agrees j h)
 
 -- ---- the counts
 module _ (scenario : Scenario) where
@@ -140,26 +141,26 @@ module _ (scenario : Scenario) where
   unfolding sheetConditions first
   many h cells none = stopped-counts (Stopped 21 0 0) 21 0 0 refl (rw h refl) cells none
 
-  pub many-chemicals : 16 < scenario .chemicals .count → (cells : List ℕ) → cells ≡ noCells → Told (Stopped 21 0 0) cells
+  pub many-chemicals : maxChemicals < scenario .chemicals .count → (cells : List ℕ) → cells ≡ noCells → Told (Stopped 21 0 0) cells
   unfolding tooMany
-  many-chemicals h cells none = many (rw (lt-ltb 16 (scenario .chemicals .count) h) refl) cells none
+  many-chemicals h cells none = many (rw (lt-ltb maxChemicals (scenario .chemicals .count) h) refl) cells none
 
-  module _ (few-chemicals : scenario .chemicals .count ≤ 16) where
-    pub many-receptors : 4 < scenario .receptors .count → (cells : List ℕ) → cells ≡ noCells → Told (Stopped 21 0 0) cells
+  module _ (few-chemicals : scenario .chemicals .count ≤ maxChemicals) where
+    pub many-receptors : mostReceptors < scenario .receptors .count → (cells : List ℕ) → cells ≡ noCells → Told (Stopped 21 0 0) cells
     unfolding tooMany
-    many-receptors h cells none = many (rw (le-ltb 16 (scenario .chemicals .count) few-chemicals, lt-ltb 4 (scenario .receptors .count) h) refl) cells none
+    many-receptors h cells none = many (rw (le-ltb maxChemicals (scenario .chemicals .count) few-chemicals, lt-ltb mostReceptors (scenario .receptors .count) h) refl) cells none
 
     -- 33
-    pub other-year : scenario .receptors .count ≤ 4 → noGuidance scenario ≡ true → (cells : List ℕ) → cells ≡ noCells → Told (Stopped 33 0 0) cells
+    pub other-year : scenario .receptors .count ≤ mostReceptors → noGuidance scenario ≡ true → (cells : List ℕ) → cells ≡ noCells → Told (Stopped 33 0 0) cells
     unfolding sheetConditions first tooMany
     other-year few h cells none =
-        stopped-counts (Stopped 33 0 0) 33 0 0 refl (rw (le-ltb 16 (scenario .chemicals .count) few-chemicals, le-ltb 4 (scenario .receptors .count) few, h) refl) cells none
+        stopped-counts (Stopped 33 0 0) 33 0 0 refl (rw (le-ltb maxChemicals (scenario .chemicals .count) few-chemicals, le-ltb mostReceptors (scenario .receptors .count) few, h) refl) cells none
 
-    module _ (few-receptors : scenario .receptors .count ≤ 4) (guided : noGuidance scenario ≡ false) (site′ : Site) (at-site : site′ ≡ siteOf (scenario .site)) where
+    module _ (few-receptors : scenario .receptors .count ≤ mostReceptors) (guided : noGuidance scenario ≡ false) (site′ : Site) (at-site : site′ ≡ siteOf (scenario .site)) where
       conditions-are : first (sheetConditions scenario) ≡ orElse (first (chained (noMediaAt scenario) (scenario .chemicals .count))) (first (largeLines scenario))
       unfolding sheetConditions first tooMany
       conditions-are =
-          rw (le-ltb 16 (scenario .chemicals .count) few-chemicals, le-ltb 4 (scenario .receptors .count) few-receptors, guided)
+          rw (le-ltb maxChemicals (scenario .chemicals .count) few-chemicals, le-ltb mostReceptors (scenario .receptors .count) few-receptors, guided)
           (first-append (chained (noMediaAt scenario) (scenario .chemicals .count)) (largeLines scenario))
 
       chemicals-agree : chained (refusedSource (site′ .values) (scenario .receptors) (scenario .chemicals .records)) (scenario .chemicals .count) ≡ chained (noMediaAt scenario) (scenario .chemicals .count)
@@ -178,7 +179,7 @@ module _ (scenario : Scenario) where
 
       module _ (sources : Sources) (sources-are : sources ≡ sourcesOf (site′ .values) (scenario .receptors) (scenario .chemicals))
           (ready : first (chained (refusedSource (site′ .values) (scenario .receptors) (scenario .chemicals .records)) (scenario .chemicals .count)) ≡ Passed) where
-        pub sources-few : sources .count ≤ 16
+        pub sources-few : sources .count ≤ maxChemicals
         unfolding sourcesOf
         sources-few = rw sources-are few-chemicals
 
@@ -198,8 +199,8 @@ module _ (scenario : Scenario) where
           line-stops number line field stop cells none = stopped-counts s number line field stop large-first cells none
 
           -- every line's counts
-          pub all-counted : s ≡ Passed → (cells : List ℕ) → length cells ≡ 2304
-              → CellsFilled site′ sources (scenario .receptors .list) (scenario .receptors .count) cells × ZeroFrom (576 * scenario .receptors .count) cells
+          pub all-counted : s ≡ Passed → (cells : List ℕ) → length cells ≡ allCells
+              → CellsFilled site′ sources (scenario .receptors .list) (scenario .receptors .count) cells × ZeroFrom (receptorCells * scenario .receptors .count) cells
               → Told s cells
           unfolding sheetStatus sheetCells cellsFor
           all-counted read cells long held =

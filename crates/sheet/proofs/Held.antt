@@ -7,9 +7,10 @@ use Prim.Native.Nat.{ℕ, zero, suc, _+_, _*_, _/_, _%_, _^_, _≤_, _<_}
 use native.Mathlib.Nat.{zero-add, add-assoc}
 use native.Mathlib.Omega.{arith}
 use borrow.Author.Tests.{lt-ltb, le-leb, eq-eqb, ne-eqb}
-use lib.Dec.{eqb, leb}
+use lib.Dec.{eqb, leb, lit<}
 use lib.ListN.{length, getD, take, drop, length-map, length-drop}
 use lib.Seq.{getD-drop, take-suc}
+use Rattle.sizes.specs.Sizes.{maxChemicals, mostLines, mostReceptors, pathwaysPerChemical}
 use Rattle.pair.specs.Calls.{is}
 use Rattle.equations.specs.declared.Effect.{Effect}
 use Rattle.equations.specs.declared.Effect.the-variants.{Hazard, Cancer}
@@ -23,7 +24,7 @@ use Rattle.totals.specs.Totals.{_added_, totalOf, listSum, allAtMost}
 use Rattle.scenario.specs.Scenario.{Scenario}
 use Rattle.lists.specs.Lists.{chained}
 use Rattle.sheet.specs.Sheet.{pathwayAt, columnsAt, addedOver, totalAt}
-use Rattle.sheet.specs.Counts.{Part, Mark, Low, High, cellOf, effectAt, partAt, lineColumns, cellAt, cellsOf, noCells, cellsFor, sheetStatus, sheetCells, columnsFrom, sideOf, isHeld, columnsFound, columnsIn, totalledFrom, totalFound, totalIn}
+use Rattle.sheet.specs.Counts.{Part, Mark, Low, High, cellOf, effectAt, partAt, lineColumns, cellAt, cellsOf, noCells, cellsFor, sheetStatus, sheetCells, columnsFrom, sideOf, isHeld, columnsFound, columnsIn, totalledFrom, totalFound, totalIn, allCells, effectCells, receptorCells}
 use Rattle.sheet.specs.Inner.{partOf, CellsHold}
 use Rattle.lists.proofs.Chained.{chained-length, flat}
 use Rattle.sheet.proofs.CellLaws.{side-small, part-small}
@@ -57,11 +58,11 @@ summed-chained f g h zero = refl
 summed-chained f g h (suc n) = rw (summed-append (chained f n) (f n), summed-chained f g h n, h n) refl
 
 -- by chemical and pathway, or in one loop
-summed-flat : (f : ℕ → ℕ → Columns) (n : ℕ) → summed (chained (λ q. f (q / 6) (q % 6) ∷ []) (n * 6)) ≡ addedOver (λ i. addedOver (f i) 6) n
+summed-flat : (f : ℕ → ℕ → Columns) (n : ℕ) → summed (chained (λ q. f (q / pathwaysPerChemical) (q % pathwaysPerChemical) ∷ []) (n * pathwaysPerChemical)) ≡ addedOver (λ i. addedOver (f i) pathwaysPerChemical) n
 unfolding summed
 summed-flat f n =
-    ap summed (sym (flat (λ i p. f i p ∷ []) n))
-    ∙ summed-chained (λ i. chained (λ p. f i p ∷ []) 6) (λ i. addedOver (f i) 6) (λ i. summed-chained (λ p. f i p ∷ []) (f i) (λ p. added-absent (f i p)) 6) n
+    ap summed (sym (flat pathwaysPerChemical (lit< tt) (λ i p. f i p ∷ []) n))
+    ∙ summed-chained (λ i. chained (λ p. f i p ∷ []) pathwaysPerChemical) (λ i. addedOver (f i) pathwaysPerChemical) (λ i. summed-chained (λ p. f i p ∷ []) (f i) (λ p. added-absent (f i p)) pathwaysPerChemical) n
 
 -- its counts are the sums of the columns
 counts-added : (u v : Columns) → (cellOf Low (u added v) ≡ cellOf Low u + cellOf Low v) × (cellOf High (u added v) ≡ cellOf High u + cellOf High v)
@@ -99,12 +100,12 @@ unfolding allAtMost
 all-append most [] b h k = k
 all-append most (n ∷ a) b h k = let l = both (leb n most) (allAtMost most a) h in rw (l .0) (all-append most a b (l .1) k)
 
-total-is : (list : List ℕ) → length list ≤ 96 → allAtMost (10 ^ 16) list ≡ true → totalOf list ≡ is (listSum list)
+total-is : (list : List ℕ) → length list ≤ mostLines → allAtMost (10 ^ 16) list ≡ true → totalOf list ≡ is (listSum list)
 unfolding totalOf
-total-is list short small = rw (le-leb (length list) 96 short, small) refl
+total-is list short small = rw (le-leb (length list) mostLines short, small) refl
 
 -- n lines' columns, each count at most 1E+16
-module _ (columns : ℕ → Columns) (n : ℕ) (short : n ≤ 96) (small : (q : ℕ) → q < n → (w : Part) → cellOf w (columns q) ≤ 10 ^ 16) where
+module _ (columns : ℕ → Columns) (n : ℕ) (short : n ≤ mostLines) (small : (q : ℕ) → q < n → (w : Part) → cellOf w (columns q) ≤ 10 ^ 16) where
   listed : ℕ → List Columns
   listed = chained (λ q. columns q ∷ [])
 
@@ -157,67 +158,67 @@ column-at Cancer Mark = (refl, refl)
 column-at Cancer Low = (refl, refl)
 column-at Cancer High = (refl, refl)
 
-module _ (scenario : Scenario) (few-chemicals : scenario .chemicals .count ≤ 16) (few-receptors : scenario .receptors .count ≤ 4) (j : ℕ) (here : j < scenario .receptors .count) where
-  cells-held : CellsHold (λ q e. columnsAt e scenario j (q / 6) (pathwayAt (q % 6))) (scenario .chemicals .count * 6) (cellsOf scenario) (576 * j)
+module _ (scenario : Scenario) (few-chemicals : scenario .chemicals .count ≤ maxChemicals) (few-receptors : scenario .receptors .count ≤ mostReceptors) (j : ℕ) (here : j < scenario .receptors .count) where
+  cells-held : CellsHold (λ q e. columnsAt e scenario j (q / pathwaysPerChemical) (pathwayAt (q % pathwaysPerChemical))) (scenario .chemicals .count * pathwaysPerChemical) (cellsOf scenario) (receptorCells * j)
   unfolding cellsOf cellAt lineColumns
   cells-held e w q h =
-      let k : ℕ = 576 * j + 288 * sideOf e + 96 * partOf w + q in
+      let k : ℕ = receptorCells * j + effectCells * sideOf e + mostLines * partOf w + q in
       let s : sideOf e < 2 = side-small e in
       let p : partOf w < 3 = part-small w in
-      let a : k / 576 ≡ j = omega arith in
-      let b : k % 96 ≡ q = omega arith in
-      let c : k % 576 / 96 ≡ 3 * sideOf e + partOf w = omega arith in
-      tabulated (cellAt scenario) 0 2304 k (omega arith)
-      ∙ rw (a, b, c, column-at e w .0, column-at e w .1, lt-ltb j (scenario .receptors .count) here, lt-ltb q (scenario .chemicals .count * 6) h) refl
+      let a : k / receptorCells ≡ j = omega arith in
+      let b : k % mostLines ≡ q = omega arith in
+      let c : k % receptorCells / mostLines ≡ 3 * sideOf e + partOf w = omega arith in
+      tabulated (cellAt scenario) 0 allCells k (omega arith)
+      ∙ rw (a, b, c, column-at e w .0, column-at e w .1, lt-ltb j (scenario .receptors .count) here, lt-ltb q (scenario .chemicals .count * pathwaysPerChemical) h) refl
 
-  cells-long : length (cellsOf scenario) ≡ 2304
+  cells-long : length (cellsOf scenario) ≡ allCells
   unfolding cellsOf
-  cells-long = length-tabulate (cellAt scenario) 0 0 2304
+  cells-long = length-tabulate (cellAt scenario) 0 0 allCells
 
-  held-at : (e : Effect) (w : Part) (q k : ℕ) → q < scenario .chemicals .count * 6 → k ≡ 576 * j + 288 * sideOf e + 96 * partOf w + q
-      → getD (cellsOf scenario) k 0 ≡ cellOf w (columnsAt e scenario j (q / 6) (pathwayAt (q % 6)))
+  held-at : (e : Effect) (w : Part) (q k : ℕ) → q < scenario .chemicals .count * pathwaysPerChemical → k ≡ receptorCells * j + effectCells * sideOf e + mostLines * partOf w + q
+      → getD (cellsOf scenario) k 0 ≡ cellOf w (columnsAt e scenario j (q / pathwaysPerChemical) (pathwayAt (q % pathwaysPerChemical)))
   held-at e w q k h place = rw place (cells-held e w q h)
 
   is-held : isHeld (cellsOf scenario) j ≡ true
   unfolding isHeld
-  is-held = rw (eq-eqb (length (cellsOf scenario)) 2304 cells-long, lt-ltb j 4 (omega arith)) refl
+  is-held = rw (eq-eqb (length (cellsOf scenario)) allCells cells-long, lt-ltb j mostReceptors (omega arith)) refl
 
-  line-held : (q : ℕ) → q < scenario .chemicals .count * 6 → (e : Effect) → columnsIn (cellsOf scenario) j e q ≡ columnsAt e scenario j (q / 6) (pathwayAt (q % 6))
+  line-held : (q : ℕ) → q < scenario .chemicals .count * pathwaysPerChemical → (e : Effect) → columnsIn (cellsOf scenario) j e q ≡ columnsAt e scenario j (q / pathwaysPerChemical) (pathwayAt (q % pathwaysPerChemical))
   unfolding columnsIn columnsFound partOf
   line-held q h e =
-      let at : ℕ = 576 * j + 288 * sideOf e + q in
-      rw (is-held, lt-ltb q 96 (omega arith), held-at e Mark q at h (omega arith), held-at e Low q (at + 96) h (omega arith), held-at e High q (at + 192) h (omega arith))
-      (again (columnsAt e scenario j (q / 6) (pathwayAt (q % 6))))
+      let at : ℕ = receptorCells * j + effectCells * sideOf e + q in
+      rw (is-held, lt-ltb q mostLines (omega arith), held-at e Mark q at h (omega arith), held-at e Low q (at + mostLines) h (omega arith), held-at e High q (at + 2 * mostLines) h (omega arith))
+      (again (columnsAt e scenario j (q / pathwaysPerChemical) (pathwayAt (q % pathwaysPerChemical))))
 
-  module _ (e : Effect) (small : (q : ℕ) → q < scenario .chemicals .count * 6 → (w : Part) → cellOf w (columnsAt e scenario j (q / 6) (pathwayAt (q % 6))) ≤ 10 ^ 16) where
-    column-is : (w : Part) (at : ℕ) → at ≡ 576 * j + 288 * sideOf e + 96 * partOf w
-        → take (scenario .chemicals .count * 6) (drop at (cellsOf scenario)) ≡ map (cellOf w) (chained (λ q. columnsAt e scenario j (q / 6) (pathwayAt (q % 6)) ∷ []) (scenario .chemicals .count * 6))
+  module _ (e : Effect) (small : (q : ℕ) → q < scenario .chemicals .count * pathwaysPerChemical → (w : Part) → cellOf w (columnsAt e scenario j (q / pathwaysPerChemical) (pathwayAt (q % pathwaysPerChemical))) ≤ 10 ^ 16) where
+    column-is : (w : Part) (at : ℕ) → at ≡ receptorCells * j + effectCells * sideOf e + mostLines * partOf w
+        → take (scenario .chemicals .count * pathwaysPerChemical) (drop at (cellsOf scenario)) ≡ map (cellOf w) (chained (λ q. columnsAt e scenario j (q / pathwaysPerChemical) (pathwayAt (q % pathwaysPerChemical)) ∷ []) (scenario .chemicals .count * pathwaysPerChemical))
     column-is w at place =
         let s : sideOf e < 2 = side-small e in
         let p : partOf w < 3 = part-small w in
-        column-held (λ q. columnsAt e scenario j (q / 6) (pathwayAt (q % 6))) w (cellsOf scenario) at (scenario .chemicals .count * 6) (omega (arith, cells-long))
+        column-held (λ q. columnsAt e scenario j (q / pathwaysPerChemical) (pathwayAt (q % pathwaysPerChemical))) w (cellsOf scenario) at (scenario .chemicals .count * pathwaysPerChemical) (omega (arith, cells-long))
         (λ q l. held-at e w q (at + q) l (omega arith))
 
     -- the receptor's total
-    pub columns-total : totalIn (cellsOf scenario) j e (scenario .chemicals .count * 6) ≡ totalAt e scenario j
+    pub columns-total : totalIn (cellsOf scenario) j e (scenario .chemicals .count * pathwaysPerChemical) ≡ totalAt e scenario j
     unfolding totalIn totalFound totalAt partOf listed
     columns-total =
-        let at : ℕ = 576 * j + 288 * sideOf e in
-        rw (is-held, lt-ltb (scenario .chemicals .count * 6) 97 (omega arith), column-is Mark at (omega arith), column-is Low (at + 96) (omega arith), column-is High (at + 96 + 96) (omega arith))
-        (total-summed (λ q. columnsAt e scenario j (q / 6) (pathwayAt (q % 6))) (scenario .chemicals .count * 6) (omega arith) small
+        let at : ℕ = receptorCells * j + effectCells * sideOf e in
+        rw (is-held, lt-ltb (scenario .chemicals .count * pathwaysPerChemical) (suc mostLines) (omega arith), column-is Mark at (omega arith), column-is Low (at + mostLines) (omega arith), column-is High (at + mostLines + mostLines) (omega arith))
+        (total-summed (λ q. columnsAt e scenario j (q / pathwaysPerChemical) (pathwayAt (q % pathwaysPerChemical))) (scenario .chemicals .count * pathwaysPerChemical) (omega arith) small
         ∙ summed-flat (λ i p. columnsAt e scenario j i (pathwayAt p)) (scenario .chemicals .count))
 
 -- a line's columns
-pub columns-held : (scenario : Scenario) → scenario .chemicals .count ≤ 16 → scenario .receptors .count ≤ 4 → (j q : ℕ) → j < scenario .receptors .count → q < scenario .chemicals .count * 6 → (e : Effect)
-    → columnsIn (cellsOf scenario) j e q ≡ columnsAt e scenario j (q / 6) (pathwayAt (q % 6))
+pub columns-held : (scenario : Scenario) → scenario .chemicals .count ≤ maxChemicals → scenario .receptors .count ≤ mostReceptors → (j q : ℕ) → j < scenario .receptors .count → q < scenario .chemicals .count * pathwaysPerChemical → (e : Effect)
+    → columnsIn (cellsOf scenario) j e q ≡ columnsAt e scenario j (q / pathwaysPerChemical) (pathwayAt (q % pathwaysPerChemical))
 columns-held scenario few-chemicals few-receptors j q here h e = line-held scenario few-chemicals few-receptors j here q h e
 
 -- how many cells the call leaves
-many-for : (s : Status) (scenario : Scenario) → length (cellsFor s scenario) ≡ 2304
+many-for : (s : Status) (scenario : Scenario) → length (cellsFor s scenario) ≡ allCells
 unfolding cellsFor cellsOf noCells
-many-for Passed scenario = length-tabulate (cellAt scenario) 0 0 2304
-many-for (Stopped number line field) scenario = length-tabulate (λ k. 0) 0 0 2304
+many-for Passed scenario = length-tabulate (cellAt scenario) 0 0 allCells
+many-for (Stopped number line field) scenario = length-tabulate (λ k. 0) 0 0 allCells
 
-pub cells-many : (scenario : Scenario) → length (sheetCells scenario) ≡ 2304
+pub cells-many : (scenario : Scenario) → length (sheetCells scenario) ≡ allCells
 unfolding sheetCells
 cells-many scenario = many-for (sheetStatus scenario) scenario

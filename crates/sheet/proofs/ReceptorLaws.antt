@@ -7,6 +7,7 @@ use Prim.Native.Nat.{ℕ, _+_, _*_, _/_, _%_, _<_}
 use native.Mathlib.Numerals.{add-one}
 use native.Mathlib.Omega.{arith}
 use lib.ListN.{length, getD}
+use Rattle.sizes.specs.Sizes.{pathwaysPerChemical}
 use Rattle.equations.specs.declared.Effect.{Effect}
 use Rattle.equations.specs.declared.Pathway.{Pathway}
 use Rattle.equations.specs.declared.Values.{Values}
@@ -51,11 +52,11 @@ module _ (site′ : Site) (j : ℕ) (r : Values) (source : Source) (before p : �
   unfolding largeLine first
   line-fits h = goes-on (largeLine site′ j r source before) p none Passed (rw h refl) refl
 
-  pub line-stops : p < 6 → isLarge (figuresFrom site′ j r source (pathwayAt p)) ≡ true → Stopped 42 (before + (p + 1)) 0 ≡ first (largeChemical site′ j r source before)
+  pub line-stops : p < pathwaysPerChemical → isLarge (figuresFrom site′ j r source (pathwayAt p)) ≡ true → Stopped 42 (before + (p + 1)) 0 ≡ first (largeChemical site′ j r source before)
   unfolding largeLine first largeChemical
   line-stops l h =
       let here : Stopped 42 (before + (p + 1)) 0 ≡ first (largeLine site′ j r source before p) = rw h (ap (λ (n : ℕ). Stopped 42 (before + n) 0) (add-one p)) in
-      stops (largeLine site′ j r source before) p none (Stopped 42 (before + (p + 1)) 0) here 6 l 42 (before + (p + 1)) 0 refl
+      stops (largeLine site′ j r source before) p none (Stopped 42 (before + (p + 1)) 0) here pathwaysPerChemical l 42 (before + (p + 1)) 0 refl
 
 -- Chemical after chemical.
 module _ (site′ : Site) (j : ℕ) (r : Values) (sources : Sources) (blank : Source) (i : ℕ) (here : i < length (sources .list)) where
@@ -63,26 +64,26 @@ module _ (site′ : Site) (j : ℕ) (r : Values) (sources : Sources) (blank : So
   unfolding sourceAt
   source-is = read-any (sources .list) i here blank noSource
 
-  pub lines-are : (p : ℕ) → p < 6 → (e : Effect) → sourceColumns site′ j r (getD (sources .list) i blank) p e ≡ columnsWorked site′ sources j r (i * 6 + p) e
+  pub lines-are : (p : ℕ) → p < pathwaysPerChemical → (e : Effect) → sourceColumns site′ j r (getD (sources .list) i blank) p e ≡ columnsWorked site′ sources j r (i * pathwaysPerChemical + p) e
   unfolding sourceColumns columnsWorked figuresWorked
   lines-are p h e =
-      let d : i ≡ (i * 6 + p) / 6 = omega arith in
-      let m : p ≡ (i * 6 + p) % 6 = omega arith in
+      let d : i ≡ (i * pathwaysPerChemical + p) / pathwaysPerChemical = omega arith in
+      let m : p ≡ (i * pathwaysPerChemical + p) % pathwaysPerChemical = omega arith in
       ap (λ (s : Source). columnsOf e (figureFor e (figuresFrom site′ j r s (pathwayAt p)))) (source-is ∙ ap (sourceAt sources) d)
-      ∙ ap (λ (k : ℕ). columnsOf e (figureFor e (figuresFrom site′ j r (sourceAt sources ((i * 6 + p) / 6)) (pathwayAt k)))) m
+      ∙ ap (λ (k : ℕ). columnsOf e (figureFor e (figuresFrom site′ j r (sourceAt sources ((i * pathwaysPerChemical + p) / pathwaysPerChemical)) (pathwayAt k)))) m
 
-  module _ (before : ℕ) (s : Status) (is-first : s ≡ first (largeChemical site′ j r (getD (sources .list) i blank) (before + i * 6)))
-      (none : first (chained (λ k. largeChemical site′ j r (sourceAt sources k) (before + k * 6)) i) ≡ Passed) where
-    chemical-is : s ≡ first (largeChemical site′ j r (sourceAt sources i) (before + i * 6))
-    chemical-is = is-first ∙ ap (λ (x : Source). first (largeChemical site′ j r x (before + i * 6))) source-is
+  module _ (before : ℕ) (s : Status) (is-first : s ≡ first (largeChemical site′ j r (getD (sources .list) i blank) (before + i * pathwaysPerChemical)))
+      (none : first (chained (λ k. largeChemical site′ j r (sourceAt sources k) (before + k * pathwaysPerChemical)) i) ≡ Passed) where
+    chemical-is : s ≡ first (largeChemical site′ j r (sourceAt sources i) (before + i * pathwaysPerChemical))
+    chemical-is = is-first ∙ ap (λ (x : Source). first (largeChemical site′ j r x (before + i * pathwaysPerChemical))) source-is
 
-    pub chemical-on : s ≡ Passed → first (chained (λ k. largeChemical site′ j r (sourceAt sources k) (before + k * 6)) (i + 1)) ≡ Passed
-    chemical-on read = goes-on (λ k. largeChemical site′ j r (sourceAt sources k) (before + k * 6)) i none s chemical-is read
+    pub chemical-on : s ≡ Passed → first (chained (λ k. largeChemical site′ j r (sourceAt sources k) (before + k * pathwaysPerChemical)) (i + 1)) ≡ Passed
+    chemical-on read = goes-on (λ k. largeChemical site′ j r (sourceAt sources k) (before + k * pathwaysPerChemical)) i none s chemical-is read
 
     pub chemical-stops : i < sources .count → (number line field : ℕ) → s ≡ Stopped number line field → s ≡ first (largeWorked site′ sources j r before)
     unfolding largeWorked
     chemical-stops l number line field q =
-        stops (λ k. largeChemical site′ j r (sourceAt sources k) (before + k * 6)) i none s chemical-is (sources .count) l number line field q
+        stops (λ k. largeChemical site′ j r (sourceAt sources k) (before + k * pathwaysPerChemical)) i none s chemical-is (sources .count) l number line field q
 
 -- Receptor after receptor.
 module _ (site′ : Site) (sources : Sources) (list : List Receptor) (blank : Receptor) (j : ℕ) (here : j < length list) (r : Values)

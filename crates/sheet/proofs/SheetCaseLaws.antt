@@ -35,7 +35,7 @@ use Rattle.totals.specs.declared.Columns.{Columns}
 use Rattle.totals.specs.declared.Columns.the-variants as Cols
 use Rattle.totals.specs.Totals.{_added_}
 use Rattle.scenario.specs.Scenario.{Scenario, restOf, valuesOf, particlesOf, chemicalIn, receptorIn, stayIn, guidanceIn, givenIn, pairsAt, Exact}
-use Rattle.sizes.specs.Sizes.{pathwaysPerChemical}
+use Rattle.sizes.specs.Sizes.{pathwaysPerChemical, mostLines}
 use Rattle.sheet.specs.Sheet.{pathwayAt, hasReference, figureAt, unitOf, counted, countedIn, columnsAt, addedOver, totalAt, highAbove, overCap, capOf, largeLines}
 use Rattle.lists.specs.Lists.{chained}
 use Rattle.sheet.specs.Counts.{tooMany, isRefused, groundFor, meanWith, meanFor, stopsAt, noMediaAt, sheetConditions, Part, Mark, Low, High, cellOf, cellsOf, totalIn, CountsMost}
@@ -193,15 +193,15 @@ module _ (scenario : Scenario) {exact : Exact} (sound : Sound scenario exact) (s
         most-if (hasReference e scenario i (pathwayAt p)) e (figureAt e scenario j i (pathwayAt p))
         (λ h. let f = figure h in rw (f .works .told, f .told) (count-small e (f .pair) (f .units) (exactly 256 (pacesOf (pairsAt scenario j i)) (exact j i) (page.line (guidanceIn scenario) e (stayIn scenario j) (pathwayAt p))) (f .told) (f .works .held 256 (lit≤ tt)) (f .capped)))
 
-  pub total-small : (e : Effect) (j : ℕ) → j < scenario .receptors .count → CountsMost (96 * 10 ^ 16) (totalAt e scenario j)
+  pub total-small : (e : Effect) (j : ℕ) → j < scenario .receptors .count → CountsMost (mostLines * 10 ^ 16) (totalAt e scenario j)
   unfolding totalAt
   total-small e j h =
-      most-more (scenario .chemicals .count * (6 * 10 ^ 16)) (96 * 10 ^ 16) (totalAt e scenario j) (omega (arith, mul-le-mul-right (6 * 10 ^ 16) (sound .few-chemicals)))
-      (most-over (6 * 10 ^ 16) (λ i. addedOver (λ p. columnsAt e scenario j i (pathwayAt p)) pathwaysPerChemical) (scenario .chemicals .count)
+      most-more (scenario .chemicals .count * (pathwaysPerChemical * 10 ^ 16)) (mostLines * 10 ^ 16) (totalAt e scenario j) (omega (arith, mul-le-mul-right (pathwaysPerChemical * 10 ^ 16) (sound .few-chemicals)))
+      (most-over (pathwaysPerChemical * 10 ^ 16) (λ i. addedOver (λ p. columnsAt e scenario j i (pathwayAt p)) pathwaysPerChemical) (scenario .chemicals .count)
       (λ i l. most-over (10 ^ 16) (λ p. columnsAt e scenario j i (pathwayAt p)) pathwaysPerChemical (λ p k. columns-small e j i p h l k)))
 
   -- a total read from the cells is the receptor's total
-  pub total-held : (j : ℕ) → j < scenario .receptors .count → (e : Effect) → totalIn (cellsOf scenario) j e (scenario .chemicals .count * 6) ≡ totalAt e scenario j
+  pub total-held : (j : ℕ) → j < scenario .receptors .count → (e : Effect) → totalIn (cellsOf scenario) j e (scenario .chemicals .count * pathwaysPerChemical) ≡ totalAt e scenario j
   total-held j h e =
       columns-total scenario (sound .few-chemicals) (sound .few-receptors) j h e
-      (λ q l w. cell-most (columnsAt e scenario j (q / 6) (pathwayAt (q % 6))) w (columns-small e j (q / 6) (q % 6) h (omega arith) (omega arith)))
+      (λ q l w. cell-most (columnsAt e scenario j (q / pathwaysPerChemical) (pathwayAt (q % pathwaysPerChemical))) w (columns-small e j (q / pathwaysPerChemical) (q % pathwaysPerChemical) h (omega arith) (omega arith)))

@@ -5,6 +5,7 @@ use mathlib.Core.Bool.{false, cond, _&&_, true≢false}
 use Prim.Native.Nat.{ℕ, _-_, _<_}
 use lib.IntN.{pos}
 use lib.ListN.{getD, replicate}
+use Rattle.sizes.specs.Sizes.{mostReceptors}
 use Rattle.pair.specs.declared.Pair.{Pair}
 use Rattle.pair.specs.Calls.{Outcome, is, refused, mapped, after, entry, product, quotient}
 use Rattle.slots.specs.declared.Guidance.{Guidance}
@@ -396,7 +397,7 @@ module _ (scenario : Scenario) (j i : ℕ) (p : Pathway) (here : j < scenario .r
   unfolding meanAt sourceWith meansOf mean meanFor receptorIn
   mean-at =
       filled-at (λ k. mediaFrom (meanWith (valuesOf (scenario .site)) (valuesOf (chemicalIn scenario i)) (getD (scenario .receptors .list) k noReceptor) (has .ground))) noMedia
-      (scenario .receptors .count) (replicate (4 - scenario .receptors .count) noMedia) j here
+      (scenario .receptors .count) (replicate (mostReceptors - scenario .receptors .count) noMedia) j here
 
   figures-are : figuresFrom (siteOf (scenario .site)) j (receptorIn scenario j .values) source p
       ≡ figuresWith (habitsOf (guidanceIn scenario) (receptorIn scenario j .values)) p (valuesOf (scenario .site)) (absorbedOf (valuesOf (chemicalIn scenario i))) (receptorIn scenario j .values) (has .ground .highest) mean (referencesOf (chemicalIn scenario i))

@@ -43,7 +43,7 @@ use Rattle.sheet.specs.Counts.{Part, Mark, Low, High, cellOf, sideOf, ef
 
 -- for each of 4 receptors at most six lines for each of 16 chemicals, and a total line: 388
 abbrev pub maxRows : ℕ
-maxRows = 4 * (16 * 6 + 1)
+maxRows = mostReceptors * (mostLines + 1)
 
 -- ---- a figure: its two columns, and whether it is above its cap
 unfoldable pub columnsOf : Effect → Outcome (Optional Pair) → Columns

@@ -26,6 +26,7 @@ ghost use mathlib.Core.Path.{_≡_};
 ghost use mathlib.Core.Bool.{true, false, not};
 ghost use Prim.Native.Nat.{_≤_};
 ghost use lib.ListN.{getD};
+ghost use Rattle.sizes.specs.Sizes.{maxChemicals, mostReceptors};
 ghost use Rattle.cases.specs.declared.Status.the-variants as Statuses;
 ghost use Rattle.cases.specs.Conditions.{first};
 ghost use Rattle.media.specs.Media as media;
@@ -104,7 +105,7 @@ fn not_sourced() -> Sourced
 
 // The media of the receptors' cancer.
 fn means_of(site: Values, chemical: Values, receptors: Receptors, ground: Ground) -> Means
-    requires { ⌜ receptors .count ≤ 4 ⌝ }
+    requires { ⌜ receptors .count ≤ mostReceptors ⌝ }
     ensures { λ r. ⌜ r .worked ≡ not (anyOf (λ j. isRefused (meanWith site chemical (getD (receptors .list) j noReceptor) ground)) (receptors .count)) ⌝ }
     ensures { λ r. ⌜ (r .worked ≡ true → r .list ≡ meansOf site chemical receptors ground) ⌝ }
 {
@@ -130,7 +131,7 @@ fn source_from(
     receptors: Receptors,
     ground: Ground,
 ) -> Sourced
-    requires { ⌜ (receptors .count ≤ 4) × (values ≡ valuesOf chemical) ⌝ }
+    requires { ⌜ (receptors .count ≤ mostReceptors) × (values ≡ valuesOf chemical) ⌝ }
     ensures { λ r. ⌜ r .worked ≡ not (anyOf (λ j. isRefused (meanWith site (valuesOf chemical) (getD (receptors .list) j noReceptor) ground)) (receptors .count)) ⌝ }
     ensures { λ r. ⌜ (r .worked ≡ true → r .source ≡ sourceFrom site chemical receptors (is ground)) ⌝ }
 {
@@ -150,7 +151,7 @@ fn source_from(
 
 // What a chemical's lines take, or nothing where its media are refused.
 fn source_of(site: Values, chemical: Record, receptors: Receptors) -> Sourced
-    requires { ⌜ receptors .count ≤ 4 ⌝ }
+    requires { ⌜ receptors .count ≤ mostReceptors ⌝ }
     ensures { λ r. ⌜ r .worked ≡ not (stopsWith site receptors chemical) ⌝ }
     ensures { λ r. ⌜ (r .worked ≡ true → r .source ≡ sourceOf site receptors chemical) ⌝ }
 {
@@ -174,7 +175,7 @@ fn stopped_at(i: usize) -> Prepared
 
 // The source of each chemical, or the first whose media are refused. No chemical of a deck is.
 pub(crate) fn sources_of(site: Values, chemicals: Chemicals, receptors: Receptors) -> Prepared
-    requires { ⌜ (chemicals .count ≤ 16) × (receptors .count ≤ 4) ⌝ }
+    requires { ⌜ (chemicals .count ≤ maxChemicals) × (receptors .count ≤ mostReceptors) ⌝ }
     ensures { λ r. ⌜ r .status ≡ first (chained (refusedSource site receptors (chemicals .records)) (chemicals .count)) ⌝ }
     ensures { λ r. ⌜ (r .status ≡ Statuses.Passed → r .sources ≡ sourcesOf site receptors chemicals) ⌝ }
 {

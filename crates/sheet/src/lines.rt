@@ -19,7 +19,7 @@ ghost use Rattle.cases.specs.declared.Status.the-variants as Statuses;
 ghost use Rattle.cases.specs.Conditions.{first};
 ghost use Rattle.pathway.specs.Lines as specs;
 ghost use Rattle.sheet.specs.Sheet.{pathwayAt};
-ghost use Rattle.sizes.specs.Sizes.{mostLines};
+ghost use Rattle.sizes.specs.Sizes.{mostLines, maxChemicals, mostReceptors, pathwaysPerChemical};
 ghost use Rattle.sheet.specs.Counts.{effectCells, receptorCells, allCells, noCells};
 ghost use Rattle.sheet.specs.Inner.{maxRows, isLarge, withCounts, sourceColumns, columnsWorked, largeChemical, largeWorked, allLarge, CellsHold, CellsEmpty, CellsFilled, SameBelow, SameBut, ZeroFrom};
 use crate::CELLS;
@@ -99,10 +99,10 @@ fn put_chemical(
     source: Source,
     before: usize,
 ) -> Status
-    requires { ⌜ (base + effectCells + 2 * mostLines + 6 ≤ length (now cells)) × (before ≤ maxRows + mostLines) × (place < 4) × (specs.shared habits ≡ specs.habitsOf (site .guidance) receptor) ⌝ }
+    requires { ⌜ (base + effectCells + 2 * mostLines + pathwaysPerChemical ≤ length (now cells)) × (before ≤ maxRows + mostLines) × (place < mostReceptors) × (specs.shared habits ≡ specs.habitsOf (site .guidance) receptor) ⌝ }
     ensures { λ s. ⌜ s ≡ first (largeChemical site place receptor source before) ⌝ }
-    ensures { λ s. ⌜ (s ≡ Statuses.Passed → CellsHold (sourceColumns site place receptor source) 6 (now (cells .exit)) base) ⌝ }
-    ensures { λ _. ⌜ SameBut 6 base (now (cells .entry)) (now (cells .exit)) ⌝ }
+    ensures { λ s. ⌜ (s ≡ Statuses.Passed → CellsHold (sourceColumns site place receptor source) pathwaysPerChemical (now (cells .exit)) base) ⌝ }
+    ensures { λ _. ⌜ SameBut pathwaysPerChemical base (now (cells .entry)) (now (cells .exit)) ⌝ }
 {
     let mean = source.means[place];
     let mut p: usize = 0;
@@ -142,11 +142,11 @@ fn put_lines(
     sources: Sources,
     before: usize,
 ) -> Status
-    requires { ⌜ (base + receptorCells ≤ length (now cells)) × (sources .count ≤ 16) × (before ≤ maxRows) × (place < 4) ⌝ }
+    requires { ⌜ (base + receptorCells ≤ length (now cells)) × (sources .count ≤ maxChemicals) × (before ≤ maxRows) × (place < mostReceptors) ⌝ }
     ensures { λ s. ⌜ s ≡ first (largeWorked site sources place receptor before) ⌝ }
-    ensures { λ s. ⌜ (s ≡ Statuses.Passed → CellsHold (columnsWorked site sources place receptor) (sources .count * 6) (now (cells .exit)) base) ⌝ }
+    ensures { λ s. ⌜ (s ≡ Statuses.Passed → CellsHold (columnsWorked site sources place receptor) (sources .count * pathwaysPerChemical) (now (cells .exit)) base) ⌝ }
     ensures { λ _. ⌜ SameBelow base (now (cells .entry)) (now (cells .exit)) ⌝ }
-    ensures { λ s. ⌜ (ZeroFrom base (now (cells .entry)) → CellsEmpty (sources .count * 6) (now (cells .exit)) base × ZeroFrom (base + receptorCells) (now (cells .exit))) ⌝ }
+    ensures { λ s. ⌜ (ZeroFrom base (now (cells .entry)) → CellsEmpty (sources .count * pathwaysPerChemical) (now (cells .exit)) base × ZeroFrom (base + receptorCells) (now (cells .exit))) ⌝ }
 {
     let guidance = site.guidance;
     let habits = habits_of(guidance, receptor);
@@ -176,7 +176,7 @@ fn put_lines(
 
 // Every receptor's counts, or the first line above a cap.
 fn put_receptors(cells: &mut [u64], site: Site, receptors: Receptors, sources: Sources) -> Status
-    requires { ⌜ (length (now cells) ≡ allCells) × (receptors .count ≤ 4) × (sources .count ≤ 16) ⌝ }
+    requires { ⌜ (length (now cells) ≡ allCells) × (receptors .count ≤ mostReceptors) × (sources .count ≤ maxChemicals) ⌝ }
     ensures { λ s. ⌜ s ≡ first (allLarge site sources (receptors .list) (receptors .count)) ⌝ }
     ensures { λ s. ⌜ (s ≡ Statuses.Passed → ZeroFrom 0 (now (cells .entry)) → CellsFilled site sources (receptors .list) (receptors .count) (now (cells .exit)) × ZeroFrom (receptorCells * receptors .count) (now (cells .exit))) ⌝ }
 {
@@ -210,7 +210,7 @@ pub(crate) fn put_all(
     receptors: Receptors,
     sources: Sources,
 ) -> Status
-    requires { ⌜ (receptors .count ≤ 4) × (sources .count ≤ 16) ⌝ }
+    requires { ⌜ (receptors .count ≤ mostReceptors) × (sources .count ≤ maxChemicals) ⌝ }
     ensures { λ s. ⌜ s ≡ first (allLarge site sources (receptors .list) (receptors .count)) ⌝ }
     ensures { λ s. ⌜ (s ≡ Statuses.Passed → ZeroFrom 0 (now (cells .entry)) → CellsFilled site sources (receptors .list) (receptors .count) (now (cells .exit)) × ZeroFrom (receptorCells * receptors .count) (now (cells .exit))) ⌝ }
     ensures { λ _. ⌜ length (now (cells .exit)) ≡ allCells ⌝ }

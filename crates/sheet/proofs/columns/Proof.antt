@@ -3,7 +3,7 @@ use mathlib.Core.Path.{ap, _∙_}
 use Prim.Native.Nat.{ℕ, _+_, _*_, _<_}
 use borrow.Author.Tests.{eq-eqb, ne-eqb, le-ltb, lt-ltb}
 use borrow.Author.Needs.{needs}
-use Rattle.sheet.specs.Counts.{isHeld, columnsFound, columnsIn}
+use Rattle.sheet.specs.Counts.{isHeld, columnsFound, columnsIn, effectCells, receptorCells}
 use Rattle.sheet.proofs.TotalsTold.{side-small}
 use Rattle.sheet.proofs.columns.Statement.{statement}
 use Rattle.sheet.proofs.columns.Tie as tie
@@ -52,7 +52,7 @@ returns-4 c =
     let t = c .before .before in
     let a = t .before .before .before .before .args in
     simp (eq-eqb _ _ (t .before .before .if1 .left), lt-ltb _ _ (t .before .if2 .left), lt-ltb _ _ (t .if3 .left))
-    (c .columns-found .ensures ∙ ap (λ (s : ℕ). columnsFound (a .cells .now) (576 * a .receptor + 288 * s + a .line)) (c .before .side-of .ensures))
+    (c .columns-found .ensures ∙ ap (λ (s : ℕ). columnsFound (a .cells .now) (receptorCells * a .receptor + effectCells * s + a .line)) (c .before .side-of .ensures))
 
 pub columns-spec : {M : Type 1} → statement M
 columns-spec =

@@ -2,7 +2,7 @@
 use mathlib.Core.Path.{sym, subst, _∙_}
 use borrow.Author.Needs.{needs}
 use Rattle.scenario.specs.Scenario.{scenarioFrom, noGuidance}
-use Rattle.sheet.specs.Counts.{noCells}
+use Rattle.sheet.specs.Counts.{noCells, allCells}
 use Rattle.sheet.specs.Inner.{ZeroFrom}
 use Rattle.sheet.proofs.CellLaws.{zeros}
 use Rattle.lists.proofs.Tabulated.{all-alike}
@@ -85,7 +85,7 @@ returns-6 c =
     let lines = c .before .before .put-all in
     let done = c .enum-told3 .given .1 in
     all-counted (scenarioFrom (a .site) (a .chemicals) (a .receptors)) (c .before .before .before .before .before .before .before .before .before .before .before .before .if1 .left) (c .before .before .before .before .before .before .before .before .before .before .if2 .left) (sym (c .before .before .before .before .before .before .before .before .before .has-no-guidance .ensures) ∙ c .before .before .before .before .before .before .before .before .if3 .left) _ (c .before .before .before .before .before .before .before .site-of .ensures) _ (sources .ensures .1 read) (sym (sources .ensures .0) ∙ read)
-    _ (lines .ensures .0) done (lines .last .0) (lines .ensures .1 .1) (lines .ensures .1 .0 done (subst (ZeroFrom 0) (all-alike 0 2304 ∙ sym (c .before .before .before .before .before .before .before .before .before .before .before .before .before .before .clear .ensures)) (zeros 2304)))
+    _ (lines .ensures .0) done (lines .last .0) (lines .ensures .1 .1) (lines .ensures .1 .0 done (subst (ZeroFrom 0) (all-alike 0 allCells ∙ sym (c .before .before .before .before .before .before .before .before .before .before .before .before .before .before .clear .ensures)) (zeros allCells)))
 
 pub counts-of-spec : {M : Type 1} → statement M
 counts-of-spec =

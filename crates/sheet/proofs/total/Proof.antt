@@ -1,10 +1,11 @@
 -- The totals of the first lines, where the cells are held. Assumes nothing.
 use mathlib.Core.Path.{ap, _∙_}
-use Prim.Native.Nat.{ℕ, _+_, _*_, _<_}
+use Prim.Native.Nat.{ℕ, _+_, _*_, _<_, suc}
 use native.Mathlib.Omega.{arith}
 use borrow.Author.Tests.{eq-eqb, ne-eqb, le-ltb, lt-ltb}
 use borrow.Author.Needs.{needs}
-use Rattle.sheet.specs.Counts.{isHeld, totalFound, totalIn}
+use Rattle.sizes.specs.Sizes.{mostLines}
+use Rattle.sheet.specs.Counts.{isHeld, totalFound, totalIn, effectCells, receptorCells}
 use Rattle.sheet.proofs.TotalsTold.{side-small}
 use Rattle.sheet.proofs.total.Statement.{statement}
 use Rattle.sheet.proofs.total.Tie as tie
@@ -47,9 +48,9 @@ unfolding isHeld totalIn
 returns-4 c =
     let t = c .before .before in
     let a = t .before .before .before .before .args in
-    let few : a .lines < 97 = omega (arith, t .if3 .left) in
+    let few : a .lines < (suc mostLines) = omega (arith, t .if3 .left) in
     simp (eq-eqb _ _ (t .before .before .if1 .left), lt-ltb _ _ (t .before .if2 .left), lt-ltb _ _ few)
-    (c .total-found .ensures ∙ ap (λ (s : ℕ). totalFound (a .cells .now) (576 * a .receptor + 288 * s) (a .lines)) (c .before .side-of .ensures))
+    (c .total-found .ensures ∙ ap (λ (s : ℕ). totalFound (a .cells .now) (receptorCells * a .receptor + effectCells * s) (a .lines)) (c .before .side-of .ensures))
 
 pub total-spec : {M : Type 1} → statement M
 total-spec =

@@ -5,6 +5,7 @@ use Prim.Native.Nat.{_-_, _≤_}
 use native.Mathlib.Omega.{arith}
 use borrow.Author.Needs.{needs}
 use lib.ListN.{replicate}
+use Rattle.sizes.specs.Sizes.{slotsPerRecord}
 use Rattle.pair.specs.Number.{one}
 use Rattle.pair.specs.Calls.{onePair, answer}
 use Rattle.equations.specs.Formula.{pairs}
@@ -18,10 +19,10 @@ use Rattle.composite.proofs.stages.composed_values.Statement.{statement
 use Rattle.composite.proofs.stages.composed_values.Tie as tie
 
 abbrev Inv-loop : tie.InvT-loop
-Inv-loop stages exposure last years total list₀ k₀ list k = (k ≤ 24) × (list ≡ tabulate k (λ i. orOne (composed pairs (stageIn (stages .records)) (answer exposure) last i)) ++ replicate (24 - k) onePair)
+Inv-loop stages exposure last years total list₀ k₀ list k = (k ≤ slotsPerRecord) × (list ≡ tabulate k (λ i. orOne (composed pairs (stageIn (stages .records)) (answer exposure) last i)) ++ replicate (slotsPerRecord - k) onePair)
 
 abbrev μ-loop : tie.MeasureT-loop
-μ-loop stages exposure last years total list₀ k₀ list k = 24 - k
+μ-loop stages exposure last years total list₀ k₀ list k = slotsPerRecord - k
 
 years-of-requires : tie.Need-years-of-requires Inv-loop μ-loop
 years-of-requires c κs = search needs
@@ -33,7 +34,7 @@ loop-holds : tie.Need-loop-holds Inv-loop μ-loop
 unfolding onePair one
 loop-holds c =
     let s = c .before .before in
-    (omega arith, filled-start (λ i. orOne (composed pairs (stageIn (s .args .stages .records)) (answer (s .args .exposure)) (s .args .last) i)) onePair 24)
+    (omega arith, filled-start (λ i. orOne (composed pairs (stageIn (s .args .stages .records)) (answer (s .args .exposure)) (s .args .last) i)) onePair slotsPerRecord)
 
 composed-at-requires : tie.Need-composed-at-requires Inv-loop μ-loop
 composed-at-requires c κs =
@@ -59,7 +60,7 @@ loop-again c =
     let s = c .before .before .before .before .before .before in
     let l = c .before .before .before .loop in (
       omega (arith, c .before .before .loop-test .taken),
-      filled-more (λ i. orOne (composed pairs (stageIn (s .args .stages .records)) (answer (s .args .exposure)) (s .args .last) i)) onePair 24 (l .k) (omega (arith, c .before .before .loop-test .taken)) (l .list) (l .inv .1) (c .or-one .result) (c .or-one .ensures ∙ ap orOne {y = composed pairs (stageIn (s .args .stages .records)) (answer (s .args .exposure)) (s .args .last) (l .k)} (c .before .composed-at .ensures)),
+      filled-more (λ i. orOne (composed pairs (stageIn (s .args .stages .records)) (answer (s .args .exposure)) (s .args .last) i)) onePair slotsPerRecord (l .k) (omega (arith, c .before .before .loop-test .taken)) (l .list) (l .inv .1) (c .or-one .result) (c .or-one .ensures ∙ ap orOne {y = composed pairs (stageIn (s .args .stages .records)) (answer (s .args .exposure)) (s .args .last) (l .k)} (c .before .composed-at .ensures)),
     )
 
 returns : tie.Need-returns Inv-loop μ-loop
@@ -67,8 +68,8 @@ unfolding composedIn
 returns c =
     let s = c .before .before .before .before in
     let l = c .before .loop in
-    let all : l .k ≡ 24 = omega (arith, c .loop-test .left) in
-    (rw all at (l .inv .1)) ∙ append-nil (tabulate 24 (λ i. orOne (composed pairs (stageIn (s .args .stages .records)) (answer (s .args .exposure)) (s .args .last) i)))
+    let all : l .k ≡ slotsPerRecord = omega (arith, c .loop-test .left) in
+    (rw all at (l .inv .1)) ∙ append-nil (tabulate slotsPerRecord (λ i. orOne (composed pairs (stageIn (s .args .stages .records)) (answer (s .args .exposure)) (s .args .last) i)))
 
 pub composed-values-spec : {M : Type 1} → statement M
 composed-values-spec =

@@ -3,6 +3,7 @@ use mathlib.Core.Path.{_≡_, sym, _∙_}
 use native.Mathlib.Omega.{arith}
 use borrow.Author.Needs.{needs}
 use lib.ListN.{length, length-map}
+use Rattle.sizes.specs.Sizes.{mostStages}
 use Rattle.pair.specs.Calls.{answer}
 use Rattle.composite.proofs.StageLaws.{composite-made}
 use Rattle.composite.proofs.stages.composite_of.Statement.{statement}
@@ -40,7 +41,7 @@ returns c =
     let p = v .before in
     let e = p .before in
     let s = e .before .before .before in
-    let long : length (s .args .case .receptors .records) ≡ 8 = sym (length-map (s .args .case .receptors .records) _) ∙ s .good .0 .1 .1 .1 .1 .0 .1 .1 .1 .0 .1 .0 .1 in
+    let long : length (s .args .case .receptors .records) ≡ mostStages = sym (length-map (s .args .case .receptors .records) _) ∙ s .good .0 .1 .1 .1 .1 .0 .1 .1 .1 .0 .1 .0 .1 in
     composite-made (s .args .case) _ (omega arith) (v .composed-values .result) (e .time-exposed .result) (answer (p .pair .result)) (e .time-exposed .ensures) (p .pair .ensures) (v .composed-values .ensures)
     (d .deposition-of .result) (r .receptor-with .result) (c .no-receptor .result) (d .deposition-of .ensures) (r .receptor-with .ensures) (c .no-receptor .ensures)
 

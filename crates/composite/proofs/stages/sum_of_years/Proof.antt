@@ -4,6 +4,7 @@ use Prim.Native.Nat.{_+_, _-_, _≤_}
 use native.Mathlib.Omega.{arith}
 use borrow.Author.Needs.{needs}
 use lib.ListN.{length, length-map}
+use Rattle.sizes.specs.Sizes.{mostStages}
 use Rattle.pair.specs.Calls.{answer}
 use Rattle.equations.specs.Formula.{pairs}
 use Rattle.composite.specs.Composite.{summed}
@@ -28,7 +29,7 @@ loop-holds : tie.Need-loop-holds Inv-loop μ-loop
 unfolding summed
 loop-holds c =
     let s = c .before .before in
-    let long : length (s .args .t1 .list) ≡ 8 = sym (length-map (s .args .t1 .list) _) ∙ s .good .0 .1 .1 .0 .1 .0 .1 in
+    let long : length (s .args .t1 .list) ≡ mostStages = sym (length-map (s .args .t1 .list) _) ∙ s .good .0 .1 .1 .0 .1 .0 .1 in
     (omega arith, c .answer .ensures ∙ year-is (s .args .t1 .list) _ 0 (omega arith))
 
 add-next : tie.Need-add-next Inv-loop μ-loop
@@ -53,7 +54,7 @@ loop-again : tie.Need-loop-again Inv-loop μ-loop
 loop-again c =
     let s = c .before .before .before .before .before .before .before in
     let l = c .before .before .before .before .loop in
-    let long : length (s .args .t1 .list) ≡ 8 = sym (length-map (s .args .t1 .list) _) ∙ s .good .0 .1 .1 .0 .1 .0 .1 in (
+    let long : length (s .args .t1 .list) ≡ mostStages = sym (length-map (s .args .t1 .list) _) ∙ s .good .0 .1 .1 .0 .1 .0 .1 in (
       omega (arith, c .before .before .before .loop-test .taken),
       next-sum (yearAt (s .args .t1 .list)) (l .sum) (c .plus .result) (answer (c .before .answer2 .result)) (l .j) (l .inv .1)
           (c .before .answer2 .ensures ∙ year-is (s .args .t1 .list) _ (l .j + 1) (omega (arith, c .before .before .before .loop-test .taken, s .pre))) (c .plus .ensures),

@@ -4,6 +4,7 @@ use Prim.Native.Nat.{_+_, _-_, _≤_}
 use native.Mathlib.Omega.{arith}
 use borrow.Author.Needs.{needs}
 use lib.ListN.{length, length-map}
+use Rattle.sizes.specs.Sizes.{mostStages}
 use Rattle.composite.specs.Composite.{yearsTogether}
 use Rattle.composite.specs.Inner.{timeIn}
 use Rattle.composite.proofs.StageLaws.{next-years, printed-is}
@@ -26,7 +27,7 @@ loop-holds : tie.Need-loop-holds Inv-loop μ-loop
 unfolding yearsTogether
 loop-holds c =
     let s = c .before .before in
-    let many : length (s .args .t1 .records) ≡ 8 = sym (length-map (s .args .t1 .records) _) ∙ s .good .0 .1 .1 .1 .0 .1 .0 .1 in
+    let many : length (s .args .t1 .records) ≡ mostStages = sym (length-map (s .args .t1 .records) _) ∙ s .good .0 .1 .1 .1 .0 .1 .0 .1 in
     (omega arith, c .time-in .ensures ∙ printed-is (s .args .t1 .records) _ 0 (omega arith))
 
 add-next : tie.Need-add-next Inv-loop μ-loop
@@ -52,7 +53,7 @@ loop-again c =
     let s = c .before .before .before .before .before .before .before in
     let l = c .before .before .before .before .loop in
     let more = c .before .before .before .loop-test .taken in
-    let many : length (s .args .t1 .records) ≡ 8 = sym (length-map (s .args .t1 .records) _) ∙ s .good .0 .1 .1 .1 .0 .1 .0 .1 in (
+    let many : length (s .args .t1 .records) ≡ mostStages = sym (length-map (s .args .t1 .records) _) ∙ s .good .0 .1 .1 .1 .0 .1 .0 .1 in (
       omega (arith, more),
       next-years (timeIn (s .args .t1 .records)) (l .sum) (c .added .result) (c .before .time-in2 .result) (l .j) (l .inv .1)
           (c .before .time-in2 .ensures ∙ printed-is (s .args .t1 .records) _ (l .j + 1) (omega (arith, more, s .pre))) (c .added .ensures),

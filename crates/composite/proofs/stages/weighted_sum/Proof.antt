@@ -4,6 +4,7 @@ use Prim.Native.Nat.{_+_, _-_, _≤_}
 use native.Mathlib.Omega.{arith}
 use borrow.Author.Needs.{needs}
 use lib.ListN.{length, length-map}
+use Rattle.sizes.specs.Sizes.{mostStages}
 use Rattle.pair.specs.Calls.{answer, after}
 use Rattle.equations.specs.Formula.{pairs}
 use Rattle.composite.specs.Composite.{summed}
@@ -34,8 +35,8 @@ loop-holds : tie.Need-loop-holds Inv-loop μ-loop
 unfolding summed after
 loop-holds c =
     let s = c .before .before .before .before in
-    let many : length (s .args .t1 .records) ≡ 8 = sym (length-map (s .args .t1 .records) _) ∙ s .good .0 .1 .1 .1 .0 .1 .0 .1 in
-    let long : length (s .args .t2 .list) ≡ 8 = sym (length-map (s .args .t2 .list) _) ∙ s .good .1 .0 .1 .1 .0 .1 .0 .1 in
+    let many : length (s .args .t1 .records) ≡ mostStages = sym (length-map (s .args .t1 .records) _) ∙ s .good .0 .1 .1 .1 .0 .1 .0 .1 in
+    let long : length (s .args .t2 .list) ≡ mostStages = sym (length-map (s .args .t2 .list) _) ∙ s .good .1 .0 .1 .1 .0 .1 .0 .1 in
     (omega arith, c .product .ensures ∙ weight-is (s .args .t1 .records) (s .args .t2 .list) _ _ 0 (s .args .k) (omega arith) (omega arith) (c .before .value-in .result) (c .before .value-in .ensures))
 
 add-next : tie.Need-add-next Inv-loop μ-loop
@@ -67,8 +68,8 @@ loop-again c =
     let s = c .before .before .before .before .before .before .before .before .before .before in
     let l = c .before .before .before .before .before .loop in
     let more = c .before .before .before .before .loop-test .taken in
-    let many : length (s .args .t1 .records) ≡ 8 = sym (length-map (s .args .t1 .records) _) ∙ s .good .0 .1 .1 .1 .0 .1 .0 .1 in
-    let long : length (s .args .t2 .list) ≡ 8 = sym (length-map (s .args .t2 .list) _) ∙ s .good .1 .0 .1 .1 .0 .1 .0 .1 in (
+    let many : length (s .args .t1 .records) ≡ mostStages = sym (length-map (s .args .t1 .records) _) ∙ s .good .0 .1 .1 .1 .0 .1 .0 .1 in
+    let long : length (s .args .t2 .list) ≡ mostStages = sym (length-map (s .args .t2 .list) _) ∙ s .good .1 .0 .1 .1 .0 .1 .0 .1 in (
       omega (arith, more),
       next-sum (weightAt (s .args .t1 .records) (s .args .t2 .list) (s .args .k)) (l .sum) (c .plus-product .result) _ (l .j) (l .inv .1)
           (weight-is (s .args .t1 .records) (s .args .t2 .list) _ _ (l .j + 1) (s .args .k) (omega (arith, more, s .pre)) (omega (arith, more, s .pre)) (c .before .value-in2 .result) (c .before .value-in2 .ensures)) (c .plus-product .ensures),

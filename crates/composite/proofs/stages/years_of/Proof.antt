@@ -5,6 +5,7 @@ use Prim.Native.Nat.{_-_, _≤_}
 use native.Mathlib.Omega.{arith}
 use borrow.Author.Needs.{needs}
 use lib.ListN.{length, replicate, length-map}
+use Rattle.sizes.specs.Sizes.{mostStages}
 use Rattle.pair.specs.Number.{one}
 use Rattle.pair.specs.Calls.{onePair}
 use Rattle.slots.specs.Slots.{table, same, isIn, placeIn, ownerOf, placeOf}
@@ -16,14 +17,14 @@ use Rattle.composite.proofs.stages.years_of.Statement.{statement}
 use Rattle.composite.proofs.stages.years_of.Tie as tie
 
 abbrev Inv-loop : tie.InvT-loop
-Inv-loop stages list₀ j₀ list j = (j ≤ 8) × (list ≡ tabulate j (λ i. pairIn (stages .records) i (placeOf "years")) ++ replicate (8 - j) onePair)
+Inv-loop stages list₀ j₀ list j = (j ≤ mostStages) × (list ≡ tabulate j (λ i. pairIn (stages .records) i (placeOf "years")) ++ replicate (mostStages - j) onePair)
 
 abbrev μ-loop : tie.MeasureT-loop
-μ-loop stages list₀ j₀ list j = 8 - j
+μ-loop stages list₀ j₀ list j = mostStages - j
 
 loop-holds : tie.Need-loop-holds Inv-loop μ-loop
 unfolding onePair one
-loop-holds c = (omega arith, filled-start (λ i. pairIn (c .args .t1 .records) i (placeOf "years")) onePair 8)
+loop-holds c = (omega arith, filled-start (λ i. pairIn (c .args .t1 .records) i (placeOf "years")) onePair mostStages)
 
 mul-stage : tie.Need-mul-stage Inv-loop μ-loop
 mul-stage c = search needs
@@ -51,9 +52,9 @@ unfolding placeOf ownerOf placeIn isIn same table
 loop-again c =
     let s = c .before .before .before .before in
     let l = c .before .before .before .loop in
-    let long : length (s .args .t1 .records) ≡ 8 = sym (length-map (s .args .t1 .records) _) ∙ s .good .0 .1 .1 .1 .0 .1 .0 .1 in (
+    let long : length (s .args .t1 .records) ≡ mostStages = sym (length-map (s .args .t1 .records) _) ∙ s .good .0 .1 .1 .1 .0 .1 .0 .1 in (
       omega (arith, c .before .before .loop-test .taken),
-      filled-more (λ i. pairIn (s .args .t1 .records) i (placeOf "years")) onePair 8 (l .j) (omega (arith, c .before .before .loop-test .taken)) (l .list) (l .inv .1) (c .value-in .result)
+      filled-more (λ i. pairIn (s .args .t1 .records) i (placeOf "years")) onePair mostStages (l .j) (omega (arith, c .before .before .loop-test .taken)) (l .list) (l .inv .1) (c .value-in .result)
           (c .value-in .ensures ∙ value-is (s .args .t1 .records) _ (l .j) 22 (omega (arith, c .before .before .loop-test .taken))),
     )
 
@@ -62,8 +63,8 @@ unfolding yearsIn
 returns c =
     let s = c .before .before in
     let l = c .before .loop in
-    let all : l .j ≡ 8 = omega (arith, c .loop-test .left) in
-    (rw all at (l .inv .1)) ∙ append-nil (tabulate 8 (λ i. pairIn (s .args .t1 .records) i (placeOf "years")))
+    let all : l .j ≡ mostStages = omega (arith, c .loop-test .left) in
+    (rw all at (l .inv .1)) ∙ append-nil (tabulate mostStages (λ i. pairIn (s .args .t1 .records) i (placeOf "years")))
 
 pub years-of-spec : {M : Type 1} → statement M
 years-of-spec =

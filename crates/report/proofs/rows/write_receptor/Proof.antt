@@ -7,7 +7,8 @@ use native.Mathlib.Omega.{arith}
 use borrow.Author.Needs.{needs}
 use borrow.Rule.Slice.PartMut.{mid-len, same-len-mid}
 use lib.ListN.{length, drop, length-map}
-use Rattle.text.specs.Text.{linesText}
+use Rattle.sizes.specs.Sizes.{maxChemicals, pathwaysPerChemical}
+use Rattle.text.specs.Text.{linesText, reportLineWidth}
 use Rattle.lists.specs.Lists.{chained}
 use Rattle.report.specs.InMemory.{linesIn}
 use Rattle.report.proofs.Written.{line-more, total-more}
@@ -16,7 +17,7 @@ use Rattle.report.proofs.rows.write_receptor.Tie as tie
 
 abbrev Inv-loop : tie.InvT-loop
 Inv-loop part₀ cells receptor id chemicals count q₀ part q =
-    (q ≤ count) × (length part ≡ length part₀) × (part ≡ linesText (linesIn cells receptor id chemicals q) ++ drop (95 * q) part₀)
+    (q ≤ count) × (length part ≡ length part₀) × (part ≡ linesText (linesIn cells receptor id chemicals q) ++ drop (reportLineWidth * q) part₀)
 
 abbrev μ-loop : tie.MeasureT-loop
 μ-loop part₀ cells receptor id chemicals count q₀ part q = count - q
@@ -66,14 +67,14 @@ loop-again c =
     let s = c .before .before .before .before .before .before .before .before .before .before in
     let l = c .before .before .before .before .before .before .before .loop in
     let test = c .before .before .before .before .before .before .loop-test .taken in
-    let long : length (s .args .t5 .records) ≡ 16 = sym (length-map (s .args .t5 .records) _) ∙ s .good .1 .1 .1 .1 .0 .1 .1 .1 .0 .1 .0 .1 in
-    let here : l .q / 6 < length (s .args .t5 .records) = omega (arith, test, s .pre) in
-    let past : 95 * l .q + 95 ≤ length (l .part) = omega (arith, test, l .inv .1, s .pre) in
-    let cut : 95 * l .q + 95 - 95 * l .q ≡ 95 = omega arith in
-    let wide = mid-len (95 * l .q) (95 * l .q + 95) (l .part) past ∙ cut in
+    let long : length (s .args .t5 .records) ≡ maxChemicals = sym (length-map (s .args .t5 .records) _) ∙ s .good .1 .1 .1 .1 .0 .1 .1 .1 .0 .1 .0 .1 in
+    let here : l .q / pathwaysPerChemical < length (s .args .t5 .records) = omega (arith, test, s .pre) in
+    let past : reportLineWidth * l .q + reportLineWidth ≤ length (l .part) = omega (arith, test, l .inv .1, s .pre) in
+    let cut : reportLineWidth * l .q + reportLineWidth - reportLineWidth * l .q ≡ reportLineWidth = omega arith in
+    let wide = mid-len (reportLineWidth * l .q) (reportLineWidth * l .q + reportLineWidth) (l .part) past ∙ cut in
     let row = c .before .before .put-row in (
       omega (arith, test),
-      same-len-mid (95 * l .q) (95 * l .q + 95 - 95 * l .q) (l .part) (row .last .0) (row .kept .0) ∙ l .inv .1,
+      same-len-mid (reportLineWidth * l .q) (reportLineWidth * l .q + reportLineWidth - reportLineWidth * l .q) (l .part) (row .last .0) (row .kept .0) ∙ l .inv .1,
       line-more (s .args .cells .now) (s .args .receptor) (s .args .id) (s .args .t5) _ (s .args .part .now) (l .part) _ (row .last .0) (l .q) _ here (c .before .before .before .before .row-of .ensures) wide (row .ensures .1) (l .inv .2),
     )
 
@@ -101,20 +102,20 @@ put-row-requires-2 c κs = search needs
 same-length : tie.Need-same-length Inv-loop μ-loop
 same-length c =
     let l = c .before .before .before .before .before .before .loop in
-    let n = c .before .before .before .before .before .before .before .before .before .args .t5 .count * 6 in
+    let n = c .before .before .before .before .before .before .before .before .before .args .t5 .count * pathwaysPerChemical in
     let row = c .before .before .put-row2 in
-    same-len-mid (95 * n) (95 * n + 95 - 95 * n) (l .part) (row .last .0) (row .kept .0) ∙ l .inv .1
+    same-len-mid (reportLineWidth * n) (reportLineWidth * n + reportLineWidth - reportLineWidth * n) (l .part) (row .last .0) (row .kept .0) ∙ l .inv .1
 
 returns : tie.Need-returns Inv-loop μ-loop
 returns c =
     let s = c .before .before .before .before .before .before .before .before .before in
     let l = c .before .before .before .before .before .before .loop in
-    let all : l .q ≡ s .args .t5 .count * 6 = omega (arith, c .before .before .before .before .before .loop-test .left) in
+    let all : l .q ≡ s .args .t5 .count * pathwaysPerChemical = omega (arith, c .before .before .before .before .before .loop-test .left) in
     let row = c .before .before .put-row2 in
-    let n = s .args .t5 .count * 6 in
-    let past : 95 * n + 95 ≤ length (l .part) = omega (arith, l .inv .1, s .pre) in
-    let cut : 95 * n + 95 - 95 * n ≡ 95 = omega arith in
-    let wide = mid-len (95 * n) (95 * n + 95) (l .part) past ∙ cut in
+    let n = s .args .t5 .count * pathwaysPerChemical in
+    let past : reportLineWidth * n + reportLineWidth ≤ length (l .part) = omega (arith, l .inv .1, s .pre) in
+    let cut : reportLineWidth * n + reportLineWidth - reportLineWidth * n ≡ reportLineWidth = omega arith in
+    let wide = mid-len (reportLineWidth * n) (reportLineWidth * n + reportLineWidth) (l .part) past ∙ cut in
     total-more (s .args .cells .now) (s .args .receptor) (s .args .id) (s .args .t5) (s .args .part .now) (l .part) _ (row .last .0) n _ refl (s .pre .1) (c .before .before .before .before .total-row .ensures) wide (row .ensures .1) (rw all at (l .inv .2))
 
 pub write-receptor-spec : {M : Type 1} → statement M

@@ -8,7 +8,8 @@ use native.Mathlib.Omega.{arith}
 use borrow.Author.Needs.{needs}
 use borrow.Rule.Slice.PartMut.{mid-len, same-len-mid}
 use lib.ListN.{length, drop, length-map}
-use Rattle.text.specs.Text.{linesText}
+use Rattle.sizes.specs.Sizes.{mostReceptors, pathwaysPerChemical}
+use Rattle.text.specs.Text.{linesText, reportLineWidth}
 use Rattle.lists.specs.Lists.{chained}
 use Rattle.report.specs.InMemory.{reportIn}
 use Rattle.report.proofs.Written.{within, receptor-more}
@@ -50,7 +51,7 @@ mul-at : tie.Need-mul-at Inv-loop μ-loop
 mul-at c =
     let s = c .before .before .before .before .before .before in
     let l = c .before .before .loop in
-    let width = 95 * (s .args .chemicals .count * 6 + 1) in
+    let width = reportLineWidth * (s .args .chemicals .count * pathwaysPerChemical + 1) in
     let past : width * l .j + width ≤ length (l .out) = omega (arith, l .inv .1, s .pre, within (s .args .t4 .count) (l .j) (s .args .chemicals .count) (c .before .loop-test .taken)) in
     record { fits = omega arith }
 
@@ -58,7 +59,7 @@ add-write-receptor : tie.Need-add-write-receptor Inv-loop μ-loop
 add-write-receptor c =
     let s = c .before .before .before .before .before .before in
     let l = c .before .before .loop in
-    let width = 95 * (s .args .chemicals .count * 6 + 1) in
+    let width = reportLineWidth * (s .args .chemicals .count * pathwaysPerChemical + 1) in
     let past : width * l .j + width ≤ length (l .out) = omega (arith, l .inv .1, s .pre, within (s .args .t4 .count) (l .j) (s .args .chemicals .count) (c .before .loop-test .taken)) in
     record { fits = omega arith }
 
@@ -72,7 +73,7 @@ part-write-receptor-end : tie.Need-part-write-receptor-end Inv-loop μ-loop
 part-write-receptor-end c =
     let s = c .before .before .before .before .before .before in
     let l = c .before .before .loop in
-    let width = 95 * (s .args .chemicals .count * 6 + 1) in
+    let width = reportLineWidth * (s .args .chemicals .count * pathwaysPerChemical + 1) in
     let past : width * l .j + width ≤ length (l .out) = omega (arith, l .inv .1, s .pre, within (s .args .t4 .count) (l .j) (s .args .chemicals .count) (c .before .loop-test .taken)) in
     past
 
@@ -80,7 +81,7 @@ write-receptor-requires : tie.Need-write-receptor-requires Inv-loop μ-loop
 write-receptor-requires c κs =
     let s = c .before .before .before .before .before .before .before in
     let l = c .before .before .before .loop in
-    let width = 95 * (s .args .chemicals .count * 6 + 1) in
+    let width = reportLineWidth * (s .args .chemicals .count * pathwaysPerChemical + 1) in
     let past : width * l .j + width ≤ length (l .out) = omega (arith, l .inv .1, s .pre, within (s .args .t4 .count) (l .j) (s .args .chemicals .count) (c .before .before .loop-test .taken)) in
     let wide : width * l .j + width - width * l .j ≡ width = omega arith in
     (s .pre .0 .0, mid-len (width * l .j) (width * l .j + width) (l .out) past ∙ wide)
@@ -92,9 +93,9 @@ loop-again : tie.Need-loop-again Inv-loop μ-loop
 loop-again c =
     let s = c .before .before .before .before .before .before .before .before .before .before in
     let l = c .before .before .before .before .before .before .loop in
-    let width = 95 * (s .args .chemicals .count * 6 + 1) in
+    let width = reportLineWidth * (s .args .chemicals .count * pathwaysPerChemical + 1) in
     let past : width * l .j + width ≤ length (l .out) = omega (arith, l .inv .1, s .pre, within (s .args .t4 .count) (l .j) (s .args .chemicals .count) (c .before .before .before .before .before .loop-test .taken)) in
-    let long : length (s .args .t4 .list) ≡ 4 = sym (length-map (s .args .t4 .list) _) ∙ s .good .1 .1 .1 .0 .1 .1 .1 .0 .1 .0 .1 in
+    let long : length (s .args .t4 .list) ≡ mostReceptors = sym (length-map (s .args .t4 .list) _) ∙ s .good .1 .1 .1 .0 .1 .1 .1 .0 .1 .0 .1 in
     let here : l .j < length (s .args .t4 .list) = omega (arith, c .before .before .before .before .before .loop-test .taken, s .pre) in
     let part = c .before .before .write-receptor in (
       omega (arith, c .before .before .before .before .before .loop-test .taken),
@@ -110,7 +111,7 @@ returns c =
     let s = c .before .before .before .before .before in
     let l = c .before .loop in
     let all : l .j ≡ s .args .t4 .count = omega (arith, c .loop-test .left) in
-    let end : 95 * (s .args .chemicals .count * 6 + 1) * s .args .t4 .count ≡ 95 * (s .args .t4 .count * (s .args .chemicals .count * 6 + 1)) = omega arith in
+    let end : reportLineWidth * (s .args .chemicals .count * pathwaysPerChemical + 1) * s .args .t4 .count ≡ reportLineWidth * (s .args .t4 .count * (s .args .chemicals .count * pathwaysPerChemical + 1)) = omega arith in
     (rw all at (l .inv .2))
     ∙ ap (λ (k : ℕ). linesText (reportIn (s .args .cells .now) (s .args .chemicals) (s .args .t4 .list) (s .args .t4 .count)) ++ drop k (s .args .out .now)) end
 

@@ -3,6 +3,7 @@ use mathlib.Core.Path.{_≡_, sym, ap, _∙_}
 use native.Mathlib.Omega.{arith}
 use borrow.Author.Needs.{needs}
 use lib.ListN.{length, length-map}
+use Rattle.sizes.specs.Sizes.{mostStages}
 use Rattle.times.specs.declared.Years.{Years}
 use Rattle.cases.specs.declared.Record.{Record}
 use Rattle.scenario.specs.declared.Receptor.{Receptor}
@@ -41,7 +42,7 @@ enter-requires-4 c κs = search needs
 returns : tie.Need-returns
 returns c =
     let s = c .before .before .before .before .before .before .before .before .before .before in
-    let long : length (s .args .case .receptors .records) ≡ 8 = sym (length-map (s .args .case .receptors .records) _) ∙ s .good .0 .1 .1 .1 .1 .0 .1 .1 .1 .0 .1 .0 .1 in
+    let long : length (s .args .case .receptors .records) ≡ mostStages = sym (length-map (s .args .case .receptors .records) _) ∙ s .good .0 .1 .1 .1 .1 .0 .1 .1 .1 .0 .1 .0 .1 in
     let since = c .before .before .before .before .before .before .before .before .before .deposition-of .ensures in
     let at : (r : Record) (y : Years) → y ≡ depositionOf (s .args .case .site) → (p : Receptor) → p ≡ entered y r → p ≡ entered (depositionOf (s .args .case .site)) r = λ r y e p q. q ∙ ap (λ (z : Years). entered z r) e in
     entered-all (s .args .case) _ (omega arith) _ _ _ _ (at _ _ since _ (c .before .before .before .before .before .before .enter .ensures)) (at _ _ since _ (c .before .before .before .before .enter2 .ensures)) (at _ _ since _ (c .before .before .enter3 .ensures)) (at _ _ since _ (c .enter4 .ensures))

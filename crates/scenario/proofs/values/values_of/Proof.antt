@@ -5,6 +5,7 @@ use Prim.Native.Nat.{_-_, _≤_, _<_}
 use native.Mathlib.Omega.{arith}
 use borrow.Author.Needs.{needs}
 use lib.ListN.{length, getD, replicate, length-map}
+use Rattle.sizes.specs.Sizes.{slotsPerRecord}
 use Rattle.pair.specs.Number.{one}
 use Rattle.pair.specs.Calls.{onePair}
 use Rattle.cases.specs.declared.Filled.{Filled}
@@ -16,14 +17,14 @@ use Rattle.scenario.proofs.values.values_of.Statement.{statement}
 use Rattle.scenario.proofs.values.values_of.Tie as tie
 
 abbrev Inv-loop : tie.InvT-loop
-Inv-loop r list₀ k₀ list k = (k ≤ 24) × (list ≡ tabulate k (λ i. pairOf (getD (r .slots) i noSlot .value)) ++ replicate (24 - k) onePair)
+Inv-loop r list₀ k₀ list k = (k ≤ slotsPerRecord) × (list ≡ tabulate k (λ i. pairOf (getD (r .slots) i noSlot .value)) ++ replicate (slotsPerRecord - k) onePair)
 
 abbrev μ-loop : tie.MeasureT-loop
-μ-loop r list₀ k₀ list k = 24 - k
+μ-loop r list₀ k₀ list k = slotsPerRecord - k
 
 loop-holds : tie.Need-loop-holds Inv-loop μ-loop
 unfolding onePair one
-loop-holds c = (omega arith, filled-start (λ i. pairOf (getD (c .args .t1 .slots) i noSlot .value)) onePair 24)
+loop-holds c = (omega arith, filled-start (λ i. pairOf (getD (c .args .t1 .slots) i noSlot .value)) onePair slotsPerRecord)
 
 mul-slot : tie.Need-mul-slot Inv-loop μ-loop
 mul-slot c = search needs
@@ -51,7 +52,7 @@ loop-again c =
     let s = c .before .before .before .before in
     let l = c .before .before .before .loop in (
       omega (arith, c .before .before .loop-test .taken),
-      filled-more (λ i. pairOf (getD (s .args .t1 .slots) i noSlot .value)) onePair 24 (l .k) (omega (arith, c .before .before .loop-test .taken)) (l .list) (l .inv .1) _ (c .pair-of .ensures),
+      filled-more (λ i. pairOf (getD (s .args .t1 .slots) i noSlot .value)) onePair slotsPerRecord (l .k) (omega (arith, c .before .before .loop-test .taken)) (l .list) (l .inv .1) _ (c .pair-of .ensures),
     )
 
 returns : tie.Need-returns Inv-loop μ-loop
@@ -59,9 +60,9 @@ unfolding valuesOf
 returns c =
     let s = c .before .before in
     let l = c .before .loop in
-    let long : length (s .args .t1 .slots) ≡ 24 = sym (length-map (s .args .t1 .slots) _) ∙ s .good .0 .1 .1 .1 .0 .1 .0 .1 in
-    let all : l .k ≡ 24 = omega (arith, c .loop-test .left) in
-    ap (λ x. record { list = x }) (rw all at (l .inv .1) ∙ worked-all (λ (f : Filled). pairOf (f .value)) (s .args .t1 .slots) noSlot 24 onePair long)
+    let long : length (s .args .t1 .slots) ≡ slotsPerRecord = sym (length-map (s .args .t1 .slots) _) ∙ s .good .0 .1 .1 .1 .0 .1 .0 .1 in
+    let all : l .k ≡ slotsPerRecord = omega (arith, c .loop-test .left) in
+    ap (λ x. record { list = x }) (rw all at (l .inv .1) ∙ worked-all (λ (f : Filled). pairOf (f .value)) (s .args .t1 .slots) noSlot slotsPerRecord onePair long)
 
 pub values-of-spec : {M : Type 1} → statement M
 values-of-spec =

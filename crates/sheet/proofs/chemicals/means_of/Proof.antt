@@ -6,6 +6,7 @@ use Prim.Native.Nat.{_+_, _-_, _≤_, _<_}
 use native.Mathlib.Omega.{arith}
 use borrow.Author.Needs.{needs}
 use lib.ListN.{length, getD, replicate, length-map}
+use Rattle.sizes.specs.Sizes.{mostReceptors}
 use Rattle.lists.specs.Lists.{tabulate, anyOf}
 use Rattle.lists.proofs.Tabulated.{filled-start, filled-more}
 use Rattle.media.specs.Media.{found, noMedia}
@@ -19,7 +20,7 @@ use Rattle.sheet.proofs.chemicals.means_of.Tie as tie
 abbrev Inv-loop : tie.InvT-loop
 Inv-loop site chemical ground receptors count list₀ j₀ list j =
     (j ≤ receptors .count)
-    × (list ≡ tabulate j (λ k. mediaFrom (meanWith site chemical (getD (receptors .list) k noReceptor) ground)) ++ replicate (4 - j) noMedia)
+    × (list ≡ tabulate j (λ k. mediaFrom (meanWith site chemical (getD (receptors .list) k noReceptor) ground)) ++ replicate (mostReceptors - j) noMedia)
     × (anyOf (λ k. isRefused (meanWith site chemical (getD (receptors .list) k noReceptor) ground)) j ≡ false)
 
 abbrev μ-loop : tie.MeasureT-loop
@@ -32,7 +33,7 @@ loop-holds : tie.Need-loop-holds Inv-loop μ-loop
 unfolding anyOf
 loop-holds c =
     let s = c .before in
-    (omega arith, ap (replicate 4) (c .none .ensures) ∙ filled-start (λ k. mediaFrom (meanWith (s .args .site) (s .args .chemical) (getD (s .args .t3 .list) k noReceptor) (s .args .ground))) noMedia 4, refl)
+    (omega arith, ap (replicate mostReceptors) (c .none .ensures) ∙ filled-start (λ k. mediaFrom (meanWith (s .args .site) (s .args .chemical) (getD (s .args .t3 .list) k noReceptor) (s .args .ground))) noMedia 4, refl)
 
 mul-receptor : tie.Need-mul-receptor Inv-loop μ-loop
 mul-receptor c = search needs
@@ -58,7 +59,7 @@ returns c =
     let s = c .before .before .before .before .before .before .before .before in
     let l = c .before .before .before .before .before .before .loop in
     let test = c .before .before .before .before .before .loop-test .taken in
-    let long : length (s .args .t3 .list) ≡ 4 = sym (length-map (s .args .t3 .list) _) ∙ s .good .1 .1 .0 .1 .1 .1 .0 .1 .0 .1 in
+    let long : length (s .args .t3 .list) ≡ mostReceptors = sym (length-map (s .args .t3 .list) _) ∙ s .good .1 .1 .0 .1 .1 .1 .0 .1 .0 .1 in
     let here : l .j < length (s .args .t3 .list) = omega (arith, test, s .pre) in
     let mean = c .before .before .before .mean-with in
     let none : isRefused (found (mean .result)) ≡ true = rw (c .before .enum-told .given .1) refl in
@@ -84,12 +85,12 @@ loop-again c =
     let s = c .before .before .before .before .before .before .before .before in
     let l = c .before .before .before .before .before .before .loop in
     let test = c .before .before .before .before .before .loop-test .taken in
-    let long : length (s .args .t3 .list) ≡ 4 = sym (length-map (s .args .t3 .list) _) ∙ s .good .1 .1 .0 .1 .1 .1 .0 .1 .0 .1 in
+    let long : length (s .args .t3 .list) ≡ mostReceptors = sym (length-map (s .args .t3 .list) _) ∙ s .good .1 .1 .0 .1 .1 .1 .0 .1 .0 .1 in
     let here : l .j < length (s .args .t3 .list) = omega (arith, test, s .pre) in
     let mean = c .before .before .before .mean-with in
     let is = c .before .m .given .1 in (
       omega (arith, test),
-      filled-more (λ k. mediaFrom (meanWith (s .args .site) (s .args .chemical) (getD (s .args .t3 .list) k noReceptor) (s .args .ground))) noMedia 4 (l .j) (omega (arith, test, s .pre)) (l .list) (l .inv .1) _
+      filled-more (λ k. mediaFrom (meanWith (s .args .site) (s .args .chemical) (getD (s .args .t3 .list) k noReceptor) (s .args .ground))) noMedia mostReceptors (l .j) (omega (arith, test, s .pre)) (l .list) (l .inv .1) _
           (mean-at (s .args .site) (s .args .chemical) (s .args .t3 .list) (s .args .ground) _ (l .j) here (mean .result) (mean .ensures) _ is),
       mean-on (s .args .site) (s .args .chemical) (s .args .t3 .list) (s .args .ground) _ (l .j) here (mean .result) (mean .ensures) _ is (l .inv .2),
     )

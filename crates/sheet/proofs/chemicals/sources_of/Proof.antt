@@ -7,6 +7,7 @@ use native.Mathlib.Omega.{arith}
 use borrow.Author.Needs.{needs}
 use borrow.Author.Tests.{not-true, not-false}
 use lib.ListN.{length, getD, replicate, length-map}
+use Rattle.sizes.specs.Sizes.{maxChemicals}
 use Rattle.cases.specs.declared.Status.the-variants.{Passed}
 use Rattle.cases.specs.Conditions.{first}
 use Rattle.lists.specs.Lists.{tabulate, chained}
@@ -21,7 +22,7 @@ use Rattle.sheet.proofs.chemicals.sources_of.Tie as tie
 abbrev Inv-loop : tie.InvT-loop
 Inv-loop site receptors chemicals count list₀ i₀ list i =
     (i ≤ chemicals .count)
-    × (list ≡ tabulate i (λ k. sourceOf site receptors (getD (chemicals .records) k noRecord)) ++ replicate (16 - i) noSource)
+    × (list ≡ tabulate i (λ k. sourceOf site receptors (getD (chemicals .records) k noRecord)) ++ replicate (maxChemicals - i) noSource)
     × (first (chained (refusedSource site receptors (chemicals .records)) i) ≡ Passed)
 
 abbrev μ-loop : tie.MeasureT-loop
@@ -34,7 +35,7 @@ loop-holds : tie.Need-loop-holds Inv-loop μ-loop
 unfolding chained first
 loop-holds c =
     let s = c .before in
-    (omega arith, ap (replicate 16) (c .no-source .ensures) ∙ filled-start (λ k. sourceOf (s .args .site) (s .args .receptors) (getD (s .args .t2 .records) k noRecord)) noSource 16, refl)
+    (omega arith, ap (replicate maxChemicals) (c .no-source .ensures) ∙ filled-start (λ k. sourceOf (s .args .site) (s .args .receptors) (getD (s .args .t2 .records) k noRecord)) noSource maxChemicals, refl)
 
 add-next : tie.Need-add-next Inv-loop μ-loop
 add-next c = search needs
@@ -56,7 +57,7 @@ returns c =
     let s = c .before .before .before .before .before .before .before .before in
     let l = c .before .before .before .before .before .before .loop in
     let test = c .before .before .before .before .before .loop-test .taken in
-    let long : length (s .args .t2 .records) ≡ 16 = sym (length-map (s .args .t2 .records) _) ∙ s .good .1 .0 .1 .1 .1 .0 .1 .0 .1 in
+    let long : length (s .args .t2 .records) ≡ maxChemicals = sym (length-map (s .args .t2 .records) _) ∙ s .good .1 .0 .1 .1 .1 .0 .1 .0 .1 in
     let here : l .i < length (s .args .t2 .records) = omega (arith, test, s .pre) in
     let made = c .before .before .before .source-of in
     let stop = c .stopped-at .ensures in (
@@ -78,12 +79,12 @@ loop-again c =
     let s = c .before .before .before .before .before .before .before .before in
     let l = c .before .before .before .before .before .before .loop in
     let test = c .before .before .before .before .before .loop-test .taken in
-    let long : length (s .args .t2 .records) ≡ 16 = sym (length-map (s .args .t2 .records) _) ∙ s .good .1 .0 .1 .1 .1 .0 .1 .0 .1 in
+    let long : length (s .args .t2 .records) ≡ maxChemicals = sym (length-map (s .args .t2 .records) _) ∙ s .good .1 .0 .1 .1 .1 .0 .1 .0 .1 in
     let here : l .i < length (s .args .t2 .records) = omega (arith, test, s .pre) in
     let made = c .before .before .before .source-of in
     let worked = not-false _ (c .before .if1 .left) in (
       omega (arith, test),
-      filled-more (λ k. sourceOf (s .args .site) (s .args .receptors) (getD (s .args .t2 .records) k noRecord)) noSource 16 (l .i) (omega (arith, test, s .pre)) (l .list) (l .inv .1) _
+      filled-more (λ k. sourceOf (s .args .site) (s .args .receptors) (getD (s .args .t2 .records) k noRecord)) noSource maxChemicals (l .i) (omega (arith, test, s .pre)) (l .list) (l .inv .1) _
           (source-is (s .args .site) (s .args .receptors) (s .args .t2 .records) _ (l .i) here _ _ (made .ensures .0) (made .ensures .1) worked),
       goes-on (s .args .site) (s .args .receptors) (s .args .t2 .records) _ (l .i) here _ _ (made .ensures .0) (made .ensures .1) (l .inv .2) worked,
     )

@@ -4,15 +4,16 @@ use Prim.Native.Nat.{ℕ, _-_, _≤_, _<_}
 use native.Mathlib.Omega.{arith}
 use borrow.Author.Needs.{needs}
 use lib.ListN.{length, getD, length-set}
+use Rattle.sheet.specs.Counts.{allCells}
 use Rattle.sheet.proofs.CellLaws.{cleared-more, all-cleared}
 use Rattle.sheet.proofs.lines.clear.Statement.{statement}
 use Rattle.sheet.proofs.lines.clear.Tie as tie
 
 abbrev Inv-loop : tie.InvT-loop
-Inv-loop cells₀ k₀ cells k = (k ≤ 2304) × (length cells ≡ 2304) × ((i : ℕ) → i < k → getD cells i 0 ≡ 0)
+Inv-loop cells₀ k₀ cells k = (k ≤ allCells) × (length cells ≡ allCells) × ((i : ℕ) → i < k → getD cells i 0 ≡ 0)
 
 abbrev μ-loop : tie.MeasureT-loop
-μ-loop cells₀ k₀ cells k = 2304 - k
+μ-loop cells₀ k₀ cells k = allCells - k
 
 loop-holds : tie.Need-loop-holds Inv-loop μ-loop
 loop-holds c = (omega arith, c .pre, λ i h. absurd (omega arith))
@@ -43,7 +44,7 @@ same-length c = c .before .loop .inv .1 ∙ sym (c .before .before .pre)
 returns : tie.Need-returns Inv-loop μ-loop
 returns c =
     let l = c .before .loop in
-    let all : l .k ≡ 2304 = omega (arith, c .loop-test .left) in
+    let all : l .k ≡ allCells = omega (arith, c .loop-test .left) in
     all-cleared (l .cells) (l .inv .1) (rw all at (l .inv .2))
 
 pub clear-spec : {M : Type 1} → statement M

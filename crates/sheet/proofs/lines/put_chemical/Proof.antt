@@ -2,11 +2,13 @@
 -- lines are as they were. Assumes nothing.
 use mathlib.Core.Path.{_≡_, refl, sym, ap, subst, _∙_}
 use mathlib.Core.List.{List}
-use Prim.Native.Nat.{ℕ, _+_, _-_, _≤_, _<_}
+use Prim.Native.Nat.{ℕ, _+_, _-_, _≤_, _<_, _*_}
 use native.Mathlib.Nat.{not-suc-le-zero}
 use native.Mathlib.Omega.{arith}
 use borrow.Author.Needs.{needs}
 use lib.ListN.{length, length-map}
+use Rattle.sheet.specs.Counts.{effectCells}
+use Rattle.sizes.specs.Sizes.{mostLines, mostReceptors, pathwaysPerChemical}
 use Rattle.equations.specs.declared.Effect.the-variants.{Hazard, Cancer}
 use Rattle.pathway.specs.Lines.{figured}
 use Rattle.cases.specs.declared.Status.the-variants.{Passed}
@@ -21,14 +23,14 @@ use Rattle.sheet.proofs.lines.put_chemical.Tie as tie
 
 abbrev Inv-loop : tie.InvT-loop
 Inv-loop cells₀ base site place receptor habits before source mean p₀ cells p =
-    (p ≤ 6)
+    (p ≤ pathwaysPerChemical)
     × (length cells ≡ length cells₀)
     × CellsHold (sourceColumns site place receptor source) p cells base
-    × SameBut 6 base cells₀ cells
+    × SameBut pathwaysPerChemical base cells₀ cells
     × (first (chained (largeLine site place receptor source before) p) ≡ Passed)
 
 abbrev μ-loop : tie.MeasureT-loop
-μ-loop cells₀ base site place receptor habits before source mean p₀ cells p = 6 - p
+μ-loop cells₀ base site place receptor habits before source mean p₀ cells p = pathwaysPerChemical - p
 
 mul-mean : tie.Need-mul-mean Inv-loop μ-loop
 mul-mean c = search needs
@@ -64,7 +66,7 @@ returns c =
     let l = c .before .before .before .before .before .before .before .before .loop in
     let test = c .before .before .before .before .before .before .before .loop-test .taken in
     let a = s .args in
-    let long : length (a .t7 .means) ≡ 4 = sym (length-map (a .t7 .means) _) ∙ s .good .1 .1 .1 .1 .1 .1 .0 .1 .1 .1 .1 .0 .1 .0 .1 in
+    let long : length (a .t7 .means) ≡ mostReceptors = sym (length-map (a .t7 .means) _) ∙ s .good .1 .1 .1 .1 .1 .1 .0 .1 .1 .1 .1 .0 .1 .0 .1 in
     let there : a .place < length (a .t7 .means) = omega (arith, long, s .pre) in
     let large = large-is (a .site) (a .place) (a .receptor) (a .t7) _ there _ (l .p) _ _ (s .pre .3) (c .before .before .before .before .before .pathway-at .ensures) (c .before .before .figures-with .ensures) _ (c .before .is-large .ensures) in (
       line-stops (a .site) (a .place) (a .receptor) (a .t7) (a .before) (l .p) (l .inv .4) test (sym large ∙ c .if1 .taken),
@@ -99,7 +101,7 @@ loop-again c =
     let l = c .before .before .before .before .before .before .before .before .before .before .before .before .before .before .before .before .before .before .loop in
     let test = c .before .before .before .before .before .before .before .before .before .before .before .before .before .before .before .before .before .loop-test .taken in
     let a = s .args in
-    let long : length (a .t7 .means) ≡ 4 = sym (length-map (a .t7 .means) _) ∙ s .good .1 .1 .1 .1 .1 .1 .0 .1 .1 .1 .1 .0 .1 .0 .1 in
+    let long : length (a .t7 .means) ≡ mostReceptors = sym (length-map (a .t7 .means) _) ∙ s .good .1 .1 .1 .1 .1 .1 .0 .1 .1 .1 .1 .0 .1 .0 .1 in
     let there : a .place < length (a .t7 .means) = omega (arith, long, s .pre) in
     let way = c .before .before .before .before .before .before .before .before .before .before .before .before .before .before .before .pathway-at .ensures in
     let figures = c .before .before .before .before .before .before .before .before .before .before .before .before .figures-with .ensures in
@@ -109,14 +111,14 @@ loop-again c =
     let at = a .base + l .p in
     let u = c .before .before .before .before .before .before .before .before .columns-of .result in
     let v = c .before .before .before .columns-of2 .result in
-    let stored = sym (c .before .before .put-counts2 .ensures ∙ ap (λ (x : List ℕ). withCounts x (at + 288) v) (c .before .before .before .before .before .before .before .put-counts .ensures)) in
-    let room : at + 480 < length (l .cells) = omega (arith, test, l .inv .1, s .pre .0) in
-    let small : l .p < 96 = omega (arith, test) in (
+    let stored = sym (c .before .before .put-counts2 .ensures ∙ ap (λ (x : List ℕ). withCounts x (at + effectCells) v) (c .before .before .before .before .before .before .before .put-counts .ensures)) in
+    let room : at + (effectCells + 2 * mostLines) < length (l .cells) = omega (arith, test, l .inv .1, s .pre .0) in
+    let small : l .p < mostLines = omega (arith, test) in (
       omega (arith, test),
       subst (λ (x : List ℕ). length x ≡ length (a .cells .now)) stored (line-length (l .cells) (a .base) (l .p) u v ∙ l .inv .1),
       subst (λ (x : List ℕ). CellsHold (sourceColumns (a .site) (a .place) (a .receptor) (a .t7)) (l .p + 1) x (a .base)) stored
           (line-held (l .cells) (a .base) (l .p) u v small (sourceColumns (a .site) (a .place) (a .receptor) (a .t7)) room h k (l .inv .2)),
-      subst (λ (x : List ℕ). SameBut 6 (a .base) (a .cells .now) x) stored (line-others (l .cells) (a .base) (l .p) u v 6 (a .cells .now) test (l .inv .3)),
+      subst (λ (x : List ℕ). SameBut pathwaysPerChemical (a .base) (a .cells .now) x) stored (line-others (l .cells) (a .base) (l .p) u v pathwaysPerChemical (a .cells .now) test (l .inv .3)),
       line-fits (a .site) (a .place) (a .receptor) (a .t7) (a .before) (l .p) (l .inv .4) (sym large ∙ c .before .before .before .before .before .before .before .before .before .before .if1 .left),
     )
 
@@ -127,7 +129,7 @@ returns-2 : tie.Need-returns-2 Inv-loop μ-loop
 unfolding largeChemical
 returns-2 c =
     let l = c .before .loop in
-    let all : l .p ≡ 6 = omega arith in
+    let all : l .p ≡ pathwaysPerChemical = omega arith in
     (sym (rw all at (l .inv .4)), (λ _. rw all at (l .inv .2), l .inv .3))
 
 pub put-chemical-spec : {M : Type 1} → statement M

@@ -6,11 +6,12 @@ use native.Mathlib.Nat.{not-suc-le-zero}
 use native.Mathlib.Omega.{arith}
 use borrow.Author.Needs.{needs}
 use lib.ListN.{length, length-map}
+use Rattle.sizes.specs.Sizes.{maxChemicals, pathwaysPerChemical}
 use Rattle.cases.specs.declared.Status.the-variants.{Passed}
 use Rattle.cases.specs.Conditions.{first}
 use Rattle.cases.proofs.FirstMet.{never}
 use Rattle.lists.specs.Lists.{chained}
-use Rattle.sheet.specs.Counts.{cellOf}
+use Rattle.sheet.specs.Counts.{cellOf, receptorCells}
 use Rattle.sheet.specs.Inner.{sourceAt, columnsWorked, largeChemical, largeWorked, CellsHold, CellsEmpty, SameBelow, ZeroFrom}
 use Rattle.sheet.proofs.ReceptorLaws.{lines-are, chemical-on, chemical-stops}
 use Rattle.sheet.proofs.CellLaws.{chemical-below, chemical-empty, chemical-zero, chemical-held}
@@ -21,10 +22,10 @@ abbrev Inv-loop : tie.InvT-loop
 Inv-loop cells₀ base site place receptor before sources habits count i₀ cells i =
     (i ≤ count)
     × (length cells ≡ length cells₀)
-    × CellsHold (columnsWorked site sources place receptor) (i * 6) cells base
+    × CellsHold (columnsWorked site sources place receptor) (i * pathwaysPerChemical) cells base
     × SameBelow base cells₀ cells
-    × (first (chained (λ k. largeChemical site place receptor (sourceAt sources k) (before + k * 6)) i) ≡ Passed)
-    × (ZeroFrom base cells₀ → CellsEmpty (i * 6) cells base × ZeroFrom (base + 576) cells)
+    × (first (chained (λ k. largeChemical site place receptor (sourceAt sources k) (before + k * pathwaysPerChemical)) i) ≡ Passed)
+    × (ZeroFrom base cells₀ → CellsEmpty (i * pathwaysPerChemical) cells base × ZeroFrom (base + receptorCells) cells)
 
 abbrev μ-loop : tie.MeasureT-loop
 μ-loop cells₀ base site place receptor before sources habits count i₀ cells i = count - i
@@ -69,9 +70,9 @@ returns c =
     let a = s .args in
     let l = c .before .before .before .before .before .before .before .before .loop in
     let test = c .before .before .before .before .before .before .before .loop-test .taken in
-    let long : length (a .t6 .list) ≡ 16 = sym (length-map (a .t6 .list) _) ∙ s .good .1 .1 .1 .1 .1 .0 .1 .1 .1 .0 .1 .0 .1 in
+    let long : length (a .t6 .list) ≡ maxChemicals = sym (length-map (a .t6 .list) _) ∙ s .good .1 .1 .1 .1 .1 .0 .1 .1 .1 .0 .1 .0 .1 in
     let here : l .i < length (a .t6 .list) = omega (arith, test, s .pre) in
-    let few : l .i < 16 = omega (arith, test, s .pre) in
+    let few : l .i < maxChemicals = omega (arith, test, s .pre) in
     let put = c .before .before .before .before .put-chemical in
     let same = put .ensures .1 .1 in
     let stop = c .enum-told .given .1 in (
@@ -82,7 +83,7 @@ returns c =
           chemical-below (a .base) (l .i) (l .cells) (put .last .0) few same (a .cells .now) (l .inv .3),
           λ z.
               let kept = l .inv .5 z in (
-                chemical-empty (a .base) (l .i) (l .cells) (put .last .0) few same (a .t6 .count * 6) (omega (arith, test)) (kept .0),
+                chemical-empty (a .base) (l .i) (l .cells) (put .last .0) few same (a .t6 .count * pathwaysPerChemical) (omega (arith, test)) (kept .0),
                 chemical-zero (a .base) (l .i) (l .cells) (put .last .0) few same (kept .1),
               ),
         ),
@@ -101,14 +102,14 @@ loop-again c =
     let a = s .args in
     let l = c .before .before .before .before .before .before .before .before .loop in
     let test = c .before .before .before .before .before .before .before .loop-test .taken in
-    let long : length (a .t6 .list) ≡ 16 = sym (length-map (a .t6 .list) _) ∙ s .good .1 .1 .1 .1 .1 .0 .1 .1 .1 .0 .1 .0 .1 in
+    let long : length (a .t6 .list) ≡ maxChemicals = sym (length-map (a .t6 .list) _) ∙ s .good .1 .1 .1 .1 .1 .0 .1 .1 .1 .0 .1 .0 .1 in
     let here : l .i < length (a .t6 .list) = omega (arith, test, s .pre) in
-    let few : l .i < 16 = omega (arith, test, s .pre) in
+    let few : l .i < maxChemicals = omega (arith, test, s .pre) in
     let put = c .before .before .before .before .put-chemical in
     let same = put .ensures .1 .1 in
     let read = c .enum-told2 .given .1 in
     let columns = columnsWorked (a .site) (a .t6) (a .place) (a .receptor) in
-    let filled : CellsHold (λ p. columns (l .i * 6 + p)) 6 (put .last .0) (a .base + l .i * 6) =
+    let filled : CellsHold (λ p. columns (l .i * pathwaysPerChemical + p)) pathwaysPerChemical (put .last .0) (a .base + l .i * pathwaysPerChemical) =
     λ e w p h. put .ensures .1 .0 read e w p h ∙ ap (cellOf w) (lines-are (a .site) (a .place) (a .receptor) (a .t6) _ (l .i) here p h e)
     in (
       omega (arith, test),
@@ -118,7 +119,7 @@ loop-again c =
       chemical-on (a .site) (a .place) (a .receptor) (a .t6) _ (l .i) here (a .before) (put .result) (put .ensures .0) (l .inv .4) read,
       λ z.
           let kept = l .inv .5 z in (
-            chemical-empty (a .base) (l .i) (l .cells) (put .last .0) few same ((l .i + 1) * 6) (omega arith) (kept .0),
+            chemical-empty (a .base) (l .i) (l .cells) (put .last .0) few same ((l .i + 1) * pathwaysPerChemical) (omega arith) (kept .0),
             chemical-zero (a .base) (l .i) (l .cells) (put .last .0) few same (kept .1),
           ),
     )

@@ -6,6 +6,8 @@ use native.Mathlib.Nat.{mul-le-mul-right, not-suc-le-zero}
 use native.Mathlib.Omega.{arith}
 use borrow.Author.Needs.{needs}
 use lib.ListN.{length, length-map}
+use Rattle.sheet.specs.Counts.{receptorCells}
+use Rattle.sizes.specs.Sizes.{mostReceptors, pathwaysPerChemical}
 use Rattle.cases.specs.declared.Status.the-variants.{Passed}
 use Rattle.cases.specs.Conditions.{first}
 use Rattle.cases.proofs.FirstMet.{never}
@@ -21,7 +23,7 @@ Inv-loop cells₀ site sources receptors count per j₀ cells j =
     (j ≤ count)
     × (length cells ≡ length cells₀)
     × (first (allLarge site sources (receptors .list) j) ≡ Passed)
-    × (ZeroFrom 0 cells₀ → CellsFilled site sources (receptors .list) j cells × ZeroFrom (576 * j) cells)
+    × (ZeroFrom 0 cells₀ → CellsFilled site sources (receptors .list) j cells × ZeroFrom (receptorCells * j) cells)
 
 abbrev μ-loop : tie.MeasureT-loop
 μ-loop cells₀ site sources receptors count per j₀ cells j = count - j
@@ -52,14 +54,14 @@ mul-put-lines-2 : tie.Need-mul-put-lines-2 Inv-loop μ-loop
 mul-put-lines-2 c =
     let s = c .before .before .before .before .before .before in
     let most : c .before .before .before .loop .j ≤ 3 = omega (arith, c .before .before .loop-test .taken, s .pre) in
-    record { fits = omega (arith, s .pre, mul-le-mul-right (s .args .sources .count * 6 + 1) most) }
+    record { fits = omega (arith, s .pre, mul-le-mul-right (s .args .sources .count * pathwaysPerChemical + 1) most) }
 
 put-lines-requires : tie.Need-put-lines-requires Inv-loop μ-loop
 put-lines-requires c κs =
     let s = c .before .before .before .before .before .before in
     let l = c .before .before .before .loop in
     let most : l .j ≤ 3 = omega (arith, c .before .before .loop-test .taken, s .pre) in
-    (omega (arith, l .inv .1, s .pre .0), s .pre .2, omega (arith, s .pre, mul-le-mul-right (s .args .sources .count * 6 + 1) most), omega arith)
+    (omega (arith, l .inv .1, s .pre .0), s .pre .2, omega (arith, s .pre, mul-le-mul-right (s .args .sources .count * pathwaysPerChemical + 1) most), omega arith)
 
 enum-told : tie.Need-enum-told Inv-loop μ-loop
 enum-told c = search needs
@@ -71,7 +73,7 @@ returns : tie.Need-returns Inv-loop μ-loop
 returns c =
     let s = c .before .before .before .before .before .before .before .before .before .before .before in
     let l = c .before .before .before .before .before .before .before .before .loop in
-    let long : length (s .args .t3 .list) ≡ 4 = sym (length-map (s .args .t3 .list) _) ∙ s .good .1 .1 .0 .1 .1 .1 .0 .1 .0 .1 in
+    let long : length (s .args .t3 .list) ≡ mostReceptors = sym (length-map (s .args .t3 .list) _) ∙ s .good .1 .1 .0 .1 .1 .1 .0 .1 .0 .1 in
     let test = c .before .before .before .before .before .before .before .loop-test .taken in
     let here : l .j < length (s .args .t3 .list) = omega (arith, test, s .pre) in
     let stop = c .enum-told .given .1 in (
@@ -89,7 +91,7 @@ loop-again : tie.Need-loop-again Inv-loop μ-loop
 loop-again c =
     let s = c .before .before .before .before .before .before .before .before .before .before .before in
     let l = c .before .before .before .before .before .before .before .before .loop in
-    let long : length (s .args .t3 .list) ≡ 4 = sym (length-map (s .args .t3 .list) _) ∙ s .good .1 .1 .0 .1 .1 .1 .0 .1 .0 .1 in
+    let long : length (s .args .t3 .list) ≡ mostReceptors = sym (length-map (s .args .t3 .list) _) ∙ s .good .1 .1 .0 .1 .1 .1 .0 .1 .0 .1 in
     let test = c .before .before .before .before .before .before .before .loop-test .taken in
     let here : l .j < length (s .args .t3 .list) = omega (arith, test, s .pre) in
     let read = c .enum-told2 .given .1 in

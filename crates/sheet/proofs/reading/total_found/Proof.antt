@@ -2,6 +2,7 @@
 use mathlib.Core.Path.{refl}
 use Prim.Native.Nat.{_+_}
 use borrow.Author.Needs.{needs}
+use Rattle.sizes.specs.Sizes.{mostLines}
 use Rattle.totals.specs.declared.Sum.the-variants.{Is, Refused}
 use Rattle.totals.specs.Totals.{totalled}
 use Rattle.sheet.specs.Counts.{totalledFrom, totalFound}
@@ -72,7 +73,7 @@ returns-2 c =
     let a = c .before .before .before .before .before .before .before .before .before .before .args in
     rw (
       total-told (a .cells .now) (a .at) (a .count) _ (Is _) (c .before .before .before .before .before .before .before .total .ensures) (c .before .before .before .before .before .lines .given .1),
-      total-told (a .cells .now) (a .at + 96) (a .count) _ Refused (c .before .before .total2 .ensures) (c .enum-told2 .given .1),
+      total-told (a .cells .now) (a .at + mostLines) (a .count) _ Refused (c .before .before .total2 .ensures) (c .enum-told2 .given .1),
     )
     refl
 
@@ -109,8 +110,8 @@ returns-3 c =
     let a = c .before .before .before .before .before .before .before .before .before .before .before .before .before .before .before .args in
     rw (
       total-told (a .cells .now) (a .at) (a .count) _ (Is _) (c .before .before .before .before .before .before .before .before .before .before .before .before .total .ensures) (c .before .before .before .before .before .before .before .before .before .before .lines .given .1),
-      total-told (a .cells .now) (a .at + 96) (a .count) _ (Is _) (c .before .before .before .before .before .before .before .total2 .ensures) (c .before .before .before .before .before .low .given .1),
-      total-told (a .cells .now) (a .at + 96 + 96) (a .count) _ Refused (c .before .before .total3 .ensures) (c .enum-told3 .given .1),
+      total-told (a .cells .now) (a .at + mostLines) (a .count) _ (Is _) (c .before .before .before .before .before .before .before .total2 .ensures) (c .before .before .before .before .before .low .given .1),
+      total-told (a .cells .now) (a .at + mostLines + mostLines) (a .count) _ Refused (c .before .before .total3 .ensures) (c .enum-told3 .given .1),
     )
     refl
 
@@ -123,8 +124,8 @@ returns-4 c =
     let a = c .before .before .before .before .before .before .before .before .before .before .before .before .before .before .before .before .before .args in
     rw (
       total-told (a .cells .now) (a .at) (a .count) _ (Is _) (c .before .before .before .before .before .before .before .before .before .before .before .before .before .before .total .ensures) (c .before .before .before .before .before .before .before .before .before .before .before .before .lines .given .1),
-      total-told (a .cells .now) (a .at + 96) (a .count) _ (Is _) (c .before .before .before .before .before .before .before .before .before .total2 .ensures) (c .before .before .before .before .before .before .before .low .given .1),
-      total-told (a .cells .now) (a .at + 96 + 96) (a .count) _ (Is _) (c .before .before .before .before .total3 .ensures) (c .before .before .high .given .1),
+      total-told (a .cells .now) (a .at + mostLines) (a .count) _ (Is _) (c .before .before .before .before .before .before .before .before .before .total2 .ensures) (c .before .before .before .before .before .before .before .low .given .1),
+      total-told (a .cells .now) (a .at + mostLines + mostLines) (a .count) _ (Is _) (c .before .before .before .before .total3 .ensures) (c .before .before .high .given .1),
     )
     (c .columns-from .ensures)
 
