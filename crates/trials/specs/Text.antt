@@ -50,7 +50,7 @@ signedOf true w = cond (leb (w .value) 2147483648) (record { value = pos 0 -ℤ 
 signedOf false w = cond (leb (w .value) 2147483647) (record { value = pos (w .value); at = w .at; good = w .good }) noSigned
 
 -- perhaps a minus, and digits
-abbrev pub signedAt : List ℕ → ℕ → Bool → Signed
+unfoldable pub signedAt : List ℕ → ℕ → Bool → Signed
 signedAt s at good =
     cond (afterOf 45 s at good .good) (signedOf true (wholeOf s (afterOf 45 s at good .at) true)) (signedOf false (wholeOf s at good))
 

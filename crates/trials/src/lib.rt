@@ -25,4 +25,5 @@ pub use text::digits;
 pub use text::past;
 pub use text::read_signed;
 pub use text::read_whole;
+pub use text::signed_at;
 pub use text::starts;

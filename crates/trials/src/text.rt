@@ -4,7 +4,7 @@ ghost use mathlib.Core.Bool.{Bool, true};
 ghost use Prim.Native.Nat.{_+_, _-_, _≤_};
 ghost use lib.IntN.{pos, _-ℤ_};
 ghost use lib.ListN.{length, take, drop};
-ghost use Rattle.trials.specs.Text.{leading, noWhole, numberOf, wholeOf, afterOf, spacedWhole, noSigned, signedOf, spacedSigned};
+ghost use Rattle.trials.specs.Text.{leading, noWhole, numberOf, wholeOf, afterOf, spacedWhole, noSigned, signedOf, signedAt, spacedSigned};
 
 // A number that was read: its value, where the text goes on, and whether it and all before it could be read; else all is 0.
 pub struct Whole {
@@ -183,14 +183,21 @@ fn signed_with(minus: bool, size: Whole) -> Signed
     no_signed()
 }
 
-// A space, perhaps a minus, and digits: a number of 32 bits with its sign.
+// Perhaps a minus, and digits: a number of 32 bits with its sign.
+pub fn signed_at(s: &[u8], at: usize, good: bool) -> Signed
+    ensures { λ r. ⌜ r ≡ signedAt (now (s .entry)) at good ⌝ }
+{
+    let m = after(s, at, b'-', good);
+    if m.good {
+        return signed_with(true, digits(s, m.at, true));
+    }
+    signed_with(false, digits(s, at, good))
+}
+
+// A space, perhaps a minus, and digits.
 pub fn read_signed(s: &[u8], at: usize, good: bool) -> Signed
     ensures { λ r. ⌜ r ≡ spacedSigned (now (s .entry)) at good ⌝ }
 {
     let w = after(s, at, b' ', good);
-    let m = after(s, w.at, b'-', w.good);
-    if m.good {
-        return signed_with(true, digits(s, m.at, true));
-    }
-    signed_with(false, digits(s, w.at, w.good))
+    signed_at(s, w.at, w.good)
 }
