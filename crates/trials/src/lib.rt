@@ -8,8 +8,6 @@ pub use counting::MOST;
 pub use counting::Tally;
 pub use counting::others;
 pub use counting::said;
-pub use stored::HEAD_LENGTH;
-pub use stored::HEAD_NUMBERS;
 pub use stored::Head;
 pub use stored::file;
 pub use stored::fill;

@@ -11,10 +11,10 @@ ghost use Rattle.trials.specs.Trials.{columnOf, headOf, filled};
 
 const COLUMNS: usize = 6;
 
-pub const HEAD_NUMBERS: usize = 5;
+const HEAD_NUMBERS: usize = 5;
 
 // A head: its numbers and a line feed.
-pub const HEAD_LENGTH: usize = COLUMNS * HEAD_NUMBERS + 1;
+const HEAD_LENGTH: usize = COLUMNS * HEAD_NUMBERS + 1;
 
 // A head that was read: its numbers, and whether all are numbers.
 pub struct Head {
