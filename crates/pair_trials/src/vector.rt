@@ -1,15 +1,17 @@
 //! One vector: an operation's word, its operands, " =", and the answer: two ends, or 53.
 use crate::parts::read_ends;
-use crate::parts::read_exponent;
 use crate::parts::read_number;
 use crate::parts::same_exponent;
-use crate::text::read_whole;
-use crate::text::starts;
 use pair::Answer;
 use pair::Count;
 use pair::Number;
 use pair::Order;
 use pair::Pair;
+use trials::Whole;
+use trials::after;
+use trials::read_signed;
+use trials::read_whole;
+use trials::starts;
 ghost use mathlib.Core.Path.{_≡_};
 ghost use mathlib.Core.Bool.{true};
 ghost use Prim.Native.Nat.{_≤_};
@@ -48,37 +50,22 @@ pub fn operation(s: &[u8]) -> usize
     9
 }
 
-// Where the answer begins, after " =" at a place, or the line's end, where no answer is, if that does not stand there.
-fn answer_at(s: &[u8], at: usize) -> usize {
-    if at <= s.len() {
-        if starts(&s[at..], b" =") {
-            return at + 2;
-        }
-    }
-    s.len()
+// The place after " =", where the answer begins.
+fn answer_at(s: &[u8], at: usize, good: bool) -> Whole {
+    let w = after(s, at, b' ', good);
+    after(s, w.at, b'=', w.good)
 }
 
 // Whether a whole number and nothing more is written from a place on.
-fn says(s: &[u8], at: usize, n: u64) -> bool {
-    let w = read_whole(s, at, true);
-    if w.at < s.len() {
-        return false;
-    }
-    if w.good {
-        return w.value == n;
-    }
-    false
+fn says(s: &[u8], at: usize, good: bool, n: u64) -> bool {
+    let w = read_whole(s, at, good);
+    w.good && w.at == s.len() && w.value == n
 }
 
 // Whether two whole numbers and nothing more are written from a place on.
-fn says_two(s: &[u8], at: usize, m: u64, n: u64) -> bool {
-    let w = read_whole(s, at, true);
-    if w.good {
-        if w.value == m {
-            return says(s, w.at, n);
-        }
-    }
-    false
+fn says_two(s: &[u8], at: usize, good: bool, m: u64, n: u64) -> bool {
+    let w = read_whole(s, at, good);
+    w.value == m && says(s, w.at, w.good, n)
 }
 
 fn same_number(a: Number, b: Number) -> bool
@@ -91,27 +78,18 @@ fn same_number(a: Number, b: Number) -> bool
 }
 
 // Whether the ends of a pair and nothing more are written from a place on.
-fn says_pair(s: &[u8], at: usize, p: Pair) -> bool {
-    let e = read_ends(s, at, true);
-    if e.at < s.len() {
-        return false;
-    }
-    if !e.good {
-        return false;
-    }
+fn says_pair(s: &[u8], at: usize, good: bool, p: Pair) -> bool {
+    let e = read_ends(s, at, good);
     let q = e.value;
-    if same_number(p.low, q.low) {
-        return same_number(p.high, q.high);
-    }
-    false
+    e.good && e.at == s.len() && same_number(p.low, q.low) && same_number(p.high, q.high)
 }
 
 // Whether an answer is the one written behind " =" at a place.
-fn same_answer(s: &[u8], at: usize, a: Answer) -> bool {
-    let from = answer_at(s, at);
+fn same_answer(s: &[u8], at: usize, good: bool, a: Answer) -> bool {
+    let w = answer_at(s, at, good);
     match a {
-        Answer::Is(p) => says_pair(s, from, p),
-        Answer::Refused => says(s, from, 53),
+        Answer::Is(p) => says_pair(s, w.at, w.good, p),
+        Answer::Refused => says(s, w.at, w.good, 53),
     }
 }
 
@@ -127,82 +105,66 @@ fn worked(operation: usize, p: Pair, q: Pair) -> Answer {
 fn of_two(operation: usize, s: &[u8]) -> bool {
     let p = read_ends(s, 3, true);
     let q = read_ends(s, p.at, p.good);
-    if q.good {
-        return same_answer(s, q.at, worked(operation, p.value, q.value));
-    }
-    false
+    same_answer(s, q.at, q.good, worked(operation, p.value, q.value))
 }
 
 // 1 − f: a pair.
 fn of_rest(s: &[u8]) -> bool {
     let p = read_ends(s, 4, true);
-    if p.good {
-        let f = p.value;
-        return same_answer(s, p.at, f.one_minus());
-    }
-    false
+    let f = p.value;
+    same_answer(s, p.at, p.good, f.one_minus())
 }
 
 // An entry: a significand and an exponent.
 fn of_entry(s: &[u8]) -> bool {
     let m = read_whole(s, 5, true);
-    let e = read_exponent(s, m.at, m.good);
-    if e.good {
-        return same_answer(s, e.at, Pair::entry(m.value, e.value));
-    }
-    false
+    let e = read_signed(s, m.at, m.good);
+    same_answer(s, e.at, e.good, Pair::entry(m.value, e.value))
 }
 
 // A comparison: two working numbers. It answers 1 for at most, 0 for above.
 fn of_compare(s: &[u8]) -> bool {
     let a = read_number(s, 7, true);
     let b = read_number(s, a.at, a.good);
-    if !b.good {
-        return false;
-    }
-    let from = answer_at(s, b.at);
+    let from = answer_at(s, b.at, b.good);
     let w = a.value;
     match w.compare(b.value) {
-        Order::AtMost => says(s, from, 1),
-        Order::Above => says(s, from, 0),
-        Order::Refused => says(s, from, 53),
+        Order::AtMost => says(s, from.at, from.good, 1),
+        Order::Above => says(s, from.at, from.good, 0),
+        Order::Refused => says(s, from.at, from.good, 53),
     }
 }
 
 // A count in units: a pair and the unit's exponent. It answers two counts.
 fn of_units(s: &[u8]) -> bool {
     let p = read_ends(s, 5, true);
-    let u = read_exponent(s, p.at, p.good);
-    if !u.good {
-        return false;
-    }
-    let from = answer_at(s, u.at);
+    let u = read_signed(s, p.at, p.good);
+    let from = answer_at(s, u.at, u.good);
     let q = p.value;
     match q.in_units(u.value) {
-        Count::Is(n) => says_two(s, from, n.low, n.high),
-        Count::Refused => says(s, from, 53),
+        Count::Is(n) => says_two(s, from.at, from.good, n.low, n.high),
+        Count::Refused => says(s, from.at, from.good, 53),
     }
 }
 
 // 1 − a printed number: a significand and an exponent.
 fn of_less(s: &[u8]) -> bool {
     let m = read_whole(s, 4, true);
-    let e = read_exponent(s, m.at, m.good);
-    if e.good {
-        return same_answer(s, e.at, Pair::one_minus_entry(m.value, e.value));
-    }
-    false
+    let e = read_signed(s, m.at, m.good);
+    same_answer(s, e.at, e.good, Pair::one_minus_entry(m.value, e.value))
 }
 
 // A long entry: the words above and below 10^18, and an exponent.
 fn of_long(s: &[u8]) -> bool {
     let high = read_whole(s, 4, true);
     let low = read_whole(s, high.at, high.good);
-    let e = read_exponent(s, low.at, low.good);
-    if e.good {
-        return same_answer(s, e.at, Pair::long_entry(high.value, low.value, e.value));
-    }
-    false
+    let e = read_signed(s, low.at, low.good);
+    same_answer(
+        s,
+        e.at,
+        e.good,
+        Pair::long_entry(high.value, low.value, e.value),
+    )
 }
 
 // Whether the library answers a line as it is written there.

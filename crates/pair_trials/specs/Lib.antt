@@ -1,2 +1,0 @@
--- What the reading of a line promises.
-pub mod Text

@@ -1,0 +1,3 @@
+-- What the library's calls promise.
+pub mod Text
+pub mod Trials
