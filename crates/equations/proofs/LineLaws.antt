@@ -18,7 +18,6 @@ use Rattle.pair.specs.Calls.{Outcome, is}
 use Rattle.pair.specs.Promises.{Holds, products, quotients}
 use Rattle.pair.proofs.Promises.{joint}
 use Rattle.equations.specs.declared.Pathway.{Pathway}
-use Rattle.equations.specs.declared.Pathway.the-variants.{Air, SoilSummer, SoilWinter, Skin, AboveGround, BelowGround}
 use Rattle.equations.specs.declared.Effect.{Effect}
 use Rattle.equations.specs.declared.Effect.the-variants.{Hazard, Cancer}
 use Rattle.equations.specs.declared.Stay.{Stay}
@@ -35,6 +34,7 @@ use Rattle.equations.proofs.Nearness.{Near, near-more, spread}
 use Rattle.equations.proofs.Profile.{Profile, profiles, ofNumber, positives, usable, joined, Fits, Good, answeredAs, both, parts, good-more, good-number}
 use Rattle.equations.proofs.FormulaLaws.{profile, reads-good}
 use Rattle.equations.proofs.Guided.{guided}
+use Rattle.equations.proofs.Pathways.{pathways, passes, onEach, on-line}
 use Rattle.equations.proofs.Plain.{x-plain, x′-plain}
 use Rattle.equations.proofs.FastLaws.{ofExponent}
 use Rattle.equations.proofs.GrowthLaws.{ofG, ofH, grown}
@@ -114,34 +114,11 @@ narrow f = f .answered && leb (f .width) 11600
 
 -- The profiles of the lines of an intake, and with them of all that stands in such a line; and of a line of a concentration in air.
 intake-line-computed : (e : Effect) (stay : Stay) (p : Pathway) → narrow (ofFormula stay (page.intakeLine e stay p)) ≡ true
-unfolding narrow ofFormula ofGrown ofLaterGrowth profile read profiles letters page.intakeLine page.figureBy page.intake page.intakeBy page.factor page.medium page.byMedium page.soil page.mean page.gathered page.exposure page.B page.AT page.reference page.referenceSlot page.byRoute page.A page.C page.D page.aboveGround page.belowGround x x′ page.k page.u page.kse page.ksr page.ksl ofNumber joined joint spread positives usable ofSlots ofSlot ofRest ofLater byOwner table same isIn placeIn entryRule ownerOf placeOf ruleOf neverZero atMostOne
-intake-line-computed Hazard Within Air = refl
-intake-line-computed Hazard Within SoilSummer = refl
-intake-line-computed Hazard Within SoilWinter = refl
-intake-line-computed Hazard Within Skin = refl
-intake-line-computed Hazard Within AboveGround = refl
-intake-line-computed Hazard Within BelowGround = refl
-intake-line-computed Hazard Beyond Air = refl
-intake-line-computed Hazard Beyond SoilSummer = refl
-intake-line-computed Hazard Beyond SoilWinter = refl
-intake-line-computed Hazard Beyond Skin = refl
-intake-line-computed Hazard Beyond AboveGround = refl
-intake-line-computed Hazard Beyond BelowGround = refl
-intake-line-computed Cancer Within Air = refl
-intake-line-computed Cancer Within SoilSummer = refl
-intake-line-computed Cancer Within SoilWinter = refl
-intake-line-computed Cancer Within Skin = refl
-intake-line-computed Cancer Within AboveGround = refl
-intake-line-computed Cancer Within BelowGround = refl
-intake-line-computed Cancer Beyond Air = refl
-intake-line-computed Cancer Beyond SoilSummer = refl
-intake-line-computed Cancer Beyond SoilWinter = refl
-intake-line-computed Cancer Beyond Skin = refl
-intake-line-computed Cancer Beyond AboveGround = refl
-intake-line-computed Cancer Beyond BelowGround = refl
+unfolding passes pathways onEach narrow ofFormula ofGrown ofLaterGrowth profile read profiles letters page.intakeLine page.figureBy page.intake page.factor page.medium page.byMedium page.soil page.mean page.gathered page.exposure page.B page.AT page.reference page.referenceSlot page.byRoute page.A page.C page.D page.aboveGround page.belowGround x x′ page.k page.u page.kse page.ksr page.ksl ofNumber joined joint spread positives usable ofSlots ofSlot ofRest ofLater byOwner table same isIn placeIn entryRule ownerOf placeOf ruleOf neverZero atMostOne
+intake-line-computed = on-line (λ e stay p. narrow (ofFormula stay (page.intakeLine e stay p))) refl
 
 air-line-computed : (e : Effect) (stay : Stay) → narrow (ofFormula stay (page.airLine e)) ≡ true
-unfolding narrow ofFormula profile read profiles letters page.airLine page.airFigureBy page.timeShare page.timeInAir page.AT page.reference page.referenceSlot page.byRoute page.A ofNumber joined joint spread positives usable ofSlots ofSlot ofRest byOwner table same isIn placeIn entryRule ownerOf placeOf ruleOf neverZero atMostOne
+unfolding narrow ofFormula profile read profiles letters page.airLine page.airFigureBy page.timeShare page.timeInAir page.AT page.reference page.referenceSlot page.byRoute page.byMedium page.A ofNumber joined joint spread positives usable ofSlots ofSlot ofRest byOwner table same isIn placeIn entryRule ownerOf placeOf ruleOf neverZero atMostOne
 air-line-computed Hazard stay = refl
 air-line-computed Cancer stay = refl
 
@@ -164,7 +141,7 @@ intake-checked Hazard stay p = parts quotients (ofFormula stay (page.intake Haza
 intake-checked Cancer stay p = parts products (ofFormula stay (page.intake Cancer stay p)) (ofFormula stay (page.reference Cancer p)) (checked _ (intake-line-computed Cancer stay p) .0) .first
 
 medium-checked : (e : Effect) (stay : Stay) (p : Pathway) → ofFormula stay (page.medium e stay p) .answered ≡ true
-unfolding page.intake page.intakeBy ofFormula profile read profiles
+unfolding page.intake ofFormula profile read profiles
 medium-checked e stay p = parts products (ofFormula stay (page.factor e p)) (ofFormula stay (page.medium e stay p)) (intake-checked e stay p) .second
 
 -- The pair reading of f is r, which fits f's profile and holds the exact reading for every N from 256 up.
