@@ -5,7 +5,7 @@ use Rattle.pair.specs.declared.Pair.{Pair}
 use Rattle.pair.specs.Calls.{is}
 use Rattle.slots.specs.Slots.{Slot}
 use Rattle.equations.specs.Formula.{Letter, slot, rest, later, g-at-x, h-at-x, g-at-x′, Formula, letter, constant, _⊕_, _⊗_, _⊘_, Algebra, read, pairs}
-use Rattle.equations.specs.Readings.{Inputs, letters, noGrowth, plainWith, plain, exponents, grownAt, asAnswers, pacesOf, pairGrowing, worked}
+use Rattle.equations.specs.Readings.{Inputs, letters, plainWith, plain, asAnswers, worked}
 use Rattle.equations.specs.Ahead.{only, aSlot, isReceptors, ahead, readFrom, plainFrom}
 use Rattle.equations.proofs.Profile.{both}
 

@@ -1,11 +1,11 @@
 -- Formulas of which a part is worked already: its value is given, and the rest is read off the page.
 use mathlib.Core.Bool.{Bool, true, false, cond, _&&_}
+use lib.IntN.{pos}
+use Rattle.pair.specs.declared.Pair.{Pair}
+use Rattle.pair.specs.Calls.{Outcome}
 use Rattle.slots.specs.Slots.{Slot, ownerOf, same}
 use Rattle.equations.specs.Formula.{Letter, slot, rest, later, g-at-x, h-at-x, g-at-x′, Formula, letter, constant, _⊕_, _⊗_, _⊘_, Algebra, read, pairs}
 use Rattle.equations.specs.Readings.{letters, noGrowth, plain, byOwner}
-use Rattle.pair.specs.declared.Pair.{Pair}
-use Rattle.pair.specs.Calls.{Outcome}
-use lib.IntN.{pos}
 
 -- a letter of no slot, for what is given
 abbrev pub given : Slot → Formula
@@ -23,7 +23,7 @@ only ours (f ⊕ g) = only ours f && only ours g
 only ours (f ⊗ g) = only ours f && only ours g
 only ours (f ⊘ g) = only ours f && only ours g
 
--- letters that are slots, and which
+-- a letter that is one of these slots
 unfoldable pub aSlot : (Slot → Bool) → Letter → Bool
 aSlot ours (slot s) = ours s
 aSlot ours (rest s) = false
@@ -32,10 +32,11 @@ aSlot ours g-at-x = false
 aSlot ours h-at-x = false
 aSlot ours g-at-x′ = false
 
+-- whether each is a receptor's slot
 unfoldable pub isReceptors : Formula → Bool
 isReceptors f = only (aSlot (λ s. byOwner (ownerOf s) false false true)) f
 
--- what of a product a receptor's lines share, whatever the site and the chemical: its left part that has a receptor's letters alone
+-- what of a product is worked ahead for a receptor, whatever the site and the chemical: its left part that has a receptor's letters alone
 unfoldable pub ahead : Formula → Formula
 ahead (letter l) = letter l
 ahead (constant m e) = constant m e

@@ -56,9 +56,9 @@ k = ksg ⊕ kse ⊕ ksr ⊕ ksl ⊕ ksv
 unfoldable pub x : Formula
 x = k ⊗ tD
 
--- k × (T2 − tD), and at any loss
+-- k × (T2 − tD), and so with a given k
 abbrev pub lostLater : Formula → Formula
-lostLater loss = loss ⊗ T2−tD
+lostLater k = k ⊗ T2−tD
 
 unfoldable pub x′ : Formula
 x′ = lostLater k
@@ -105,12 +105,12 @@ D = hundred ⊗ HgD ⊗ Q ⊘ (Zs ⊗ BD) ⊗ (Fv ⊗ (Dydv ⊕ Dywv) ⊕ (Dydp 
 unfoldable pub C : Formula
 C = D ⊗ tD ⊗ g
 
--- the soil's mean over the exposure: T2 within tD, or beyond it
+-- the soil's mean over the exposure: T2 within tD, or beyond it, from what was gathered in tD and the highest year's soil, which decays
 unfoldable pub gathered : Formula
 gathered = D ⊗ tD ⊗ tD ⊗ h
 
 abbrev pub meanBeyond : Formula → Formula → Formula
-meanBeyond gathered highest = (gathered ⊕ highest ⊗ T2−tD ⊗ g′) ⊘ T2
+meanBeyond gathered C = (gathered ⊕ C ⊗ T2−tD ⊗ g′) ⊘ T2
 
 unfoldable pub mean : Stay → Formula
 mean Within = D ⊗ tD ⊗ h
@@ -160,6 +160,7 @@ byMedium BelowGround air soil above below = below
 unfoldable pub medium : Effect → Stay → Pathway → Formula
 medium e stay p = byMedium p A (soil e stay) (aboveGround (soil e stay)) (belowGround (soil e stay))
 
+-- intake factor × medium
 unfoldable pub intake : Effect → Stay → Pathway → Formula
 intake e stay p = factor e p ⊗ medium e stay p
 

@@ -7,8 +7,8 @@ use Rattle.slots.specs.Slots.{Slot, table, same, isIn, placeIn, ownerOf, placeO
 use Rattle.equations.specs.declared.Values.{Values}
 use Rattle.equations.specs.declared.Stay.{Stay}
 use Rattle.equations.specs.declared.Stay.the-variants.{Within, Beyond}
-use Rattle.equations.specs.Formula.{Formula, read, pairs}
-use Rattle.equations.specs.Page.{u, kse, ksr, ksl, k, x, x′, A, D, C, mean, gathered, aboveGround, belowGround}
+use Rattle.equations.specs.Formula.{Formula, read}
+use Rattle.equations.specs.Page.{u, kse, ksr, ksl, k, x, A, D, C, mean, gathered, aboveGround, belowGround}
 use Rattle.equations.specs.Readings.{Inputs, letters, plain, plainWith, exponents, grownAt, asAnswers, pacesOf, worked, inputs, byOwner, noValues}
 use Rattle.media.specs.declared.Media.{Media}
 use Rattle.media.specs.declared.Ground.{Ground}

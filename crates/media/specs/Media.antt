@@ -73,7 +73,7 @@ groundOf env = groundFrom (worked env k) (worked env gathered) (mediaIn env C) (
 
 -- ---- the media of a receptor's cancer, from the ground: T2 within the deposition, or beyond it. They are the page's formulas, where given
 -- letters stand for what is worked already; `mean-media` (proofs/Means.antt) holds them to the page read whole.
--- produce grows in the given soil
+-- air, a soil, and the produce that grows in it
 unfoldable pub grownIn : Values → Values → Outcome Pair → Outcome Pair → Outcome Media
 grownIn s c air soil =
     let env : Slot → Outcome Pair = λ n. cond (same n "soil") soil (is (inputs s c noValues n)) in

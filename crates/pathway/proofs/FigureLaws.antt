@@ -2,7 +2,6 @@
 use mathlib.Core.Path.{_≡_, refl, sym, _∙_, ap}
 use mathlib.Core.Bool.{Bool, true, false, cond, false≢true}
 use Rattle.equations.specs.declared.Pathway.{Pathway}
-use Rattle.equations.specs.Page.{byRoute}
 use Rattle.media.specs.declared.Conc.{Conc}
 use Rattle.pathway.specs.declared.References.{References}
 use Rattle.pathway.specs.Inner.{isTimed, timedFigures}

@@ -236,17 +236,18 @@ breathedBy Of2005 r = byDose
 breathedBy Of2009 r = byTime (inAirOf r)
 
 -- ---- what a receptor's lines share
+-- the shares of a chemical that are absorbed, and each by its place; no exposure has another letter of a chemical
 unfoldable pub absorbedOf : Values → Absorbed
 absorbedOf c = record { inhaled = valueIn c (placeOf "AFinh"); oral = valueIn c (placeOf "AForal"); dermal = valueIn c (placeOf "AFderm") }
 
--- by their places: an exposure has no other letter of a chemical
 unfoldable pub shareAt : Absorbed → ℕ → Pair
 shareAt a k = cond (eqb k (placeOf "AFinh")) (a .inhaled) (cond (eqb k (placeOf "AForal")) (a .oral) (a .dermal))
 
+-- what an exposure is read from
 unfoldable pub takenIn : Values → Absorbed → Values → Slot → Pair
 takenIn s a r n = byOwner (ownerOf n) (valueIn s (placeOf n)) (shareAt a (placeOf n)) (valueIn r (placeOf n))
 
--- an exposure from what was worked ahead of it, as the page goes on
+-- an exposure as the page has it, from the value of what is worked ahead
 unfoldable pub exposureFrom : Outcome Pair → Pathway → Values → Absorbed → Values → Outcome Pair
 exposureFrom begun p s a r = plainFrom begun pairs (λ n. is (takenIn s a r n)) (exposure p)
 

@@ -37,6 +37,7 @@ ghost use Rattle.pair.specs.Calls.{answer, is, after, product};
 ghost use Rattle.equations.specs.Page as page;
 ghost use Rattle.equations.specs.declared.Pathway.the-variants.{Air, SoilSummer, SoilWinter, Skin, AboveGround};
 ghost use Rattle.equations.specs.Ahead.{ahead};
+ghost use Rattle.pathway.specs.Inner.{each, Takes};
 ghost use Rattle.pathway.specs.Lines.{workedFor, workedOf, absorbedOf, exposureFrom};
 
 // 0.000001, kg/mg.
@@ -69,6 +70,20 @@ pub fn absorbed_of(c: Values) -> Absorbed
     }
 }
 
+// The share absorbed on a pathway.
+pub(crate) fn share_of(pathway: Pathway, absorbed: Absorbed) -> Pair
+    ensures { λ a. ⌜ Takes pathway absorbed a ⌝ }
+{
+    match pathway {
+        Pathway::Air => absorbed.inhaled,
+        Pathway::SoilSummer => absorbed.oral,
+        Pathway::SoilWinter => absorbed.oral,
+        Pathway::Skin => absorbed.dermal,
+        Pathway::AboveGround => absorbed.oral,
+        Pathway::BelowGround => absorbed.oral,
+    }
+}
+
 // Soil held on the skin.
 fn held(r: Values) -> Answer
     ensures { λ a. ⌜ answer a ≡ workedOf r (ahead (page.exposure Skin)) ⌝ }
@@ -98,67 +113,68 @@ fn times_three(x: Answer, a: Pair, b: Pair, c: Pair) -> Answer
     x.through(Step::Times, a, Step::Times, b, Step::Times, c)
 }
 
-fn air(s: Values, r: Values, absorbed: Absorbed, begun: Answer) -> Answer
-    ensures { λ a. ⌜ answer a ≡ exposureFrom (answer begun) Air s absorbed r ⌝ }
+fn air(s: Values, r: Values, share: Pair, begun: Answer) -> Answer
+    ensures { λ a. ⌜ answer a ≡ exposureFrom (answer begun) Air s (each share) r ⌝ }
 {
-    let share = absorbed.inhaled;
     let inhaled = times_three(begun, share, r.value(ET_INH), r.value(EF_INH));
     inhaled.times(r.at(ED))
 }
 
-fn soil_summer(s: Values, r: Values, absorbed: Absorbed, begun: Answer) -> Answer
-    ensures { λ a. ⌜ answer a ≡ exposureFrom (answer begun) SoilSummer s absorbed r ⌝ }
+fn soil_summer(s: Values, r: Values, share: Pair, begun: Answer) -> Answer
+    ensures { λ a. ⌜ answer a ≡ exposureFrom (answer begun) SoilSummer s (each share) r ⌝ }
 {
-    let share = absorbed.oral;
     let eaten = times_three(begun, share, r.value(ET_SOIL), r.value(EF_S));
     eaten.times(r.at(ED)).times(PER_MILLION.answer())
 }
 
-fn soil_winter(s: Values, r: Values, absorbed: Absorbed, begun: Answer) -> Answer
-    ensures { λ a. ⌜ answer a ≡ exposureFrom (answer begun) SoilWinter s absorbed r ⌝ }
+fn soil_winter(s: Values, r: Values, share: Pair, begun: Answer) -> Answer
+    ensures { λ a. ⌜ answer a ≡ exposureFrom (answer begun) SoilWinter s (each share) r ⌝ }
 {
-    let share = absorbed.oral;
     let eaten = times_three(begun, share, s.value(FR_SNOW), r.value(ET_SOIL));
     times_three(eaten, r.value(EF_W), r.value(ED), PER_MILLION)
 }
 
-fn skin(s: Values, r: Values, absorbed: Absorbed, begun: Answer) -> Answer
-    ensures { λ a. ⌜ answer a ≡ exposureFrom (answer begun) Skin s absorbed r ⌝ }
+fn skin(s: Values, r: Values, share: Pair, begun: Answer) -> Answer
+    ensures { λ a. ⌜ answer a ≡ exposureFrom (answer begun) Skin s (each share) r ⌝ }
 {
-    let share = absorbed.dermal;
     let taken = times_three(begun, share, r.value(ET_DERM), r.value(EF_S));
     taken.times(r.at(ED)).times(PER_MILLION.answer())
 }
 
-fn produce(s: Values, r: Values, absorbed: Absorbed, begun: Answer) -> Answer
-    ensures { λ a. ⌜ answer a ≡ exposureFrom (answer begun) AboveGround s absorbed r ⌝ }
+fn produce(s: Values, r: Values, share: Pair, begun: Answer) -> Answer
+    ensures { λ a. ⌜ answer a ≡ exposureFrom (answer begun) AboveGround s (each share) r ⌝ }
 {
-    let share = absorbed.oral;
     times_three(begun, share, r.value(EF_P), r.value(ED))
 }
 
-// An exposure from what it begins with and the shares that are absorbed.
+// An exposure from what it begins with and the share that is absorbed.
 pub(crate) fn exposure_from(
     s: Values,
     r: Values,
     pathway: Pathway,
-    absorbed: Absorbed,
+    share: Pair,
     begun: Answer,
 ) -> Answer
-    ensures { λ a. ⌜ answer a ≡ exposureFrom (answer begun) pathway s absorbed r ⌝ }
+    ensures { λ a. ⌜ answer a ≡ exposureFrom (answer begun) pathway s (each share) r ⌝ }
 {
     match pathway {
-        Pathway::Air => air(s, r, absorbed, begun),
-        Pathway::SoilSummer => soil_summer(s, r, absorbed, begun),
-        Pathway::SoilWinter => soil_winter(s, r, absorbed, begun),
-        Pathway::Skin => skin(s, r, absorbed, begun),
-        Pathway::AboveGround => produce(s, r, absorbed, begun),
-        Pathway::BelowGround => produce(s, r, absorbed, begun),
+        Pathway::Air => air(s, r, share, begun),
+        Pathway::SoilSummer => soil_summer(s, r, share, begun),
+        Pathway::SoilWinter => soil_winter(s, r, share, begun),
+        Pathway::Skin => skin(s, r, share, begun),
+        Pathway::AboveGround => produce(s, r, share, begun),
+        Pathway::BelowGround => produce(s, r, share, begun),
     }
 }
 
 pub(crate) fn exposure_of(s: Values, c: Values, r: Values, pathway: Pathway) -> Answer
     ensures { λ a. ⌜ answer a ≡ workedFor s c r (page.exposure pathway) ⌝ }
 {
-    exposure_from(s, r, pathway, absorbed_of(c), begun_of(r, pathway))
+    exposure_from(
+        s,
+        r,
+        pathway,
+        share_of(pathway, absorbed_of(c)),
+        begun_of(r, pathway),
+    )
 }

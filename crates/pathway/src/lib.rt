@@ -23,6 +23,7 @@ use crate::exposure::base_of;
 use crate::exposure::begun_of;
 use crate::exposure::exposure_from;
 use crate::exposure::exposure_of;
+use crate::exposure::share_of;
 use equations::Effect;
 use equations::Pathway;
 use equations::Values;
@@ -417,7 +418,7 @@ pub fn figures_with(
         site,
         receptor,
         pathway,
-        absorbed,
+        share_of(pathway, absorbed),
         begun_in(habits, receptor, pathway),
     );
     let noncancer = habits.hazard;

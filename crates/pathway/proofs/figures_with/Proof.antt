@@ -1,5 +1,5 @@
 -- As the air is taken: pathway 1 from its shares of time, or each figure by its own way, from one exposure. Assumes nothing.
-use mathlib.Core.Path.{_≡_, refl, sym, _∙_}
+use mathlib.Core.Path.{refl, sym, _∙_}
 use borrow.Author.Needs.{needs}
 use Rattle.pathway.specs.Lines.{figured, shared, baseIn, exposureWith, doseFiguresWith, figuresWith}
 use Rattle.pathway.proofs.FigureLaws.{in-air, as-dose}
@@ -17,6 +17,9 @@ unfolding figuresWith shared
 returns c =
     c .timed-figures .ensures
     ∙ in-air _ _ _ _ _ (sym (c .before .before .before .is-timed .ensures) ∙ c .before .before .if1 .taken)
+
+share-of-requires : tie.Need-share-of-requires
+share-of-requires c κs = search needs
 
 begun-in-requires : tie.Need-begun-in-requires
 begun-in-requires c κs = search needs
@@ -45,9 +48,9 @@ cancer-from-requires c κs = search needs
 returns-2 : tie.Need-returns-2
 unfolding figured figuresWith doseFiguresWith exposureWith baseIn shared
 returns-2 c =
-    (rw (c .cancer-from .ensures, c .before .csf-of .ensures, c .before .before .hazard-from .ensures, c .before .before .before .rfd-of .ensures, c .before .before .before .before .medium-of2 .ensures, c .before .before .before .before .before .medium-of .ensures, c .before .before .before .before .before .before .exposure-from .ensures, c .before .before .before .before .before .before .before .begun-in .ensures)
+    (rw (c .cancer-from .ensures, c .before .csf-of .ensures, c .before .before .hazard-from .ensures, c .before .before .before .rfd-of .ensures, c .before .before .before .before .medium-of2 .ensures, c .before .before .before .before .before .medium-of .ensures, c .before .before .before .before .before .before .exposure-from .ensures, c .before .before .before .before .before .before .before .before .share-of .ensures, c .before .before .before .before .before .before .before .begun-in .ensures)
     refl)
-    ∙ as-dose _ _ _ _ _ (sym (c .before .before .before .before .before .before .before .before .before .is-timed .ensures) ∙ c .before .before .before .before .before .before .before .before .if1 .left)
+    ∙ as-dose _ _ _ _ _ (sym (c .before .before .before .before .before .before .before .before .before .before .is-timed .ensures) ∙ c .before .before .before .before .before .before .before .before .before .if1 .left)
 
 pub figures-with-spec : {M : Type 1} → statement M
 figures-with-spec =
@@ -56,6 +59,7 @@ figures-with-spec =
     is-timed-requires
     timed-figures-requires
     returns
+    share-of-requires
     begun-in-requires
     exposure-from-requires
     medium-of-requires

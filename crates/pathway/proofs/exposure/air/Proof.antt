@@ -6,6 +6,7 @@ use Rattle.equations.specs.Page.{exposure}
 use Rattle.equations.specs.Readings.{letters, byOwner, valueIn}
 use Rattle.equations.specs.Ahead.{only, aSlot, isReceptors, readFrom, plainFrom}
 use Rattle.slots.specs.Slots.{table, same, isIn, placeIn, ownerOf, placeOf}
+use Rattle.pathway.specs.Inner.{each}
 use Rattle.pathway.specs.Lines.{shareAt, takenIn, exposureFrom}
 use Rattle.pathway.proofs.exposure.air.Statement.{statement}
 use Rattle.pathway.proofs.exposure.air.Tie as tie
@@ -26,7 +27,7 @@ times-requires : tie.Need-times-requires
 times-requires c κs = search needs
 
 returns : tie.Need-returns
-unfolding exposureFrom plainFrom readFrom isReceptors only aSlot read letters takenIn shareAt byOwner valueIn ownerOf placeOf table same isIn placeIn pairs exposure
+unfolding exposureFrom plainFrom readFrom isReceptors only aSlot read letters takenIn shareAt each byOwner valueIn ownerOf placeOf table same isIn placeIn pairs exposure
 returns c = rw (c .times .ensures, c .before .at .ensures, c .before .before .times-three .ensures, c .before .before .before .value2 .ensures, c .before .before .before .before .value .ensures)
     refl
 

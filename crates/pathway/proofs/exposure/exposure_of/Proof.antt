@@ -1,4 +1,4 @@
--- What it begins with, and what it goes on with. Assumes nothing.
+-- What it begins with, the share absorbed, and what it goes on with. Assumes nothing.
 use mathlib.Core.Path.{_∙_, ap₂}
 use borrow.Author.Needs.{needs}
 use Rattle.pair.specs.declared.Pair.{Pair}
@@ -12,6 +12,9 @@ use Rattle.pathway.proofs.exposure.exposure_of.Tie as tie
 absorbed-of-requires : tie.Need-absorbed-of-requires
 absorbed-of-requires c κs = search needs
 
+share-of-requires : tie.Need-share-of-requires
+share-of-requires c κs = search needs
+
 begun-of-requires : tie.Need-begun-of-requires
 begun-of-requires c κs = search needs
 
@@ -20,12 +23,13 @@ exposure-from-requires c κs = search needs
 
 returns : tie.Need-returns
 returns c =
-    let a = c .before .before .before .args in
+    let a = c .before .before .before .before .args in
     c .exposure-from .ensures
-    ∙ ap₂ (λ (o : Outcome Pair) (absorbed : Absorbed). exposureFrom o (a .pathway) (a .s) absorbed (a .r)) (c .before .begun-of .ensures) (c .before .before .absorbed-of .ensures)
+    ∙ c .before .before .share-of .ensures _ (a .s) (a .r)
+    ∙ ap₂ (λ (o : Outcome Pair) (absorbed : Absorbed). exposureFrom o (a .pathway) (a .s) absorbed (a .r)) (c .before .begun-of .ensures) (c .before .before .before .absorbed-of .ensures)
     ∙ begun-exposure (a .s) (a .c) (a .r) (a .pathway)
 
 pub exposure-of-spec : {M : Type 1} → statement M
 exposure-of-spec =
     tie.close
-    (tie.spec absorbed-of-requires begun-of-requires exposure-from-requires returns)
+    (tie.spec absorbed-of-requires share-of-requires begun-of-requires exposure-from-requires returns)
