@@ -23,6 +23,7 @@ use Rattle.equations.specs.declared.Effect.the-variants.{Hazard, Cancer}
 use Rattle.equations.specs.declared.Stay.{Stay}
 use Rattle.equations.specs.declared.Stay.the-variants.{Within, Beyond}
 use Rattle.slots.specs.declared.Guidance.{Guidance}
+use Rattle.slots.specs.declared.Guidance.the-variants.{Of2005}
 use Rattle.slots.specs.declared.Owner.{Owner}
 use Rattle.slots.specs.declared.Owner.the-variants.{Site, Chemical, Receptor}
 use Rattle.slots.specs.Slots.{Slot, table, same, isIn, placeIn, entryRule, ownerOf, placeOf, ruleOf, neverZero, atMostOne}
@@ -33,8 +34,7 @@ use Rattle.equations.specs.Readings.{Inputs, AtBoth, letters, noGrowth, 
 use Rattle.equations.proofs.Nearness.{Near, near-more, spread}
 use Rattle.equations.proofs.Profile.{Profile, profiles, ofNumber, positives, usable, joined, Fits, Good, answeredAs, both, parts, good-more, good-number}
 use Rattle.equations.proofs.FormulaLaws.{profile, reads-good}
-use Rattle.equations.proofs.Guided.{guided}
-use Rattle.equations.proofs.Pathways.{pathways, passes, onEach, on-line}
+use Rattle.equations.proofs.Pathways.{pathways, passes, onEach, byEither, on-guided}
 use Rattle.equations.proofs.Plain.{x-plain, x′-plain}
 use Rattle.equations.proofs.FastLaws.{ofExponent}
 use Rattle.equations.proofs.GrowthLaws.{ofG, ofH, grown}
@@ -112,19 +112,10 @@ ofFormula stay f = profile (letters (ofSlots stay) (ofGrown stay)) f
 narrow : Profile → Bool
 narrow f = f .answered && leb (f .width) 11600
 
--- The profiles of the lines of an intake, and with them of all that stands in such a line; and of a line of a concentration in air.
-intake-line-computed : (e : Effect) (stay : Stay) (p : Pathway) → narrow (ofFormula stay (page.intakeLine e stay p)) ≡ true
-unfolding passes pathways onEach narrow ofFormula ofGrown ofLaterGrowth profile read profiles letters page.intakeLine page.figureBy page.intake page.factor page.medium page.byMedium page.soil page.mean page.gathered page.exposure page.B page.AT page.reference page.referenceSlot page.byRoute page.A page.C page.D page.aboveGround page.belowGround x x′ page.k page.u page.kse page.ksr page.ksl ofNumber joined joint spread positives usable ofSlots ofSlot ofRest ofLater byOwner table same isIn placeIn entryRule ownerOf placeOf ruleOf neverZero atMostOne
-intake-line-computed = on-line (λ e stay p. narrow (ofFormula stay (page.intakeLine e stay p))) refl
-
-air-line-computed : (e : Effect) (stay : Stay) → narrow (ofFormula stay (page.airLine e)) ≡ true
-unfolding narrow ofFormula profile read profiles letters page.airLine page.airFigureBy page.timeShare page.timeInAir page.AT page.reference page.referenceSlot page.byRoute page.byMedium page.A ofNumber joined joint spread positives usable ofSlots ofSlot ofRest byOwner table same isIn placeIn entryRule ownerOf placeOf ruleOf neverZero atMostOne
-air-line-computed Hazard stay = refl
-air-line-computed Cancer stay = refl
-
+-- The profiles of the lines, and with them of all that stands in a line.
 line-computed : (y : Guidance) (e : Effect) (stay : Stay) (p : Pathway) → narrow (ofFormula stay (page.line y e stay p)) ≡ true
-unfolding page.line
-line-computed y e stay p = guided (λ (f : Formula). narrow (ofFormula stay f) ≡ true) y p (page.airLine e) (page.intakeLine e stay p) (air-line-computed e stay) (intake-line-computed e stay p)
+unfolding passes pathways onEach byEither narrow ofFormula ofGrown ofLaterGrowth profile read profiles letters page.line page.byGuidance page.airLine page.airFigureBy page.timeShare page.timeInAir page.intakeLine page.figureBy page.intake page.factor page.medium page.byMedium page.soil page.mean page.gathered page.exposure page.B page.AT page.reference page.referenceSlot page.byRoute page.A page.C page.D page.aboveGround page.belowGround x x′ page.k page.u page.kse page.ksr page.ksl ofNumber joined joint spread positives usable ofSlots ofSlot ofRest ofLater byOwner table same isIn placeIn entryRule ownerOf placeOf ruleOf neverZero atMostOne
+line-computed = on-guided (λ y e stay p. narrow (ofFormula stay (page.line y e stay p))) refl
 
 checked : (f : Profile) → narrow f ≡ true → (f .answered ≡ true) × (f .width ≤ 11600)
 unfolding narrow
@@ -136,9 +127,9 @@ line-checked : (y : Guidance) (e : Effect) (stay : Stay) (p : Pathway) → (ofFo
 line-checked y e stay p = checked (ofFormula stay (page.line y e stay p)) (line-computed y e stay p)
 
 intake-checked : (e : Effect) (stay : Stay) (p : Pathway) → ofFormula stay (page.intake e stay p) .answered ≡ true
-unfolding page.intakeLine page.figureBy ofFormula profile read profiles
-intake-checked Hazard stay p = parts quotients (ofFormula stay (page.intake Hazard stay p)) (ofFormula stay (page.reference Hazard p)) (checked _ (intake-line-computed Hazard stay p) .0) .first
-intake-checked Cancer stay p = parts products (ofFormula stay (page.intake Cancer stay p)) (ofFormula stay (page.reference Cancer p)) (checked _ (intake-line-computed Cancer stay p) .0) .first
+unfolding page.line page.byGuidance page.intakeLine page.figureBy ofFormula profile read profiles
+intake-checked Hazard stay p = parts quotients (ofFormula stay (page.intake Hazard stay p)) (ofFormula stay (page.reference Hazard p)) (checked _ (line-computed Of2005 Hazard stay p) .0) .first
+intake-checked Cancer stay p = parts products (ofFormula stay (page.intake Cancer stay p)) (ofFormula stay (page.reference Cancer p)) (checked _ (line-computed Of2005 Cancer stay p) .0) .first
 
 medium-checked : (e : Effect) (stay : Stay) (p : Pathway) → ofFormula stay (page.medium e stay p) .answered ≡ true
 unfolding page.intake ofFormula profile read profiles

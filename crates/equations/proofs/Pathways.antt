@@ -1,4 +1,4 @@
--- A test that passes on each pathway passes on every one, and so with an effect and a stay. Assumes nothing.
+-- A test that passes on each pathway passes on every one, and so with an effect, a stay and a guidance. Assumes nothing.
 use mathlib.Core.Path.{_≡_}
 use mathlib.Core.Bool.{Bool, true, _&&_}
 use mathlib.Core.List.{List, [], _∷_}
@@ -12,6 +12,8 @@ use Rattle.equations.specs.declared.Effect.{Effect}
 use Rattle.equations.specs.declared.Effect.the-variants.{Hazard, Cancer}
 use Rattle.equations.specs.declared.Stay.{Stay}
 use Rattle.equations.specs.declared.Stay.the-variants.{Within, Beyond}
+use Rattle.slots.specs.declared.Guidance.{Guidance}
+use Rattle.slots.specs.declared.Guidance.the-variants.{Of2005, Of2009}
 use Rattle.equations.proofs.Profile.{both}
 
 unfoldable pub pathways : List Pathway
@@ -52,3 +54,12 @@ on-line t h e stay p = at e stay
     at Hazard Beyond = both (t Hazard Within p) (t Hazard Beyond p) (each .0) .1
     at Cancer Within = both (t Cancer Within p) (t Cancer Beyond p) (each .1) .0
     at Cancer Beyond = both (t Cancer Within p) (t Cancer Beyond p) (each .1) .1
+
+-- and by either guidance
+unfoldable pub byEither : (Guidance → Effect → Stay → Pathway → Bool) → Effect → Stay → Pathway → Bool
+byEither t e stay p = t Of2005 e stay p && t Of2009 e stay p
+
+pub on-guided : (t : Guidance → Effect → Stay → Pathway → Bool) → passes (onEach (byEither t)) pathways ≡ true → (y : Guidance) (e : Effect) (stay : Stay) (p : Pathway) → t y e stay p ≡ true
+unfolding byEither
+on-guided t h Of2005 e stay p = both (t Of2005 e stay p) (t Of2009 e stay p) (on-line (byEither t) h e stay p) .0
+on-guided t h Of2009 e stay p = both (t Of2005 e stay p) (t Of2009 e stay p) (on-line (byEither t) h e stay p) .1

@@ -14,7 +14,6 @@ use Rattle.pair.specs.Promises.{sums, products, quotients, call, _≤ₑ_, scal
 use Rattle.pair.proofs.Promises.{Toward, rises, ends-itself, entry-rises}
 use Rattle.equations.specs.declared.Pathway.{Pathway}
 use Rattle.equations.specs.declared.Effect.{Effect}
-use Rattle.equations.specs.declared.Effect.the-variants.{Hazard, Cancer}
 use Rattle.equations.specs.declared.Stay.{Stay}
 use Rattle.slots.specs.declared.Guidance.{Guidance}
 use Rattle.slots.specs.Slots.{Slot, same}
@@ -23,8 +22,7 @@ use Rattle.equations.specs.Ahead.{only}
 use Rattle.equations.specs.Page as page
 use Rattle.equations.specs.Page.{Growth, x, x′}
 use Rattle.equations.specs.Readings.{Inputs, AtBoth, letters, noGrowth, plainWith, plain, exponents, grownAt, asAnswers, paceOf, pacesOf, pairGrowing, worked}
-use Rattle.equations.proofs.Guided.{guided}
-use Rattle.equations.proofs.Pathways.{pathways, passes, onEach, on-line}
+use Rattle.equations.proofs.Pathways.{pathways, passes, onEach, byEither, on-guided}
 use Rattle.equations.proofs.AheadLaws.{only-same}
 use Rattle.equations.proofs.Profile.{both}
 use Rattle.equations.proofs.Plain.{x-plain, x′-plain}
@@ -184,18 +182,9 @@ x-steady : (steady (marked emission) x ≡ true) × (steady (marked emission) x�
 unfolding steady only marked letters emission same x x′ page.k page.u page.kse page.ksr page.ksl
 x-steady = (refl, refl)
 
-intake-line-rising : (e : Effect) (stay : Stay) (p : Pathway) → rising (marked emission) (page.intakeLine e stay p) ≡ true
-unfolding passes pathways onEach rising risingLetter steady only marked letters emission same page.intakeLine page.figureBy page.intake page.factor page.medium page.byMedium page.soil page.mean page.gathered page.exposure page.B page.AT page.reference page.referenceSlot page.byRoute page.A page.C page.D page.aboveGround page.belowGround x x′ page.k page.u page.kse page.ksr page.ksl
-intake-line-rising = on-line (λ e stay p. rising (marked emission) (page.intakeLine e stay p)) refl
-
-air-line-rising : (e : Effect) → rising (marked emission) (page.airLine e) ≡ true
-unfolding rising risingLetter steady only marked letters emission same page.airLine page.airFigureBy page.timeShare page.timeInAir page.AT page.reference page.referenceSlot page.byRoute page.byMedium page.A
-air-line-rising Hazard = refl
-air-line-rising Cancer = refl
-
 line-rising : (y : Guidance) (e : Effect) (stay : Stay) (p : Pathway) → rising (marked emission) (page.line y e stay p) ≡ true
-unfolding page.line
-line-rising y e stay p = guided (λ (f : Formula). rising (marked emission) f ≡ true) y p (page.airLine e) (page.intakeLine e stay p) (air-line-rising e) (intake-line-rising e stay p)
+unfolding passes pathways onEach byEither rising risingLetter steady only marked letters emission same page.line page.byGuidance page.airLine page.airFigureBy page.timeShare page.timeInAir page.intakeLine page.figureBy page.intake page.factor page.medium page.byMedium page.soil page.mean page.gathered page.exposure page.B page.AT page.reference page.referenceSlot page.byRoute page.A page.C page.D page.aboveGround page.belowGround x x′ page.k page.u page.kse page.ksr page.ksl
+line-rising = on-guided (λ y e stay p. rising (marked emission) (page.line y e stay p)) refl
 
 -- Each end of every line rises with the printed Q, where all else is alike.
 pub line-rises : (env env' : Inputs Pair) → Alike emission env env' → (m m' : ℕ) (power power' : ℤ) → scaled m power ≤ᶠ scaled m' power' →
@@ -219,15 +208,6 @@ pub year-free : (steady (marked theYear) x ≡ true) × (steady (marked theYear)
 unfolding steady only marked letters theYear same x x′ page.k page.u page.kse page.ksr page.ksl
 year-free = (refl, refl)
 
-intake-line-steady : (e : Effect) (stay : Stay) (p : Pathway) → steady (marked theYear) (page.intakeLine e stay p) ≡ true
-unfolding passes pathways onEach steady only marked letters theYear same page.intakeLine page.figureBy page.intake page.factor page.medium page.byMedium page.soil page.mean page.gathered page.exposure page.B page.AT page.reference page.referenceSlot page.byRoute page.A page.C page.D page.aboveGround page.belowGround x x′ page.k page.u page.kse page.ksr page.ksl
-intake-line-steady = on-line (λ e stay p. steady (marked theYear) (page.intakeLine e stay p)) refl
-
-air-line-steady : (e : Effect) → steady (marked theYear) (page.airLine e) ≡ true
-unfolding steady only marked letters theYear same page.airLine page.airFigureBy page.timeShare page.timeInAir page.AT page.reference page.referenceSlot page.byRoute page.byMedium page.A
-air-line-steady Hazard = refl
-air-line-steady Cancer = refl
-
 pub year-steady : (y : Guidance) (e : Effect) (stay : Stay) (p : Pathway) → steady (marked theYear) (page.line y e stay p) ≡ true
-unfolding page.line
-year-steady y e stay p = guided (λ (f : Formula). steady (marked theYear) f ≡ true) y p (page.airLine e) (page.intakeLine e stay p) (air-line-steady e) (intake-line-steady e stay p)
+unfolding passes pathways onEach byEither steady only marked letters theYear same page.line page.byGuidance page.airLine page.airFigureBy page.timeShare page.timeInAir page.intakeLine page.figureBy page.intake page.factor page.medium page.byMedium page.soil page.mean page.gathered page.exposure page.B page.AT page.reference page.referenceSlot page.byRoute page.A page.C page.D page.aboveGround page.belowGround x x′ page.k page.u page.kse page.ksr page.ksl
+year-steady = on-guided (λ y e stay p. steady (marked theYear) (page.line y e stay p)) refl
