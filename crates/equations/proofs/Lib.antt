@@ -1,10 +1,12 @@
 -- The crate's laws: every formula's pair reading is answered, holds the exact reading and is narrow. `LineLaws` is what the crates above
--- may count on, with `Profile`, by which inputs are judged, `Guided`, `Limits`, `Plain`, `Rising`, `Refusals` and `Tail`'s `term-is`. Assumes nothing.
+-- may count on, with `Profile`, by which inputs are judged, `Guided`, `Pathways`, `AheadLaws`, `Limits`, `Plain`, `Rising`, `Refusals` and `Tail`'s `term-is`. Assumes nothing.
 pub mod Nearness
 pub mod Profile
 mod FormulaLaws
 pub mod Plain
 pub mod Guided
+pub mod Pathways
+pub mod AheadLaws
 pub mod Tail
 mod Sharper
 mod SeriesTerms

@@ -18,12 +18,12 @@ use Rattle.pair.specs.Calls.{Outcome, is}
 use Rattle.pair.specs.Promises.{Holds, products, quotients}
 use Rattle.pair.proofs.Promises.{joint}
 use Rattle.equations.specs.declared.Pathway.{Pathway}
-use Rattle.equations.specs.declared.Pathway.the-variants.{Air, SoilSummer, SoilWinter, Skin, AboveGround, BelowGround}
 use Rattle.equations.specs.declared.Effect.{Effect}
 use Rattle.equations.specs.declared.Effect.the-variants.{Hazard, Cancer}
 use Rattle.equations.specs.declared.Stay.{Stay}
 use Rattle.equations.specs.declared.Stay.the-variants.{Within, Beyond}
 use Rattle.slots.specs.declared.Guidance.{Guidance}
+use Rattle.slots.specs.declared.Guidance.the-variants.{Of2005}
 use Rattle.slots.specs.declared.Owner.{Owner}
 use Rattle.slots.specs.declared.Owner.the-variants.{Site, Chemical, Receptor}
 use Rattle.slots.specs.Slots.{Slot, table, same, isIn, placeIn, entryRule, ownerOf, placeOf, ruleOf, neverZero, atMostOne}
@@ -34,7 +34,7 @@ use Rattle.equations.specs.Readings.{Inputs, AtBoth, letters, noGrowth, 
 use Rattle.equations.proofs.Nearness.{Near, near-more, spread}
 use Rattle.equations.proofs.Profile.{Profile, profiles, ofNumber, positives, usable, joined, Fits, Good, answeredAs, both, parts, good-more, good-number}
 use Rattle.equations.proofs.FormulaLaws.{profile, reads-good}
-use Rattle.equations.proofs.Guided.{guided}
+use Rattle.equations.proofs.Pathways.{pathways, passes, onEach, byEither, on-guided}
 use Rattle.equations.proofs.Plain.{x-plain, x′-plain}
 use Rattle.equations.proofs.FastLaws.{ofExponent}
 use Rattle.equations.proofs.GrowthLaws.{ofG, ofH, grown}
@@ -112,42 +112,10 @@ ofFormula stay f = profile (letters (ofSlots stay) (ofGrown stay)) f
 narrow : Profile → Bool
 narrow f = f .answered && leb (f .width) 11600
 
--- The profiles of the lines of an intake, and with them of all that stands in such a line; and of a line of a concentration in air.
-intake-line-computed : (e : Effect) (stay : Stay) (p : Pathway) → narrow (ofFormula stay (page.intakeLine e stay p)) ≡ true
-unfolding narrow ofFormula ofGrown ofLaterGrowth profile read profiles letters page.intakeLine page.figureBy page.intake page.intakeBy page.factor page.medium page.byMedium page.soil page.mean page.gathered page.exposure page.B page.AT page.reference page.referenceSlot page.byRoute page.A page.C page.D page.aboveGround page.belowGround x x′ page.k page.u page.kse page.ksr page.ksl ofNumber joined joint spread positives usable ofSlots ofSlot ofRest ofLater byOwner table same isIn placeIn entryRule ownerOf placeOf ruleOf neverZero atMostOne
-intake-line-computed Hazard Within Air = refl
-intake-line-computed Hazard Within SoilSummer = refl
-intake-line-computed Hazard Within SoilWinter = refl
-intake-line-computed Hazard Within Skin = refl
-intake-line-computed Hazard Within AboveGround = refl
-intake-line-computed Hazard Within BelowGround = refl
-intake-line-computed Hazard Beyond Air = refl
-intake-line-computed Hazard Beyond SoilSummer = refl
-intake-line-computed Hazard Beyond SoilWinter = refl
-intake-line-computed Hazard Beyond Skin = refl
-intake-line-computed Hazard Beyond AboveGround = refl
-intake-line-computed Hazard Beyond BelowGround = refl
-intake-line-computed Cancer Within Air = refl
-intake-line-computed Cancer Within SoilSummer = refl
-intake-line-computed Cancer Within SoilWinter = refl
-intake-line-computed Cancer Within Skin = refl
-intake-line-computed Cancer Within AboveGround = refl
-intake-line-computed Cancer Within BelowGround = refl
-intake-line-computed Cancer Beyond Air = refl
-intake-line-computed Cancer Beyond SoilSummer = refl
-intake-line-computed Cancer Beyond SoilWinter = refl
-intake-line-computed Cancer Beyond Skin = refl
-intake-line-computed Cancer Beyond AboveGround = refl
-intake-line-computed Cancer Beyond BelowGround = refl
-
-air-line-computed : (e : Effect) (stay : Stay) → narrow (ofFormula stay (page.airLine e)) ≡ true
-unfolding narrow ofFormula profile read profiles letters page.airLine page.airFigureBy page.timeShare page.timeInAir page.AT page.reference page.referenceSlot page.byRoute page.A ofNumber joined joint spread positives usable ofSlots ofSlot ofRest byOwner table same isIn placeIn entryRule ownerOf placeOf ruleOf neverZero atMostOne
-air-line-computed Hazard stay = refl
-air-line-computed Cancer stay = refl
-
+-- The profiles of the lines, and with them of all that stands in a line.
 line-computed : (y : Guidance) (e : Effect) (stay : Stay) (p : Pathway) → narrow (ofFormula stay (page.line y e stay p)) ≡ true
-unfolding page.line
-line-computed y e stay p = guided (λ (f : Formula). narrow (ofFormula stay f) ≡ true) y p (page.airLine e) (page.intakeLine e stay p) (air-line-computed e stay) (intake-line-computed e stay p)
+unfolding passes pathways onEach byEither narrow ofFormula ofGrown ofLaterGrowth profile read profiles letters page.line page.byGuidance page.airLine page.airFigureBy page.timeShare page.timeInAir page.intakeLine page.figureBy page.intake page.factor page.medium page.byMedium page.soil page.mean page.gathered page.exposure page.B page.AT page.reference page.referenceSlot page.byRoute page.A page.C page.D page.aboveGround page.belowGround x x′ page.k page.u page.kse page.ksr page.ksl ofNumber joined joint spread positives usable ofSlots ofSlot ofRest ofLater byOwner table same isIn placeIn entryRule ownerOf placeOf ruleOf neverZero atMostOne
+line-computed = on-guided (λ y e stay p. narrow (ofFormula stay (page.line y e stay p))) refl
 
 checked : (f : Profile) → narrow f ≡ true → (f .answered ≡ true) × (f .width ≤ 11600)
 unfolding narrow
@@ -159,12 +127,12 @@ line-checked : (y : Guidance) (e : Effect) (stay : Stay) (p : Pathway) → (ofFo
 line-checked y e stay p = checked (ofFormula stay (page.line y e stay p)) (line-computed y e stay p)
 
 intake-checked : (e : Effect) (stay : Stay) (p : Pathway) → ofFormula stay (page.intake e stay p) .answered ≡ true
-unfolding page.intakeLine page.figureBy ofFormula profile read profiles
-intake-checked Hazard stay p = parts quotients (ofFormula stay (page.intake Hazard stay p)) (ofFormula stay (page.reference Hazard p)) (checked _ (intake-line-computed Hazard stay p) .0) .first
-intake-checked Cancer stay p = parts products (ofFormula stay (page.intake Cancer stay p)) (ofFormula stay (page.reference Cancer p)) (checked _ (intake-line-computed Cancer stay p) .0) .first
+unfolding page.line page.byGuidance page.intakeLine page.figureBy ofFormula profile read profiles
+intake-checked Hazard stay p = parts quotients (ofFormula stay (page.intake Hazard stay p)) (ofFormula stay (page.reference Hazard p)) (checked _ (line-computed Of2005 Hazard stay p) .0) .first
+intake-checked Cancer stay p = parts products (ofFormula stay (page.intake Cancer stay p)) (ofFormula stay (page.reference Cancer p)) (checked _ (line-computed Of2005 Cancer stay p) .0) .first
 
 medium-checked : (e : Effect) (stay : Stay) (p : Pathway) → ofFormula stay (page.medium e stay p) .answered ≡ true
-unfolding page.intake page.intakeBy ofFormula profile read profiles
+unfolding page.intake ofFormula profile read profiles
 medium-checked e stay p = parts products (ofFormula stay (page.factor e p)) (ofFormula stay (page.medium e stay p)) (intake-checked e stay p) .second
 
 -- The pair reading of f is r, which fits f's profile and holds the exact reading for every N from 256 up.

@@ -13,28 +13,23 @@ use Rattle.pair.specs.Calls.{Outcome, is, refused, after, entry, sum, product, 
 use Rattle.pair.specs.Promises.{sums, products, quotients, call, _≤ₑ_, scaled}
 use Rattle.pair.proofs.Promises.{Toward, rises, ends-itself, entry-rises}
 use Rattle.equations.specs.declared.Pathway.{Pathway}
-use Rattle.equations.specs.declared.Pathway.the-variants.{Air, SoilSummer, SoilWinter, Skin, AboveGround, BelowGround}
 use Rattle.equations.specs.declared.Effect.{Effect}
-use Rattle.equations.specs.declared.Effect.the-variants.{Hazard, Cancer}
 use Rattle.equations.specs.declared.Stay.{Stay}
-use Rattle.equations.specs.declared.Stay.the-variants.{Within, Beyond}
 use Rattle.slots.specs.declared.Guidance.{Guidance}
 use Rattle.slots.specs.Slots.{Slot, same}
 use Rattle.equations.specs.Formula.{Letter, slot, rest, later, g-at-x, h-at-x, g-at-x′, Formula, letter, constant, _⊕_, _⊗_, _⊘_, read, pairs}
+use Rattle.equations.specs.Ahead.{only}
 use Rattle.equations.specs.Page as page
 use Rattle.equations.specs.Page.{Growth, x, x′}
 use Rattle.equations.specs.Readings.{Inputs, AtBoth, letters, noGrowth, plainWith, plain, exponents, grownAt, asAnswers, paceOf, pacesOf, pairGrowing, worked}
-use Rattle.equations.proofs.Guided.{guided}
+use Rattle.equations.proofs.Pathways.{pathways, passes, onEach, byEither, on-guided}
+use Rattle.equations.proofs.AheadLaws.{only-same}
 use Rattle.equations.proofs.Profile.{both}
 use Rattle.equations.proofs.Plain.{x-plain, x′-plain}
 
 -- no marked letter stands in the formula
 unfoldable pub steady : (Letter → Bool) → Formula → Bool
-steady mark (letter l) = not (mark l)
-steady mark (constant m e) = true
-steady mark (f ⊕ g) = steady mark f && steady mark g
-steady mark (f ⊗ g) = steady mark f && steady mark g
-steady mark (f ⊘ g) = steady mark f && steady mark g
+steady mark f = only (λ l. not (mark l)) f
 
 -- none stands in a divisor, in a difference, in g or in h
 unfoldable pub risingLetter : (Letter → Bool) → Letter → Bool
@@ -77,12 +72,8 @@ same-pair p q h k = cc
 
 module _ (mark : Letter → Bool) (env env' : Letter → Outcome Pair) (alike : (l : Letter) → mark l ≡ false → env l ≡ env' l) where
   pub steady-same : (f : Formula) → steady mark f ≡ true → read pairs env f ≡ read pairs env' f
-  unfolding steady read pairs
-  steady-same (letter l) h = alike l (not-true (mark l) h)
-  steady-same (constant m e) h = refl
-  steady-same (f ⊕ g) h = let t = both (steady mark f) (steady mark g) h in ap₂ (after sum) (steady-same f (t .0)) (steady-same g (t .1))
-  steady-same (f ⊗ g) h = let t = both (steady mark f) (steady mark g) h in ap₂ (after product) (steady-same f (t .0)) (steady-same g (t .1))
-  steady-same (f ⊘ g) h = let t = both (steady mark f) (steady mark g) h in ap₂ (after quotient) (steady-same f (t .0)) (steady-same g (t .1))
+  unfolding steady
+  steady-same = only-same pairs (λ l. not (mark l)) env env' (λ l h. alike l (not-true (mark l) h))
 
   module _ (risen : (l : Letter) → risingLetter mark l ≡ true → (p p' : Pair) → env l ≡ is p → env' l ≡ is p' → _≤ₑ_ p p') where
     pub formula-rises : (f : Formula) → rising mark f ≡ true → (r r' : Pair) → read pairs env f ≡ is r → read pairs env' f ≡ is r' → _≤ₑ_ r r'
@@ -183,46 +174,17 @@ module _ (mark : Slot → Bool) (free : (steady (marked mark) x ≡ true) × (st
         let o' : AtBoth (Growth (Outcome Pair)) = grownFrom (exponents pairs (asAnswers env')) in
         formula-rises (marked mark) (letters (asAnswers env) o) (letters (asAnswers env') o') (letter-same o o' grown-same) (letter-risen o o' grown-same) f h r r' a b
 
--- a test that passes on every line by intake
-onPathways : (Pathway → Bool) → Bool
-onPathways t = t Air && (t SoilSummer && (t SoilWinter && (t Skin && (t AboveGround && t BelowGround))))
-
-on-pathway : (t : Pathway → Bool) → onPathways t ≡ true → (p : Pathway) → t p ≡ true
-unfolding onPathways
-on-pathway t h Air = both (t Air) _ h .0
-on-pathway t h SoilSummer = both (t SoilSummer) _ (both (t Air) _ h .1) .0
-on-pathway t h SoilWinter = both (t SoilWinter) _ (both (t SoilSummer) _ (both (t Air) _ h .1) .1) .0
-on-pathway t h Skin = both (t Skin) _ (both (t SoilWinter) _ (both (t SoilSummer) _ (both (t Air) _ h .1) .1) .1) .0
-on-pathway t h AboveGround = both (t AboveGround) _ (both (t Skin) _ (both (t SoilWinter) _ (both (t SoilSummer) _ (both (t Air) _ h .1) .1) .1) .1) .0
-on-pathway t h BelowGround = both (t AboveGround) _ (both (t Skin) _ (both (t SoilWinter) _ (both (t SoilSummer) _ (both (t Air) _ h .1) .1) .1) .1) .1
-
-on-line : (t : Effect → Stay → Pathway → Bool) → onPathways (t Hazard Within) ≡ true → onPathways (t Hazard Beyond) ≡ true →
-    onPathways (t Cancer Within) ≡ true → onPathways (t Cancer Beyond) ≡ true → (e : Effect) (stay : Stay) (p : Pathway) → t e stay p ≡ true
-on-line t a b c d Hazard Within = on-pathway (t Hazard Within) a
-on-line t a b c d Hazard Beyond = on-pathway (t Hazard Beyond) b
-on-line t a b c d Cancer Within = on-pathway (t Cancer Within) c
-on-line t a b c d Cancer Beyond = on-pathway (t Cancer Beyond) d
-
 -- The emission rate Q
 unfoldable pub emission : Slot → Bool
 emission s = same "Q" s
 
 x-steady : (steady (marked emission) x ≡ true) × (steady (marked emission) x′ ≡ true)
-unfolding steady marked letters emission same x x′ page.k page.u page.kse page.ksr page.ksl
+unfolding steady only marked letters emission same x x′ page.k page.u page.kse page.ksr page.ksl
 x-steady = (refl, refl)
 
-intake-line-rising : (e : Effect) (stay : Stay) (p : Pathway) → rising (marked emission) (page.intakeLine e stay p) ≡ true
-unfolding onPathways rising risingLetter steady marked letters emission same page.intakeLine page.figureBy page.intake page.intakeBy page.factor page.medium page.byMedium page.soil page.mean page.gathered page.exposure page.B page.AT page.reference page.referenceSlot page.byRoute page.A page.C page.D page.aboveGround page.belowGround x x′ page.k page.u page.kse page.ksr page.ksl
-intake-line-rising = on-line (λ e stay p. rising (marked emission) (page.intakeLine e stay p)) refl refl refl refl
-
-air-line-rising : (e : Effect) → rising (marked emission) (page.airLine e) ≡ true
-unfolding rising risingLetter steady marked letters emission same page.airLine page.airFigureBy page.timeShare page.timeInAir page.AT page.reference page.referenceSlot page.byRoute page.A
-air-line-rising Hazard = refl
-air-line-rising Cancer = refl
-
 line-rising : (y : Guidance) (e : Effect) (stay : Stay) (p : Pathway) → rising (marked emission) (page.line y e stay p) ≡ true
-unfolding page.line
-line-rising y e stay p = guided (λ (f : Formula). rising (marked emission) f ≡ true) y p (page.airLine e) (page.intakeLine e stay p) (air-line-rising e) (intake-line-rising e stay p)
+unfolding passes pathways onEach byEither rising risingLetter steady only marked letters emission same page.line page.byGuidance page.airLine page.airFigureBy page.timeShare page.timeInAir page.intakeLine page.figureBy page.intake page.factor page.medium page.byMedium page.soil page.mean page.gathered page.exposure page.B page.AT page.reference page.referenceSlot page.byRoute page.A page.C page.D page.aboveGround page.belowGround x x′ page.k page.u page.kse page.ksr page.ksl
+line-rising = on-guided (λ y e stay p. rising (marked emission) (page.line y e stay p)) refl
 
 -- Each end of every line rises with the printed Q, where all else is alike.
 pub line-rises : (env env' : Inputs Pair) → Alike emission env env' → (m m' : ℕ) (power power' : ℤ) → scaled m power ≤ᶠ scaled m' power' →
@@ -243,18 +205,9 @@ unfoldable pub theYear : Slot → Bool
 theYear s = same "year" s
 
 pub year-free : (steady (marked theYear) x ≡ true) × (steady (marked theYear) x′ ≡ true)
-unfolding steady marked letters theYear same x x′ page.k page.u page.kse page.ksr page.ksl
+unfolding steady only marked letters theYear same x x′ page.k page.u page.kse page.ksr page.ksl
 year-free = (refl, refl)
 
-intake-line-steady : (e : Effect) (stay : Stay) (p : Pathway) → steady (marked theYear) (page.intakeLine e stay p) ≡ true
-unfolding onPathways steady marked letters theYear same page.intakeLine page.figureBy page.intake page.intakeBy page.factor page.medium page.byMedium page.soil page.mean page.gathered page.exposure page.B page.AT page.reference page.referenceSlot page.byRoute page.A page.C page.D page.aboveGround page.belowGround x x′ page.k page.u page.kse page.ksr page.ksl
-intake-line-steady = on-line (λ e stay p. steady (marked theYear) (page.intakeLine e stay p)) refl refl refl refl
-
-air-line-steady : (e : Effect) → steady (marked theYear) (page.airLine e) ≡ true
-unfolding steady marked letters theYear same page.airLine page.airFigureBy page.timeShare page.timeInAir page.AT page.reference page.referenceSlot page.byRoute page.A
-air-line-steady Hazard = refl
-air-line-steady Cancer = refl
-
 pub year-steady : (y : Guidance) (e : Effect) (stay : Stay) (p : Pathway) → steady (marked theYear) (page.line y e stay p) ≡ true
-unfolding page.line
-year-steady y e stay p = guided (λ (f : Formula). steady (marked theYear) f ≡ true) y p (page.airLine e) (page.intakeLine e stay p) (air-line-steady e) (intake-line-steady e stay p)
+unfolding passes pathways onEach byEither steady only marked letters theYear same page.line page.byGuidance page.airLine page.airFigureBy page.timeShare page.timeInAir page.intakeLine page.figureBy page.intake page.factor page.medium page.byMedium page.soil page.mean page.gathered page.exposure page.B page.AT page.reference page.referenceSlot page.byRoute page.A page.C page.D page.aboveGround page.belowGround x x′ page.k page.u page.kse page.ksr page.ksl
+year-steady = on-guided (λ y e stay p. steady (marked theYear) (page.line y e stay p)) refl

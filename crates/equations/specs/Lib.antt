@@ -4,4 +4,5 @@ pub mod Letters
 pub mod Series
 pub mod Page
 pub mod Readings
+pub mod Ahead
 pub mod Ranges

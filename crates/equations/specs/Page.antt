@@ -56,9 +56,12 @@ k = ksg ⊕ kse ⊕ ksr ⊕ ksl ⊕ ksv
 unfoldable pub x : Formula
 x = k ⊗ tD
 
--- k × (T2 − tD)
+-- k × (T2 − tD), and so with a given k
+abbrev pub lostLater : Formula → Formula
+lostLater k = k ⊗ T2−tD
+
 unfoldable pub x′ : Formula
-x′ = k ⊗ T2−tD
+x′ = lostLater k
 
 -- g and h at an exponent x, which is k × tD or k × (T2 − tD), in any reading: g = 1 / (1 / φ + x) and h = ψ / (1 + x × φ), with φ and ψ the series
 -- there (Series.antt). Where the high end of x is above 64 (P5) the chemical is lost fast: then 1 / φ is next to nothing, and h = (1 − g) / x.
@@ -102,13 +105,16 @@ D = hundred ⊗ HgD ⊗ Q ⊘ (Zs ⊗ BD) ⊗ (Fv ⊗ (Dydv ⊕ Dywv) ⊕ (Dydp 
 unfoldable pub C : Formula
 C = D ⊗ tD ⊗ g
 
--- the soil's mean over the exposure: T2 within tD, or beyond it
+-- the soil's mean over the exposure: T2 within tD, or beyond it, from what was gathered in tD and the highest year's soil, which decays
 unfoldable pub gathered : Formula
 gathered = D ⊗ tD ⊗ tD ⊗ h
 
+abbrev pub meanBeyond : Formula → Formula → Formula
+meanBeyond gathered C = (gathered ⊕ C ⊗ T2−tD ⊗ g′) ⊘ T2
+
 unfoldable pub mean : Stay → Formula
 mean Within = D ⊗ tD ⊗ h
-mean Beyond = (gathered ⊕ C ⊗ T2−tD ⊗ g′) ⊘ T2
+mean Beyond = meanBeyond gathered C
 
 -- hazard takes the highest year's, cancer the mean
 unfoldable pub soil : Effect → Stay → Formula
@@ -154,21 +160,13 @@ byMedium BelowGround air soil above below = below
 unfoldable pub medium : Effect → Stay → Pathway → Formula
 medium e stay p = byMedium p A (soil e stay) (aboveGround (soil e stay)) (belowGround (soil e stay))
 
--- Intake = intake factor × its medium, in any reading of ×
-unfoldable pub intakeBy : {A : Type 0} → (A → A → A) → A → A → A
-intakeBy times factor medium = times factor medium
-
+-- intake factor × medium
 unfoldable pub intake : Effect → Stay → Pathway → Formula
-intake e stay p = intakeBy _⊗_ (factor e p) (medium e stay p)
+intake e stay p = factor e p ⊗ medium e stay p
 
--- Pathway 1 takes RfDi and CSFi, the rest RfDo and CSFo.
+-- Pathway 1, whose medium is the air, takes RfDi and CSFi, the rest RfDo and CSFo.
 unfoldable pub byRoute : {A : Type 0} → Pathway → A → A → A
-byRoute Air inhaled oral = inhaled
-byRoute SoilSummer inhaled oral = oral
-byRoute SoilWinter inhaled oral = oral
-byRoute Skin inhaled oral = oral
-byRoute AboveGround inhaled oral = oral
-byRoute BelowGround inhaled oral = oral
+byRoute p inhaled oral = byMedium p inhaled oral oral oral
 
 unfoldable pub referenceSlot : Effect → Pathway → Slot
 referenceSlot Hazard p = byRoute p "RfDi" "RfDo"
@@ -177,13 +175,13 @@ referenceSlot Cancer p = byRoute p "CSFi" "CSFo"
 unfoldable pub reference : Effect → Pathway → Formula
 reference e p = letter (slot (referenceSlot e p))
 
--- Quotient = intake / RfD; risk = intake × CSF, in any reading of × and /
-unfoldable pub figureBy : {A : Type 0} → (A → A → A) → (A → A → A) → Effect → A → A → A
-figureBy times over Hazard intake rfd = over intake rfd
-figureBy times over Cancer intake csf = times intake csf
+-- Quotient = intake / RfD; risk = intake × CSF
+unfoldable pub figureBy : Effect → Formula → Formula → Formula
+figureBy Hazard intake rfd = intake ⊘ rfd
+figureBy Cancer intake csf = intake ⊗ csf
 
 unfoldable pub intakeLine : Effect → Stay → Pathway → Formula
-intakeLine e stay p = figureBy _⊗_ _⊘_ e (intake e stay p) (reference e p)
+intakeLine e stay p = figureBy e (intake e stay p) (reference e p)
 
 -- Pathway 1 by the guidance of 2009 (P6) has no intake. Side by side, with their reference values:
 --   2005   IRinh × AFinh × ETinh × EFinh × ED / B × A   / RfDi, an RfD             × CSFi, a CSF
@@ -195,13 +193,13 @@ timeInAir = ETinh ⊗ EFinh ⊗ ED
 unfoldable pub timeShare : Effect → Formula
 timeShare e = timeInAir ⊘ AT e
 
--- quotient = product / reference; risk = product × 1000 × unit risk, in any reading of ×, / and 1000
-unfoldable pub airFigureBy : {A : Type 0} → (A → A → A) → (A → A → A) → A → Effect → A → A → A
-airFigureBy times over thousand Hazard product reference = over product reference
-airFigureBy times over thousand Cancer product unitRisk = times (times product thousand) unitRisk
+-- quotient = product / reference; risk = product × 1000 × unit risk
+unfoldable pub airFigureBy : Effect → Formula → Formula → Formula
+airFigureBy Hazard product reference = product ⊘ reference
+airFigureBy Cancer product unitRisk = product ⊗ thousand ⊗ unitRisk
 
 unfoldable pub airLine : Effect → Formula
-airLine e = airFigureBy _⊗_ _⊘_ thousand e (timeShare e ⊗ A) (reference e Air)
+airLine e = airFigureBy e (timeShare e ⊗ A) (reference e Air)
 
 -- A line by the year's guidance: by 2005 pathway 1 is of an intake, by 2009 of a concentration in air; every other line is the same in both.
 unfoldable pub byGuidance : {A : Type 0} → Guidance → Pathway → A → A → A

@@ -2,17 +2,17 @@
 -- from the ground, are the page's, whose soil is the mean over the exposure. Assumes nothing.
 use mathlib.Core.Path.{_≡_, refl, sym, _∙_, ap, ap₂}
 use Rattle.pair.specs.declared.Pair.{Pair}
-use Rattle.pair.specs.Calls.{Outcome, is, refused, after, product}
+use Rattle.pair.specs.Calls.{Outcome, is, refused}
 use Rattle.slots.specs.Slots.{Slot, table, same, isIn, placeIn, ownerOf, placeOf}
 use Rattle.equations.specs.declared.Values.{Values}
 use Rattle.equations.specs.declared.Stay.{Stay}
 use Rattle.equations.specs.declared.Stay.the-variants.{Within, Beyond}
-use Rattle.equations.specs.Formula.{Formula, read, pairs}
-use Rattle.equations.specs.Page.{u, kse, ksr, ksl, k, x, x′, A, D, C, mean, gathered, aboveGround, belowGround}
+use Rattle.equations.specs.Formula.{Formula, read}
+use Rattle.equations.specs.Page.{u, kse, ksr, ksl, k, x, A, D, C, mean, gathered, aboveGround, belowGround}
 use Rattle.equations.specs.Readings.{Inputs, letters, plain, plainWith, exponents, grownAt, asAnswers, pacesOf, worked, inputs, byOwner, noValues}
 use Rattle.media.specs.declared.Media.{Media}
 use Rattle.media.specs.declared.Ground.{Ground}
-use Rattle.media.specs.Media.{mediaInputs, four, mediaIn, mediaOf, groundFrom, groundOf, grownIn, soilBeyond, meanMedia}
+use Rattle.media.specs.Media.{mediaInputs, four, mediaIn, mediaOf, groundFrom, groundOf, grownIn, heldIn, soilBeyond, meanMedia}
 use Rattle.media.proofs.Passing.{is-not-refused}
 use Rattle.media.proofs.Soils.{beyond-is, later-is, produce-is}
 
@@ -110,15 +110,11 @@ module _ (s c r : Values) (rests : Slot → Pair) (later : Pair) where
     unfolding mediaIn
     highest-told = four-told (worked full A) (worked full C) (worked full (aboveGround C)) (worked full (belowGround C)) (ground .highest) (parts .highest)
 
-    x′-told : worked full x′ ≡ product (ground .loss) later
-    unfolding pairs after
-    x′-told = later-is full ∙ ap (λ (o : Outcome Pair). after product o (is later)) (parts .loss)
+    soil-told : soilBeyond ground (full .value "T2") later ≡ worked full (mean Beyond)
+    unfolding soilBeyond heldIn plainWith asAnswers read letters same
+    soil-told = rw (beyond-is full, later-is full, parts .loss, parts .gathered, highest-told .soil) refl
 
-    soil-told : soilBeyond ground (product (ground .loss) later) (full .value "T2") later ≡ worked full (mean Beyond)
-    unfolding soilBeyond
-    soil-told = rw (beyond-is full, parts .gathered, highest-told .soil, x′-told) refl
-
-    grown-told : grownIn s c (is (ground .highest .air .0)) (soilBeyond ground (product (ground .loss) later) (full .value "T2") later) ≡ mediaIn full (mean Beyond)
+    grown-told : grownIn s c (is (ground .highest .air .0)) (soilBeyond ground (full .value "T2") later) ≡ mediaIn full (mean Beyond)
     grown-told = ap₂ (grownIn s c) (sym (highest-told .air)) soil-told ∙ sym (produce-is s c r rests later (mean Beyond))
 
     pub mean-media : (stay : Stay) → meanMedia ground s c stay (full .value "T2") later ≡ mediaIn full (mean stay)

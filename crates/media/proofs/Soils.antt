@@ -8,7 +8,7 @@ use Rattle.equations.specs.declared.Stay.the-variants.{Within, Beyond}
 use Rattle.equations.specs.Formula.{Formula, read, pairs}
 use Rattle.equations.specs.Page.{u, kse, ksr, ksl, k, x, x′, A, D, C, mean, gathered, aboveGround, belowGround}
 use Rattle.equations.specs.Readings.{Inputs, letters, plain, plainWith, exponents, grownAt, asAnswers, pacesOf, worked, inputs, byOwner}
-use Rattle.media.specs.Media.{ofSlots, growthAt, mediaIn, grownIn}
+use Rattle.media.specs.Media.{growthAt, mediaIn, grownIn}
 
 module _ (env : Inputs Pair) where
   abbrev at-x : Outcome Pair
@@ -48,5 +48,5 @@ module _ (s c r : Values) (rests : Slot → Pair) (later : Pair) where
   all-inputs = record { value = inputs s c r; rest = rests; later = later }
 
   pub produce-is : (soil : Formula) → mediaIn all-inputs soil ≡ grownIn s c (worked all-inputs A) (worked all-inputs soil)
-  unfolding mediaIn grownIn ofSlots plain plainWith worked asAnswers read letters inputs byOwner ownerOf placeOf table same isIn placeIn aboveGround belowGround
+  unfolding mediaIn grownIn plain plainWith worked asAnswers read letters inputs byOwner ownerOf placeOf table same isIn placeIn aboveGround belowGround
   produce-is soil = refl

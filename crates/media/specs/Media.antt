@@ -1,14 +1,16 @@
 -- The media of document 01 by the working rule: g and h at x (document 02, P5), and the four concentrations; and those that cancer takes
 -- (P4), whose soil is the mean over the exposure. All that is refused is refused with 53.
+use mathlib.Core.Bool.{cond}
 use Rattle.pair.specs.declared.Pair.{Pair}
-use Rattle.pair.specs.Calls.{Outcome, is, refused, zeroPair, onePair, product}
+use Rattle.pair.specs.Calls.{Outcome, is, refused, zeroPair, onePair}
+use Rattle.slots.specs.Slots.{Slot, same}
 use Rattle.equations.specs.declared.Values.{Values}
 use Rattle.equations.specs.declared.Stay.{Stay}
 use Rattle.equations.specs.declared.Stay.the-variants.{Within, Beyond}
-use Rattle.equations.specs.Formula.{Formula, pairs}
-use Rattle.equations.specs.Letters.{Br, RCF, VG, Kds}
-use Rattle.equations.specs.Page.{k, Growth, growth, A, C, mean, gathered, aboveGround, belowGround}
-use Rattle.equations.specs.Readings.{Inputs, plain, paceOf, pairGrowing, worked, inputs, noValues}
+use Rattle.equations.specs.Formula.{Formula, read, pairs}
+use Rattle.equations.specs.Page.{k, Growth, growth, A, C, mean, gathered, aboveGround, belowGround, lostLater, meanBeyond}
+use Rattle.equations.specs.Readings.{Inputs, letters, plainWith, plain, asAnswers, paceOf, pairGrowing, worked, inputs, noValues}
+use Rattle.equations.specs.Ahead.{given}
 use Rattle.media.specs.declared.Media.{Media}
 use Rattle.media.specs.declared.Found.{Found}
 use Rattle.media.specs.declared.Found.the-variants as Founds
@@ -69,19 +71,27 @@ groundFrom (refused n) x y z = refused n
 unfoldable pub groundOf : Inputs Pair → Outcome Ground
 groundOf env = groundFrom (worked env k) (worked env gathered) (mediaIn env C) (mediaIn env (mean Within))
 
--- ---- the media of a receptor's cancer, from the ground: T2 within the deposition, or beyond it. `mean-media` (proofs/Means.antt) holds it to
--- the page.
+-- ---- the media of a receptor's cancer, from the ground: T2 within the deposition, or beyond it. They are the page's formulas, where given
+-- letters stand for what is worked already; `mean-media` (proofs/Means.antt) holds them to the page read whole.
+-- air, a soil, and the produce that grows in it
 unfoldable pub grownIn : Values → Values → Outcome Pair → Outcome Pair → Outcome Media
 grownIn s c air soil =
-    four air soil (pairs .times soil (ofSlots s c Br)) (pairs .over (pairs .times (pairs .times soil (ofSlots s c RCF)) (ofSlots s c VG)) (ofSlots s c Kds))
+    let env : Slot → Outcome Pair = λ n. cond (same n "soil") soil (is (inputs s c noValues n)) in
+    four air soil (plain pairs env (aboveGround (given "soil"))) (plain pairs env (belowGround (given "soil")))
 
-unfoldable pub soilBeyond : Ground → Outcome Pair → Pair → Pair → Outcome Pair
-soilBeyond ground x′ T2 later =
-    pairs .over (pairs .plus (is (ground .gathered)) (pairs .times (pairs .times (is (ground .highest .soil .0)) (is later)) (growthAt x′ .g))) (is T2)
+-- the ground's k, what was gathered and the highest year's soil; beside them the mean's only slot is T2
+unfoldable pub heldIn : Ground → Pair → Slot → Pair
+heldIn ground T2 n = cond (same n "k") (ground .loss) (cond (same n "gathered") (ground .gathered) (cond (same n "C") (ground .highest .soil .0) T2))
+
+unfoldable pub soilBeyond : Ground → Pair → Pair → Outcome Pair
+soilBeyond ground T2 later =
+    let env : Inputs (Outcome Pair) = asAnswers (record { value = heldIn ground T2; rest = λ n. onePair; later = later }) in
+    let grown : Growth (Outcome Pair) = growthAt (plainWith pairs (env .value) (env .later) (lostLater (given "k"))) in
+    read pairs (letters env (record { at-x = grown; at-x′ = grown })) (meanBeyond (given "gathered") (given "C"))
 
 unfoldable pub meanMedia : Ground → Values → Values → Stay → Pair → Pair → Outcome Media
 meanMedia ground s c Within T2 later = is (ground .within)
-meanMedia ground s c Beyond T2 later = grownIn s c (is (ground .highest .air .0)) (soilBeyond ground (product (ground .loss) later) T2 later)
+meanMedia ground s c Beyond T2 later = grownIn s c (is (ground .highest .air .0)) (soilBeyond ground T2 later)
 
 -- no chemical: 0 in each
 unfoldable pub noMedia : Media

@@ -29,7 +29,7 @@ use slots::TD;
 use slots::VG;
 use slots::ZS;
 ghost use mathlib.Core.Path.{_≡_};
-ghost use Rattle.pair.specs.Calls.{answer, product};
+ghost use Rattle.pair.specs.Calls.{answer};
 ghost use Rattle.equations.specs.declared.Stay.the-variants.{Beyond};
 ghost use Rattle.equations.specs.Page as page;
 ghost use Rattle.equations.specs.Page.{D};
@@ -146,7 +146,7 @@ pub fn ground_of(site: Values, chemical: Values, particles: Pair) -> Grounded
 
 // The mean over an exposure that goes beyond the deposition.
 fn soil_beyond(ground: Ground, exposure: Pair, later: Pair) -> Answer
-    ensures { λ r. ⌜ answer r ≡ soilBeyond ground (product (ground .loss) later) exposure later ⌝ }
+    ensures { λ r. ⌜ answer r ≡ soilBeyond ground exposure later ⌝ }
 {
     let g = g_at(ground.loss.product(later));
     let highest = ground.highest.soil.pair();

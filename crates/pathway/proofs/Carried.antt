@@ -6,17 +6,21 @@ use Rattle.pair.specs.declared.Pair.{Pair}
 use Rattle.pair.specs.Calls.{Outcome, is, refused, mapped, after, afterOne}
 use Rattle.equations.specs.declared.Effect.{Effect}
 use Rattle.equations.specs.declared.Effect.the-variants.{Hazard, Cancer}
+use Rattle.slots.specs.Slots.{same}
+use Rattle.equations.specs.Formula.{read, pairs}
+use Rattle.equations.specs.Readings.{letters, plainWith, plain}
+use Rattle.equations.specs.Ahead.{ofTwo}
 use Rattle.equations.specs.Page.{figureBy, airFigureBy}
 use Rattle.pathway.specs.Lines.{Optional, some, none, figureOf, airFigureOf}
 
 pub refused-carried : (e : Effect) (n : ℕ) (reference : Optional Pair) → figureOf e (refused n) reference ≡ refused n
-unfolding figureOf figureBy mapped after afterOne
+unfolding figureOf figureBy ofTwo plain plainWith read letters pairs same mapped after afterOne
 refused-carried Hazard n (some v) = refl
 refused-carried Cancer n (some v) = refl
 refused-carried e n none = refl
 
 pub refused-in-air : (e : Effect) (n : ℕ) (reference : Optional Pair) → airFigureOf e (refused n) reference ≡ refused n
-unfolding airFigureOf airFigureBy mapped after afterOne
+unfolding airFigureOf airFigureBy ofTwo plain plainWith read letters pairs same mapped after afterOne
 refused-in-air Hazard n (some v) = refl
 refused-in-air Cancer n (some v) = refl
 refused-in-air e n none = refl

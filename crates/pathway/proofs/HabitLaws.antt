@@ -1,6 +1,10 @@
 -- What a receptor's lines share is what their formulas begin with, so that with a receptor's own habits its lines' factors are the page's; and a
 -- figure worked in one chain is that of its factor and its dose. Assumes nothing.
 use mathlib.Core.Path.{_≡_, refl, sym, _∙_, ap, ap₂}
+use mathlib.Core.Bool.{Bool, true, false, cond, _||_, false≢true}
+use Prim.Native.Nat.{ℕ}
+use lib.Dec.{eqb}
+use borrow.Author.Tests.{eqb-true}
 use Rattle.pair.specs.declared.Pair.{Pair}
 use Rattle.pair.specs.declared.Answer.{Answer}
 use Rattle.pair.specs.declared.Answer.the-variants as Answers
@@ -11,14 +15,19 @@ use Rattle.equations.specs.declared.Effect.{Effect}
 use Rattle.equations.specs.declared.Effect.the-variants.{Hazard, Cancer}
 use Rattle.equations.specs.declared.Values.{Values}
 use Rattle.equations.specs.Formula.{read, pairs}
-use Rattle.equations.specs.Page.{AT, B, exposure, factor, intakeBy, figureBy}
+use Rattle.equations.specs.Page.{AT, B, exposure, factor, figureBy}
+use Rattle.equations.specs.Ahead.{ofTwo, only, aSlot, isReceptors, ahead, plainFrom}
+use Rattle.equations.proofs.Pathways.{pathways, passes, on-pathway}
+use Rattle.equations.proofs.AheadLaws.{plain-same, plain-ahead}
 use Rattle.equations.specs.Readings.{plain, plainWith, letters, inputs, byOwner, valueIn, noValues}
 use Rattle.media.specs.declared.Conc.{Conc}
 use Rattle.slots.specs.declared.Guidance.{Guidance}
-use Rattle.slots.specs.Slots.{table, same, isIn, placeIn, ownerOf, placeOf}
+use Rattle.slots.specs.declared.Owner.{Owner}
+use Rattle.slots.specs.declared.Owner.the-variants.{Site, Chemical, Receptor}
+use Rattle.slots.specs.Slots.{Slot, table, same, isIn, placeIn, ownerOf, placeOf}
 use Rattle.pathway.specs.declared.Factor.{Factor}
 use Rattle.pathway.specs.declared.Dose.{Dose}
-use Rattle.pathway.specs.Lines.{some, workedFor, factorOf, doseOf, figureOf, workedOf, begins, onward, absorbedOf, shareOf, habitsOf, baseIn, begunIn, exposureWith, factorWith, figureIfGiven}
+use Rattle.pathway.specs.Lines.{some, workedFor, factorOf, doseOf, figureOf, workedOf, absorbedOf, shareAt, takenIn, exposureFrom, habitsOf, baseIn, begunIn, exposureWith, factorWith, figureIfGiven}
 use Rattle.pathway.proofs.Carried.{pair-back}
 
 -- a receptor's letters are read alike with any site and chemical
@@ -27,18 +36,64 @@ unfolding workedOf workedFor plain plainWith read letters inputs byOwner valueIn
 base-alike s c r Hazard = refl
 base-alike s c r Cancer = refl
 
--- an exposure is what it begins with, the share absorbed and what it goes on with
-pub begun-exposure : (s c r : Values) (p : Pathway) → onward (after product) (workedFor s noValues r) p (is (shareOf p (absorbedOf c))) (workedOf r (begins p)) ≡ workedFor s c r (exposure p)
-unfolding onward begins exposure shareOf absorbedOf workedOf workedFor plain plainWith read letters inputs byOwner valueIn ownerOf placeOf table same isIn placeIn pairs
-begun-exposure s c r Air = refl
-begun-exposure s c r SoilSummer = refl
-begun-exposure s c r SoilWinter = refl
-begun-exposure s c r Skin = refl
-begun-exposure s c r AboveGround = refl
-begun-exposure s c r BelowGround = refl
+-- what is worked ahead has a receptor's letters alone, and an exposure none of a chemical's but the shares absorbed
+ahead-own : (p : Pathway) → isReceptors (ahead (exposure p)) ≡ true
+unfolding passes pathways isReceptors only aSlot ahead exposure byOwner ownerOf table same isIn
+ahead-own = on-pathway (λ p. isReceptors (ahead (exposure p))) refl
+
+isShare : ℕ → Bool
+isShare k = eqb k (placeOf "AFinh") || (eqb k (placeOf "AForal") || eqb k (placeOf "AFderm"))
+
+isTaken : Slot → Bool
+isTaken n = byOwner (ownerOf n) true (isShare (placeOf n)) true
+
+all-taken : (p : Pathway) → only (aSlot isTaken) (exposure p) ≡ true
+unfolding passes pathways only aSlot isTaken isShare exposure byOwner ownerOf placeOf table same isIn placeIn
+all-taken = on-pathway (λ p. only (aSlot isTaken) (exposure p)) refl
+
+share-is : (c : Values) (k : ℕ) → isShare k ≡ true → shareAt (absorbedOf c) k ≡ valueIn c k
+unfolding isShare shareAt absorbedOf
+share-is c k h = at (eqb k (placeOf "AFinh")) (eqb k (placeOf "AForal")) (eqb k (placeOf "AFderm")) refl refl refl h
+  where
+    at : (t u v : Bool) → eqb k (placeOf "AFinh") ≡ t → eqb k (placeOf "AForal") ≡ u → eqb k (placeOf "AFderm") ≡ v → (t || (u || v)) ≡ true →
+        cond t (valueIn c (placeOf "AFinh")) (cond u (valueIn c (placeOf "AForal")) (valueIn c (placeOf "AFderm"))) ≡ valueIn c k
+    at true u v a b d g = ap (valueIn c) (sym (eqb-true k (placeOf "AFinh") a))
+    at false true v a b d g = ap (valueIn c) (sym (eqb-true k (placeOf "AForal") b))
+    at false false true a b d g = ap (valueIn c) (sym (eqb-true k (placeOf "AFderm") d))
+    at false false false a b d g = absurd (false≢true g)
+
+module _ (s c r : Values) where
+  abbrev taken : Slot → Outcome Pair
+  taken = λ n. is (takenIn s (absorbedOf c) r n)
+
+  own-taken : (n : Slot) → byOwner (ownerOf n) false false true ≡ true → is (inputs noValues noValues r n) ≡ taken n
+  unfolding inputs takenIn
+  own-taken n h = at (ownerOf n) h
+    where
+      at : (o : Owner) → byOwner o false false true ≡ true → is (valueIn (byOwner o noValues noValues r) (placeOf n)) ≡ is (byOwner o (valueIn s (placeOf n)) (shareAt (absorbedOf c) (placeOf n)) (valueIn r (placeOf n)))
+      at Site t = absurd (false≢true (unfold byOwner in t))
+      at Chemical t = absurd (false≢true (unfold byOwner in t))
+      at Receptor t = unfold byOwner in refl
+
+  taken-is : (n : Slot) → isTaken n ≡ true → taken n ≡ is (inputs s c r n)
+  unfolding inputs takenIn isTaken
+  taken-is n h = at (ownerOf n) h
+    where
+      at : (o : Owner) → byOwner o true (isShare (placeOf n)) true ≡ true → is (byOwner o (valueIn s (placeOf n)) (shareAt (absorbedOf c) (placeOf n)) (valueIn r (placeOf n))) ≡ is (valueIn (byOwner o s c r) (placeOf n))
+      at Site t = unfold byOwner in refl
+      at Chemical t = unfold byOwner in ap (λ (q : Pair). is q) (share-is c (placeOf n) t)
+      at Receptor t = unfold byOwner in refl
+
+  -- an exposure read from what is worked ahead of it is the page's
+  pub begun-exposure : (p : Pathway) → exposureFrom (workedOf r (ahead (exposure p))) p s (absorbedOf c) r ≡ workedFor s c r (exposure p)
+  unfolding exposureFrom workedOf workedFor isReceptors
+  begun-exposure p =
+      ap (λ (o : Outcome Pair). plainFrom o pairs taken (exposure p)) (plain-same pairs _ _ taken own-taken (ahead (exposure p)) (ahead-own p))
+      ∙ plain-ahead pairs taken (exposure p)
+      ∙ plain-same pairs isTaken taken _ taken-is (exposure p) (all-taken p)
 
 -- ---- a receptor's own habits
-own-begun : (y : Guidance) (r : Values) (p : Pathway) → begunIn (habitsOf y r) r p ≡ workedOf r (begins p)
+own-begun : (y : Guidance) (r : Values) (p : Pathway) → begunIn (habitsOf y r) r p ≡ workedOf r (ahead (exposure p))
 unfolding begunIn habitsOf
 own-begun y r Air = refl
 own-begun y r SoilSummer = refl
@@ -59,23 +114,23 @@ divided s c r e p = refl
 pub own-factor : (y : Guidance) (e : Effect) (p : Pathway) (s c r : Values) → factorWith (exposureWith (habitsOf y r) p s (absorbedOf c) r) (baseIn (habitsOf y r) e) ≡ factorOf e p s c r
 unfolding factorWith exposureWith factorOf
 own-factor y e p s c r =
-    let x : exposureWith (habitsOf y r) p s (absorbedOf c) r ≡ workedFor s c r (exposure p) = ap (onward (after product) (workedFor s noValues r) p (is (shareOf p (absorbedOf c)))) (own-begun y r p) ∙ begun-exposure s c r p in
+    let x : exposureWith (habitsOf y r) p s (absorbedOf c) r ≡ workedFor s c r (exposure p) = ap (λ (o : Outcome Pair). exposureFrom o p s (absorbedOf c) r) (own-begun y r p) ∙ begun-exposure s c r p in
     let b : baseIn (habitsOf y r) e ≡ workedFor s c r (B e) = own-base y r e ∙ base-alike s c r e in
     ap (λ (o : Outcome Pair). mapped (λ (q : Pair). record { 0 = q }) o) (ap₂ (after quotient) x b ∙ divided s c r e p)
 
 -- ---- a figure in one chain
 pub in-one-chain : (e : Effect) (x b : Outcome Pair) (m : Conc) (v : Pair) →
-    mapped (λ (q : Pair). some q) (figureBy (after product) (after quotient) e (after product (after quotient x b) (is (m .0))) (is v)) ≡ figureIfGiven e (doseOf (factorWith x b) m) (some v)
-unfolding figureIfGiven figureOf doseOf factorWith intakeBy
+    mapped (λ (q : Pair). some q) (ofTwo (figureBy e) (after product (after quotient x b) (is (m .0))) (is v)) ≡ figureIfGiven e (doseOf (factorWith x b) m) (some v)
+unfolding figureIfGiven figureOf doseOf factorWith
 in-one-chain e x b m v =
-    ap (λ (o : Outcome Pair). mapped (λ (q : Pair). some q) (figureBy (after product) (after quotient) e o (is v)))
+    ap (λ (o : Outcome Pair). mapped (λ (q : Pair). some q) (ofTwo (figureBy e) o (is v)))
     (sym
     (pair-back (λ (g : Dose). g .0) (λ (q : Pair). record { 0 = q }) (λ q. refl) (after product (mapped (λ (g : Factor). g .0) (mapped (λ (q : Pair). record { 0 = q }) (after quotient x b))) (is (m .0)))
     ∙ ap (λ (o : Outcome Pair). after product o (is (m .0))) (pair-back (λ (g : Factor). g .0) (λ (q : Pair). record { 0 = q }) (λ q. refl) (after quotient x b))))
 
 -- without B there is no figure
 pub without-base : (e : Effect) (x : Answer) (m : Conc) (v : Pair) → refused 53 ≡ figureIfGiven e (doseOf (factorWith (answer x) (refused 53)) m) (some v)
-unfolding figureIfGiven figureOf doseOf factorWith intakeBy figureBy mapped after answer
+unfolding figureIfGiven figureOf doseOf factorWith figureBy ofTwo plain plainWith read letters pairs same mapped after answer
 without-base Hazard (Answers.Is p) m v = refl
 without-base Hazard Answers.Refused m v = refl
 without-base Cancer (Answers.Is p) m v = refl

@@ -1,17 +1,28 @@
 -- For the contracts of this crate's inner functions only.
 use Rattle.pair.specs.declared.Pair.{Pair}
+use mathlib.Core.Path.{_≡_}
 use mathlib.Core.Bool.{Bool, true, false}
 use Rattle.pair.specs.Calls.{Outcome, is, mapped, checked, after, quotient}
 use Rattle.equations.specs.declared.Pathway.{Pathway}
+use Rattle.equations.specs.declared.Values.{Values}
 use Rattle.equations.specs.Page.{byRoute}
 use Rattle.media.specs.declared.Conc.{Conc}
+use Rattle.pathway.specs.declared.Absorbed.{Absorbed}
 use Rattle.pathway.specs.declared.References.{References}
 use Rattle.pathway.specs.declared.TimeShare.{TimeShare}
-use Rattle.pathway.specs.Lines.{Optional, none, Figured, airFiguresWith, airReferencesOf, Breathed, byDose, byTime}
+use Rattle.pathway.specs.Lines.{Optional, none, Figured, exposureFrom, airFiguresWith, airReferencesOf, Breathed, byDose, byTime}
 
 -- a dose, or an exposure concentration, without a reference value
 unfoldable pub absentFor : Pair → Outcome (Optional Pair)
 absentFor d = mapped (λ (q : Pair). none) (checked d)
+
+-- one share for each letter of a chemical
+unfoldable pub each : Pair → Absorbed
+each share = record { inhaled = share; oral = share; dermal = share }
+
+-- of these shares, the one that a pathway's exposure takes
+abbrev pub Takes : Pathway → Absorbed → Pair → Type 0
+Takes p a share = (begun : Outcome Pair) (s r : Values) → exposureFrom begun p s (each share) r ≡ exposureFrom begun p s a r
 
 -- the time spent in the air / AT
 unfoldable pub shareWith : Outcome Pair → Outcome Pair → Outcome TimeShare

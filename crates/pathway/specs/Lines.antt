@@ -3,20 +3,22 @@
 -- 02, P6) the air is no dose: a share of time × the air's concentration is an exposure concentration, which goes by a reference concentration and a
 -- unit risk.
 use Rattle.pair.specs.declared.Pair.{Pair}
-use lib.IntN.{pos}
-use Rattle.pair.specs.Calls.{Outcome, is, refused, answer, mapped, checked, after, afterOne, entry, product, quotient}
+use Prim.Native.Nat.{ℕ}
+use mathlib.Core.Bool.{cond}
+use lib.Dec.{eqb}
+use Rattle.pair.specs.Calls.{Outcome, is, refused, answer, mapped, checked, after, afterOne, product, quotient}
 use Rattle.equations.specs.declared.Pathway.{Pathway}
 use Rattle.equations.specs.declared.Pathway.the-variants.{Air, SoilSummer, SoilWinter, Skin, AboveGround, BelowGround}
 use Rattle.equations.specs.declared.Effect.{Effect}
 use Rattle.equations.specs.declared.Effect.the-variants.{Hazard, Cancer}
 use Rattle.equations.specs.declared.Values.{Values}
-use Rattle.equations.specs.Formula.{Formula, _⊕_, _⊗_, pairs}
-use Rattle.equations.specs.Letters.{FRsnow, ED, IRinh, ETinh, EFinh, IRsoil, ETsoil, EFs, EFw, SAb, SAFb, SAh, SAFh, ETderm, IRag, Fag, IRbg, Fbg, WP, EFp}
-use Rattle.equations.specs.Page.{perMillion, B, factor, byMedium, intakeBy, byRoute, figureBy, timeShare, airFigureBy}
-use Rattle.equations.specs.Readings.{plain, inputs, valueIn, noValues}
+use Rattle.equations.specs.Formula.{Formula, pairs}
+use Rattle.equations.specs.Page.{B, exposure, factor, byMedium, byRoute, figureBy, timeShare, airFigureBy}
+use Rattle.equations.specs.Readings.{plain, byOwner, inputs, valueIn, noValues}
+use Rattle.equations.specs.Ahead.{ofTwo, ahead, plainFrom}
 use Rattle.slots.specs.declared.Guidance.{Guidance}
 use Rattle.slots.specs.declared.Guidance.the-variants.{Of2005, Of2009}
-use Rattle.slots.specs.Slots.{placeOf}
+use Rattle.slots.specs.Slots.{Slot, ownerOf, placeOf}
 use Rattle.media.specs.declared.Conc.{Conc}
 use Rattle.media.specs.declared.Media.{Media}
 use Rattle.pathway.specs.declared.Factor.{Factor}
@@ -99,11 +101,11 @@ concentrationFor p m = byMedium p (m .air) (m .soil) (m .«above_ground») (m .�
 
 -- the dose: factor × concentration
 unfoldable pub doseOf : Outcome Factor → Conc → Outcome Dose
-doseOf f c = mapped (λ (q : Pair). record { 0 = q }) (intakeBy (after product) (mapped (λ (g : Factor). g .0) f) (is (c .0)))
+doseOf f c = mapped (λ (q : Pair). record { 0 = q }) (after product (mapped (λ (g : Factor). g .0) f) (is (c .0)))
 
 -- the figure of a dose with its reference value; none without one, if the dose is a pair
 unfoldable pub figureOf : Effect → Outcome Dose → Optional Pair → Outcome (Optional Pair)
-figureOf e d (some v) = mapped (λ (q : Pair). some q) (figureBy (after product) (after quotient) e (mapped (λ (g : Dose). g .0) d) (is v))
+figureOf e d (some v) = mapped (λ (q : Pair). some q) (ofTwo (figureBy e) (mapped (λ (g : Dose). g .0) d) (is v))
 figureOf e d none = mapped (λ (q : Pair). none) (afterOne checked (mapped (λ (g : Dose). g .0) d))
 
 unfoldable pub rfdValue : Optional Rfd → Optional Pair
@@ -181,7 +183,7 @@ exposureOf t c = mapped (λ (q : Pair). record { 0 = q }) (after product (mapped
 
 -- its figure with a reference value; none without one, if it is a pair
 unfoldable pub airFigureOf : Effect → Outcome AirExposure → Optional Pair → Outcome (Optional Pair)
-airFigureOf e x (some v) = mapped (λ (q : Pair). some q) (airFigureBy (after product) (after quotient) (entry 1000 (pos 0)) e (mapped (λ (g : AirExposure). g .0) x) (is v))
+airFigureOf e x (some v) = mapped (λ (q : Pair). some q) (ofTwo (airFigureBy e) (mapped (λ (g : AirExposure). g .0) x) (is v))
 airFigureOf e x none = mapped (λ (q : Pair). none) (afterOne checked (mapped (λ (g : AirExposure). g .0) x))
 
 -- quotient = exposure concentration / reference concentration
@@ -234,34 +236,20 @@ breathedBy Of2005 r = byDose
 breathedBy Of2009 r = byTime (inAirOf r)
 
 -- ---- what a receptor's lines share
--- what an exposure begins with, before the chemical's letter
-unfoldable pub begins : Pathway → Formula
-begins Air = IRinh
-begins SoilSummer = IRsoil
-begins SoilWinter = IRsoil
-begins Skin = SAb ⊗ SAFb ⊕ SAh ⊗ SAFh
-begins AboveGround = IRag ⊗ Fag ⊗ WP
-begins BelowGround = IRbg ⊗ Fbg ⊗ WP
-
--- then the share of the chemical that is absorbed, and what it goes on with, in any reading of × and of the letters
-unfoldable pub onward : {A : Type 0} → (A → A → A) → (Formula → A) → Pathway → A → A → A
-onward times v Air share x = times (times (times (times x share) (v ETinh)) (v EFinh)) (v ED)
-onward times v SoilSummer share x = times (times (times (times (times x share) (v ETsoil)) (v EFs)) (v ED)) (v perMillion)
-onward times v SoilWinter share x = times (times (times (times (times (times x share) (v FRsnow)) (v ETsoil)) (v EFw)) (v ED)) (v perMillion)
-onward times v Skin share x = times (times (times (times (times x share) (v ETderm)) (v EFs)) (v ED)) (v perMillion)
-onward times v AboveGround share x = times (times (times x share) (v EFp)) (v ED)
-onward times v BelowGround share x = times (times (times x share) (v EFp)) (v ED)
-
+-- the shares of a chemical that are absorbed, and each by its place; no exposure has another letter of a chemical
 unfoldable pub absorbedOf : Values → Absorbed
 absorbedOf c = record { inhaled = valueIn c (placeOf "AFinh"); oral = valueIn c (placeOf "AForal"); dermal = valueIn c (placeOf "AFderm") }
 
-unfoldable pub shareOf : Pathway → Absorbed → Pair
-shareOf Air a = a .inhaled
-shareOf SoilSummer a = a .oral
-shareOf SoilWinter a = a .oral
-shareOf Skin a = a .dermal
-shareOf AboveGround a = a .oral
-shareOf BelowGround a = a .oral
+unfoldable pub shareAt : Absorbed → ℕ → Pair
+shareAt a k = cond (eqb k (placeOf "AFinh")) (a .inhaled) (cond (eqb k (placeOf "AForal")) (a .oral) (a .dermal))
+
+-- what an exposure is read from
+unfoldable pub takenIn : Values → Absorbed → Values → Slot → Pair
+takenIn s a r n = byOwner (ownerOf n) (valueIn s (placeOf n)) (shareAt a (placeOf n)) (valueIn r (placeOf n))
+
+-- an exposure as the page has it, from the value of what is worked ahead
+unfoldable pub exposureFrom : Outcome Pair → Pathway → Values → Absorbed → Values → Outcome Pair
+exposureFrom begun p s a r = plainFrom begun pairs (λ n. is (takenIn s a r n)) (exposure p)
 
 -- how the air is taken, B of each effect, the soil held on the skin and the produce eaten
 pub record Shared : Type 0 where
@@ -289,9 +277,9 @@ habitsOf guidance r =
       air = breathedBy guidance r;
       hazard = workedOf r (B Hazard);
       cancer = workedOf r (B Cancer);
-      skin = workedOf r (begins Skin);
-      «above_ground» = workedOf r (begins AboveGround);
-      «below_ground» = workedOf r (begins BelowGround);
+      skin = workedOf r (ahead (exposure Skin));
+      «above_ground» = workedOf r (ahead (exposure AboveGround));
+      «below_ground» = workedOf r (ahead (exposure BelowGround));
     }
 
 unfoldable pub baseIn : Shared → Effect → Outcome Pair
@@ -299,15 +287,15 @@ baseIn h Hazard = h .hazard
 baseIn h Cancer = h .cancer
 
 unfoldable pub begunIn : Shared → Values → Pathway → Outcome Pair
-begunIn h r Air = workedOf r (begins Air)
-begunIn h r SoilSummer = workedOf r (begins SoilSummer)
-begunIn h r SoilWinter = workedOf r (begins SoilWinter)
+begunIn h r Air = workedOf r (ahead (exposure Air))
+begunIn h r SoilSummer = workedOf r (ahead (exposure SoilSummer))
+begunIn h r SoilWinter = workedOf r (ahead (exposure SoilWinter))
 begunIn h r Skin = h .skin
 begunIn h r AboveGround = h .«above_ground»
 begunIn h r BelowGround = h .«below_ground»
 
 unfoldable pub exposureWith : Shared → Pathway → Values → Absorbed → Values → Outcome Pair
-exposureWith h p s a r = onward (after product) (workedFor s noValues r) p (is (shareOf p a)) (begunIn h r p)
+exposureWith h p s a r = exposureFrom (begunIn h r p) p s a r
 
 -- exposure / B
 unfoldable pub factorWith : Outcome Pair → Outcome Pair → Outcome Factor

@@ -36,8 +36,9 @@ ghost use mathlib.Core.Path.{_≡_};
 ghost use Rattle.pair.specs.Calls.{answer, is, after, product};
 ghost use Rattle.equations.specs.Page as page;
 ghost use Rattle.equations.specs.declared.Pathway.the-variants.{Air, SoilSummer, SoilWinter, Skin, AboveGround};
-ghost use Rattle.pathway.specs.Lines.{workedFor, workedOf, absorbedOf, shareOf, begins, onward};
-ghost use Rattle.equations.specs.Readings.{noValues};
+ghost use Rattle.equations.specs.Ahead.{ahead};
+ghost use Rattle.pathway.specs.Inner.{each, Takes};
+ghost use Rattle.pathway.specs.Lines.{workedFor, workedOf, absorbedOf, exposureFrom};
 
 // 0.000001, kg/mg.
 const PER_MILLION: Pair = Pair {
@@ -71,7 +72,7 @@ pub fn absorbed_of(c: Values) -> Absorbed
 
 // The share absorbed on a pathway.
 pub(crate) fn share_of(pathway: Pathway, absorbed: Absorbed) -> Pair
-    ensures { λ a. ⌜ a ≡ shareOf pathway absorbed ⌝ }
+    ensures { λ a. ⌜ Takes pathway absorbed a ⌝ }
 {
     match pathway {
         Pathway::Air => absorbed.inhaled,
@@ -85,7 +86,7 @@ pub(crate) fn share_of(pathway: Pathway, absorbed: Absorbed) -> Pair
 
 // Soil held on the skin.
 fn held(r: Values) -> Answer
-    ensures { λ a. ⌜ answer a ≡ workedOf r (begins Skin) ⌝ }
+    ensures { λ a. ⌜ answer a ≡ workedOf r (ahead (page.exposure Skin)) ⌝ }
 {
     let body = r.at(SA_B).times(r.at(SAF_B));
     let hands = r.at(SA_H).times(r.at(SAF_H));
@@ -94,7 +95,7 @@ fn held(r: Values) -> Answer
 
 // What an exposure begins with, before the chemical's letter.
 pub(crate) fn begun_of(r: Values, pathway: Pathway) -> Answer
-    ensures { λ a. ⌜ answer a ≡ workedOf r (begins pathway) ⌝ }
+    ensures { λ a. ⌜ answer a ≡ workedOf r (ahead (page.exposure pathway)) ⌝ }
 {
     match pathway {
         Pathway::Air => r.at(IR_INH),
@@ -113,35 +114,35 @@ fn times_three(x: Answer, a: Pair, b: Pair, c: Pair) -> Answer
 }
 
 fn air(s: Values, r: Values, share: Pair, begun: Answer) -> Answer
-    ensures { λ a. ⌜ answer a ≡ onward (after product) (workedFor s noValues r) Air (is share) (answer begun) ⌝ }
+    ensures { λ a. ⌜ answer a ≡ exposureFrom (answer begun) Air s (each share) r ⌝ }
 {
     let inhaled = times_three(begun, share, r.value(ET_INH), r.value(EF_INH));
     inhaled.times(r.at(ED))
 }
 
 fn soil_summer(s: Values, r: Values, share: Pair, begun: Answer) -> Answer
-    ensures { λ a. ⌜ answer a ≡ onward (after product) (workedFor s noValues r) SoilSummer (is share) (answer begun) ⌝ }
+    ensures { λ a. ⌜ answer a ≡ exposureFrom (answer begun) SoilSummer s (each share) r ⌝ }
 {
     let eaten = times_three(begun, share, r.value(ET_SOIL), r.value(EF_S));
     eaten.times(r.at(ED)).times(PER_MILLION.answer())
 }
 
 fn soil_winter(s: Values, r: Values, share: Pair, begun: Answer) -> Answer
-    ensures { λ a. ⌜ answer a ≡ onward (after product) (workedFor s noValues r) SoilWinter (is share) (answer begun) ⌝ }
+    ensures { λ a. ⌜ answer a ≡ exposureFrom (answer begun) SoilWinter s (each share) r ⌝ }
 {
     let eaten = times_three(begun, share, s.value(FR_SNOW), r.value(ET_SOIL));
     times_three(eaten, r.value(EF_W), r.value(ED), PER_MILLION)
 }
 
 fn skin(s: Values, r: Values, share: Pair, begun: Answer) -> Answer
-    ensures { λ a. ⌜ answer a ≡ onward (after product) (workedFor s noValues r) Skin (is share) (answer begun) ⌝ }
+    ensures { λ a. ⌜ answer a ≡ exposureFrom (answer begun) Skin s (each share) r ⌝ }
 {
     let taken = times_three(begun, share, r.value(ET_DERM), r.value(EF_S));
     taken.times(r.at(ED)).times(PER_MILLION.answer())
 }
 
 fn produce(s: Values, r: Values, share: Pair, begun: Answer) -> Answer
-    ensures { λ a. ⌜ answer a ≡ onward (after product) (workedFor s noValues r) AboveGround (is share) (answer begun) ⌝ }
+    ensures { λ a. ⌜ answer a ≡ exposureFrom (answer begun) AboveGround s (each share) r ⌝ }
 {
     times_three(begun, share, r.value(EF_P), r.value(ED))
 }
@@ -154,7 +155,7 @@ pub(crate) fn exposure_from(
     share: Pair,
     begun: Answer,
 ) -> Answer
-    ensures { λ a. ⌜ answer a ≡ onward (after product) (workedFor s noValues r) pathway (is share) (answer begun) ⌝ }
+    ensures { λ a. ⌜ answer a ≡ exposureFrom (answer begun) pathway s (each share) r ⌝ }
 {
     match pathway {
         Pathway::Air => air(s, r, share, begun),

@@ -1,25 +1,28 @@
 -- What the crates below work for a chemical and for its lines is the page read from the scenario's slots: for every scenario that the chemical does
 -- not stop, each line's columns and its cap are those of the definitions. Assumes nothing.
 use mathlib.Core.Path.{_≡_, refl, sym, _∙_, ap, ap₂, subst}
-use mathlib.Core.Bool.{false, cond, _&&_, true≢false}
+use mathlib.Core.Bool.{true, false, cond, _&&_, true≢false}
 use Prim.Native.Nat.{ℕ, _-_, _<_}
-use lib.IntN.{pos}
 use lib.ListN.{getD, replicate}
 use Rattle.sizes.specs.Sizes.{mostReceptors}
 use Rattle.pair.specs.declared.Pair.{Pair}
-use Rattle.pair.specs.Calls.{Outcome, is, refused, mapped, after, entry, product, quotient}
+use Rattle.pair.specs.Calls.{Outcome, is, refused, mapped, after, product}
 use Rattle.slots.specs.declared.Guidance.{Guidance}
 use Rattle.slots.specs.declared.Guidance.the-variants.{Of2005, Of2009}
 use Rattle.slots.specs.Slots.{Slot, table, same, isIn, placeIn, ownerOf, placeOf}
 use Rattle.equations.specs.declared.Pathway.{Pathway}
-use Rattle.equations.specs.declared.Pathway.the-variants.{Air, SoilSummer, SoilWinter, Skin, AboveGround, BelowGround}
+use Rattle.equations.specs.declared.Pathway.the-variants.{Air}
 use Rattle.equations.specs.declared.Effect.{Effect}
 use Rattle.equations.specs.declared.Effect.the-variants.{Hazard, Cancer}
 use Rattle.equations.specs.declared.Values.{Values}
 use Rattle.equations.specs.declared.Stay.{Stay}
 use Rattle.equations.specs.Formula.{Formula, read, pairs}
 use Rattle.equations.specs.Page as page
-use Rattle.equations.specs.Page.{byRoute, byMedium, figureBy, airFigureBy, intakeBy, referenceSlot}
+use Rattle.equations.specs.Page.{byRoute, byMedium, figureBy, airFigureBy, referenceSlot}
+use Rattle.equations.specs.Ahead.{ofTwo, only, aSlot}
+use Rattle.equations.proofs.Guided.{by-medium, by-route, on-route, routed}
+use Rattle.equations.proofs.Pathways.{pathways, passes, onEach, on-line}
+use Rattle.equations.proofs.AheadLaws.{plain-worked}
 use Rattle.equations.specs.Readings.{Inputs, letters, noGrowth, plainWith, plain, asAnswers, worked, byOwner, inputs}
 use Rattle.media.specs.declared.Conc.{Conc}
 use Rattle.media.specs.declared.Media.{Media}
@@ -30,6 +33,7 @@ use Rattle.pathway.specs.declared.Factor.{Factor}
 use Rattle.pathway.specs.declared.Dose.{Dose}
 use Rattle.pathway.specs.declared.References.{References}
 use Rattle.pathway.specs.Lines.{Optional, some, none, Figured, workedFor, workedOf, factorOf, concentrationFor, doseOf, figureOf, rfdGiven, csfGiven, rfdValue, csfValue, rfcGiven, unitRiskGiven, rfcValue, unitRiskValue, asRfc, asUnitRisk, timeShareOf, exposureOf, inAirOf, airFigureIfGiven, airFiguresWith, airReferencesOf, breathedBy, absorbedOf, habitsOf, figureIfGiven, doseFiguresWith, figuresBy, figuresWith}
+use Rattle.pathway.proofs.Carried.{pair-back}
 use Rattle.pathway.proofs.HabitLaws.{own-factor}
 use Rattle.pathway.proofs.AirLaws.{time-share-alike, air-figure-page}
 use Rattle.cases.specs.declared.Record.{Record}
@@ -107,79 +111,43 @@ module _ (scenario : Scenario) (j i : ℕ) (ground : Ground) (laid : groundFor s
   media-told e = four-told _ _ _ _ (mediaBy e (ground .highest) mean) (media-page e)
 
   medium-told : (e : Effect) (p : Pathway) → worked (pairsAt scenario j i) (page.medium e (stayIn scenario j) p) ≡ is (concentrationFor p (mediaBy e (ground .highest) mean) .0)
-  unfolding page.medium byMedium concentrationFor
-  medium-told e Air = media-told e .air
-  medium-told e SoilSummer = media-told e .soil
-  medium-told e SoilWinter = media-told e .soil
-  medium-told e Skin = media-told e .soil
-  medium-told e AboveGround = media-told e .above
-  medium-told e BelowGround = media-told e .below
+  unfolding page.medium concentrationFor
+  medium-told e p =
+      by-medium (λ q (f : Formula) (c : Conc). worked (pairsAt scenario j i) f ≡ is (c .0)) (media-told e .air) p (media-told e .soil) (media-told e .above) (media-told e .below)
 
 -- ---- the factors, in which neither a series nor a difference stands
-exposure-read : (p : Pathway) (scenario : Scenario) (j i : ℕ) →
-    workedFor (valuesOf (scenario .site)) (valuesOf (chemicalIn scenario i)) (receptorIn scenario j .values) (page.exposure p) ≡ worked (pairsAt scenario j i) (page.exposure p)
-unfolding workedFor worked plain plainWith noGrowth read letters pairs asAnswers pairsAt page.exposure
-exposure-read Air scenario j i = refl
-exposure-read SoilSummer scenario j i = refl
-exposure-read SoilWinter scenario j i = refl
-exposure-read Skin scenario j i = refl
-exposure-read AboveGround scenario j i = refl
-exposure-read BelowGround scenario j i = refl
-
-base-read : (e : Effect) (scenario : Scenario) (j i : ℕ) →
-    workedFor (valuesOf (scenario .site)) (valuesOf (chemicalIn scenario i)) (receptorIn scenario j .values) (page.B e) ≡ worked (pairsAt scenario j i) (page.B e)
-unfolding workedFor worked plain plainWith noGrowth read letters pairs asAnswers pairsAt page.B page.AT
-base-read Hazard scenario j i = refl
-base-read Cancer scenario j i = refl
+factor-slots : (e : Effect) (stay : Stay) (p : Pathway) → only (aSlot (λ n. true)) (page.factor e p) ≡ true
+unfolding passes pathways onEach only aSlot page.factor page.exposure page.B page.AT
+factor-slots = on-line (λ e stay p. only (aSlot (λ n. true)) (page.factor e p)) refl
 
 factor-read : (e : Effect) (p : Pathway) (scenario : Scenario) (j i : ℕ) →
     workedFor (valuesOf (scenario .site)) (valuesOf (chemicalIn scenario i)) (receptorIn scenario j .values) (page.factor e p) ≡ worked (pairsAt scenario j i) (page.factor e p)
-unfolding workedFor worked plain plainWith noGrowth read pairs page.factor
-factor-read e p scenario j i = ap₂ (after quotient) (exposure-read p scenario j i) (base-read e scenario j i)
+unfolding workedFor pairsAt
+factor-read e p scenario j i = plain-worked (pairsAt scenario j i) (page.factor e p) (factor-slots e (stayIn scenario j) p)
 
 -- ---- a dose
-factor-again : (o : Outcome Pair) → mapped (λ (g : Factor). g .0) (mapped (λ (q : Pair). record { 0 = q }) o) ≡ o
-unfolding mapped
-factor-again (is p) = refl
-factor-again (refused n) = refl
-
-dose-again : (o : Outcome Pair) → mapped (λ (g : Dose). g .0) (mapped (λ (q : Pair). record { 0 = q }) o) ≡ o
-unfolding mapped
-dose-again (is p) = refl
-dose-again (refused n) = refl
-
 -- the dose as a pair is the page's intake
 module _ (scenario : Scenario) (j i : ℕ) (e : Effect) (p : Pathway) (m : Conc) (medium-is : worked (pairsAt scenario j i) (page.medium e (stayIn scenario j) p) ≡ is (m .0)) where
   factor : Outcome Factor
   factor = factorOf e p (valuesOf (scenario .site)) (valuesOf (chemicalIn scenario i)) (receptorIn scenario j .values)
 
   dose-is : mapped (λ (g : Dose). g .0) (doseOf factor m) ≡ worked (pairsAt scenario j i) (page.intake e (stayIn scenario j) p)
-  unfolding factor doseOf factorOf page.intake intakeBy worked read pairs
+  unfolding factor doseOf factorOf page.intake worked read pairs
   dose-is =
-      dose-again (after product (mapped (λ (g : Factor). g .0) factor) (is (m .0)))
+      pair-back (λ (g : Dose). g .0) (λ (q : Pair). record { 0 = q }) (λ q. refl) (after product (mapped (λ (g : Factor). g .0) factor) (is (m .0)))
       ∙ ap (λ (o : Outcome Pair). after product o (is (m .0)))
-      (factor-again (workedFor (valuesOf (scenario .site)) (valuesOf (chemicalIn scenario i)) (receptorIn scenario j .values) (page.factor e p)) ∙ factor-read e p scenario j i)
+      (pair-back (λ (g : Factor). g .0) (λ (q : Pair). record { 0 = q }) (λ q. refl) (workedFor (valuesOf (scenario .site)) (valuesOf (chemicalIn scenario i)) (receptorIn scenario j .values) (page.factor e p)) ∙ factor-read e p scenario j i)
       ∙ ap (λ (o : Outcome Pair). after product (worked (pairsAt scenario j i) (page.factor e p)) o) (sym medium-is)
 
 -- ---- a figure
-line-by : (e : Effect) (stay : Stay) (p : Pathway) (v : Inputs Pair) → worked v (page.intakeLine e stay p) ≡ figureBy (after product) (after quotient) e (worked v (page.intake e stay p)) (is (v .value (referenceSlot e p)))
-unfolding worked asAnswers read pairs letters page.intakeLine figureBy page.reference
+line-by : (e : Effect) (stay : Stay) (p : Pathway) (v : Inputs Pair) → worked v (page.intakeLine e stay p) ≡ ofTwo (figureBy e) (worked v (page.intake e stay p)) (is (v .value (referenceSlot e p)))
+unfolding worked asAnswers ofTwo plain plainWith same read pairs letters page.intakeLine figureBy page.reference
 line-by Hazard stay p v = refl
 line-by Cancer stay p v = refl
 
 optional : Value → Optional Pair
 optional Absent = none
 optional (Given power digits) = some (pairOf (Given power digits))
-
--- a value chosen by route, and what is made of it
-routed : {A B : Type 0} (f : A → B) (p : Pathway) (x y : A) → f (byRoute p x y) ≡ byRoute p (f x) (f y)
-unfolding byRoute
-routed f Air x y = refl
-routed f SoilSummer x y = refl
-routed f SoilWinter x y = refl
-routed f Skin x y = refl
-routed f AboveGround x y = refl
-routed f BelowGround x y = refl
 
 rfd-optional : (v : Value) → rfdValue (rfdGiven (rfdOf v)) ≡ optional v
 unfolding rfdValue rfdGiven rfdOf optional
@@ -202,19 +170,10 @@ reference-printed scenario i Hazard p = routed (givenIn scenario i) p "RfDi" "Rf
 reference-printed scenario i Cancer p = routed (givenIn scenario i) p "CSFi" "CSFo"
 
 -- it is a chemical's
-by-route : {A : Type 0} (P : A → Type 0) (p : Pathway) (x y : A) → P x → P y → P (byRoute p x y)
-unfolding byRoute
-by-route P Air x y a b = a
-by-route P SoilSummer x y a b = b
-by-route P SoilWinter x y a b = b
-by-route P Skin x y a b = b
-by-route P AboveGround x y a b = b
-by-route P BelowGround x y a b = b
-
 reference-source : (e : Effect) (p : Pathway) → OfSource (ownerOf (referenceSlot e p))
 unfolding referenceSlot OfSource ownerOf table same isIn
-reference-source Hazard p = by-route (λ (s : Slot). OfSource (ownerOf s)) p "RfDi" "RfDo" tt tt
-reference-source Cancer p = by-route (λ (s : Slot). OfSource (ownerOf s)) p "CSFi" "CSFo" tt tt
+reference-source Hazard p = on-route (λ (s : Slot). OfSource (ownerOf s)) p "RfDi" "RfDo" tt tt
+reference-source Cancer p = on-route (λ (s : Slot). OfSource (ownerOf s)) p "CSFi" "CSFo" tt tt
 
 -- the figure of an intake's line from its dose and what is printed for its reference value
 figure-for : (y : Guidance) (e : Effect) (p : Pathway) (s c r : Values) (m n : Media) (chemical : Record) →
@@ -256,8 +215,8 @@ time-read Hazard scenario j i = time-share-alike (valuesOf (scenario .site)) (va
 time-read Cancer scenario j i = time-share-alike (valuesOf (scenario .site)) (valuesOf (chemicalIn scenario i)) (receptorIn scenario j .values) Cancer
 
 air-line-by : (e : Effect) (v : Inputs Pair) →
-    worked v (page.airLine e) ≡ airFigureBy (after product) (after quotient) (entry 1000 (pos 0)) e (after product (worked v (page.timeShare e)) (worked v page.A)) (is (v .value (referenceSlot e Air)))
-unfolding worked asAnswers read pairs letters page.airLine airFigureBy page.reference
+    worked v (page.airLine e) ≡ ofTwo (airFigureBy e) (after product (worked v (page.timeShare e)) (worked v page.A)) (is (v .value (referenceSlot e Air)))
+unfolding worked asAnswers ofTwo plain plainWith same read pairs letters page.airLine airFigureBy page.reference
 air-line-by Hazard v = refl
 air-line-by Cancer v = refl
 
@@ -273,7 +232,7 @@ unit-risk-optional (Given power digits) = refl
 
 air-figure-for : (e : Effect) (r : Values) (air : Conc) (chemical : Record) →
     figureFor e (airFiguresWith (inAirOf r) air (airReferencesOf (referencesOf chemical))) ≡ airFigureIfGiven e (exposureOf (timeShareOf e r) air) (optional (referenceAt e Air chemical))
-unfolding figureFor airFiguresWith inAirOf airReferencesOf referencesOf referenceAt byRoute
+unfolding figureFor airFiguresWith inAirOf airReferencesOf referencesOf referenceAt byRoute byMedium
 air-figure-for Hazard r air chemical = ap (airFigureIfGiven Hazard (exposureOf (timeShareOf Hazard r) air)) (rfc-optional (valueAt chemical (placeOf "RfDi")))
 air-figure-for Cancer r air chemical = ap (airFigureIfGiven Cancer (exposureOf (timeShareOf Cancer r) air)) (unit-risk-optional (valueAt chemical (placeOf "CSFi")))
 
@@ -312,11 +271,11 @@ module _ (scenario : Scenario) (j i : ℕ) (e : Effect) (ground : Ground) (laid 
     unfolding dose factor site′ chemical′ receptor′
     intake-is = dose-is scenario j i e p (concentrationFor p (mediaBy e (ground .highest) mean)) (medium-told scenario j i ground laid mean mean-is e p)
 
-    figure-is : figureBy (after product) (after quotient) e (mapped (λ (g : Dose). g .0) dose) (is (pairOf value)) ≡ worked (pairsAt scenario j i) (page.intakeLine e (stayIn scenario j) p)
+    figure-is : ofTwo (figureBy e) (mapped (λ (g : Dose). g .0) dose) (is (pairOf value)) ≡ worked (pairsAt scenario j i) (page.intakeLine e (stayIn scenario j) p)
     unfolding value
     figure-is =
-        ap (λ (o : Outcome Pair). figureBy (after product) (after quotient) e o (is (pairOf value))) intake-is
-        ∙ ap (λ (q : Pair). figureBy (after product) (after quotient) e (worked (pairsAt scenario j i) (page.intake e (stayIn scenario j) p)) (is q)) (sym (pair-printed scenario j i (referenceSlot e p) (reference-source e p)))
+        ap (λ (o : Outcome Pair). ofTwo (figureBy e) o (is (pairOf value))) intake-is
+        ∙ ap (λ (q : Pair). ofTwo (figureBy e) (worked (pairsAt scenario j i) (page.intake e (stayIn scenario j) p)) (is q)) (sym (pair-printed scenario j i (referenceSlot e p) (reference-source e p)))
         ∙ sym (line-by e (stayIn scenario j) p (pairsAt scenario j i))
 
     figured : figureFor e dosed ≡ figureIfGiven e dose (optional value)
@@ -328,7 +287,7 @@ module _ (scenario : Scenario) (j i : ℕ) (e : Effect) (ground : Ground) (laid 
     intake-agrees : Agrees scenario j i e p dosed (page.intakeLine e (stayIn scenario j) p)
     unfolding hasReference value figureIfGiven figureOf
     intake-agrees =
-        let c = figure-columns e (figureIfGiven e dose) (λ v. figureBy (after product) (after quotient) e (mapped (λ (g : Dose). g .0) dose) (is v)) refl (λ v. refl) value in (
+        let c = figure-columns e (figureIfGiven e dose) (λ v. ofTwo (figureBy e) (mapped (λ (g : Dose). g .0) dose) (is v)) refl (λ v. refl) value in (
           ap (columnsOf e) figured ∙ c .0 ∙ ap (λ (o : Outcome Pair). cond (isGiven value) (countedIn (unitOf e) o) Cols.Absent) figure-is,
           ap (aboveCap e) figured ∙ c .1 ∙ ap (λ (o : Outcome Pair). isGiven value && highAbove (capOf e) o) figure-is,
         )
@@ -343,10 +302,10 @@ module _ (scenario : Scenario) (j i : ℕ) (e : Effect) (ground : Ground) (laid 
   inhaled : Value
   inhaled = givenIn scenario i (referenceSlot e Air)
 
-  air-is : airFigureBy (after product) (after quotient) (entry 1000 (pos 0)) e (after product (workedOf receptor′ (page.timeShare e)) (is (air .0))) (is (pairOf inhaled)) ≡ worked (pairsAt scenario j i) (page.airLine e)
+  air-is : ofTwo (airFigureBy e) (after product (workedOf receptor′ (page.timeShare e)) (is (air .0))) (is (pairOf inhaled)) ≡ worked (pairsAt scenario j i) (page.airLine e)
   unfolding inhaled air receptor′ mediaBy
   air-is =
-      let figure : Outcome Pair → Outcome Pair → Pair → Outcome Pair = λ t a v. airFigureBy (after product) (after quotient) (entry 1000 (pos 0)) e (after product t a) (is v) in
+      let figure : Outcome Pair → Outcome Pair → Pair → Outcome Pair = λ t a v. ofTwo (airFigureBy e) (after product t a) (is v) in
       ap (λ (t : Outcome Pair). figure t (is (air .0)) (pairOf inhaled)) (time-read e scenario j i)
       ∙ ap (λ (a : Outcome Pair). figure (worked (pairsAt scenario j i) (page.timeShare e)) a (pairOf inhaled)) (sym (media-told scenario j i ground laid mean mean-is Hazard .air))
       ∙ ap (λ (v : Pair). figure (worked (pairsAt scenario j i) (page.timeShare e)) (worked (pairsAt scenario j i) page.A) v) (sym (pair-printed scenario j i (referenceSlot e Air) (reference-source e Air)))
@@ -361,7 +320,7 @@ module _ (scenario : Scenario) (j i : ℕ) (e : Effect) (ground : Ground) (laid 
   air-agrees : Agrees scenario j i e Air inAir (page.airLine e)
   unfolding hasReference inhaled airFigureIfGiven timeShareOf
   air-agrees =
-      let c = figure-columns e (airFigureIfGiven e (exposureOf (timeShareOf e receptor′) air)) (λ v. airFigureBy (after product) (after quotient) (entry 1000 (pos 0)) e (after product (workedOf receptor′ (page.timeShare e)) (is (air .0))) (is v))
+      let c = figure-columns e (airFigureIfGiven e (exposureOf (timeShareOf e receptor′) air)) (λ v. ofTwo (airFigureBy e) (after product (workedOf receptor′ (page.timeShare e)) (is (air .0))) (is v))
       refl (λ v. air-figure-page e (workedOf receptor′ (page.timeShare e)) (air .0) v) inhaled in (
         ap (columnsOf e) air-figured ∙ c .0 ∙ ap (λ (o : Outcome Pair). cond (isGiven inhaled) (countedIn (unitOf e) o) Cols.Absent) air-is,
         ap (aboveCap e) air-figured ∙ c .1 ∙ ap (λ (o : Outcome Pair). isGiven inhaled && highAbove (capOf e) o) air-is,
@@ -370,14 +329,9 @@ module _ (scenario : Scenario) (j i : ℕ) (e : Effect) (ground : Ground) (laid 
   -- by the year's guidance
   year-agrees : (y : Guidance) (p : Pathway) → Agrees scenario j i e p
       (figuresWith (habitsOf y receptor′) p site′ (absorbedOf chemical′) receptor′ (ground .highest) mean references′) (page.line y e (stayIn scenario j) p)
-  unfolding figuresWith figuresBy habitsOf breathedBy page.line page.byGuidance byRoute dosed inAir air
+  unfolding figuresWith figuresBy habitsOf breathedBy page.line page.byGuidance dosed inAir air
   year-agrees Of2005 p = intake-agrees Of2005 p
-  year-agrees Of2009 Air = air-agrees
-  year-agrees Of2009 SoilSummer = intake-agrees Of2009 SoilSummer
-  year-agrees Of2009 SoilWinter = intake-agrees Of2009 SoilWinter
-  year-agrees Of2009 Skin = intake-agrees Of2009 Skin
-  year-agrees Of2009 AboveGround = intake-agrees Of2009 AboveGround
-  year-agrees Of2009 BelowGround = intake-agrees Of2009 BelowGround
+  year-agrees Of2009 p = by-route (Agrees scenario j i e) air-agrees p (intake-agrees Of2009 p)
 
 module _ (scenario : Scenario) (j i : ℕ) (p : Pathway) (here : j < scenario .receptors .count) (told : stopsAt (groundFor scenario i) (meanFor scenario i) (scenario .receptors .count) ≡ false) (e : Effect) where
   has : Laid (groundFor scenario i) (meanFor scenario i) (scenario .receptors .count)

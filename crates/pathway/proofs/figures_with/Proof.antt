@@ -1,5 +1,5 @@
 -- As the air is taken: pathway 1 from its shares of time, or each figure by its own way, from one exposure. Assumes nothing.
-use mathlib.Core.Path.{_≡_, refl, sym, _∙_}
+use mathlib.Core.Path.{refl, sym, _∙_}
 use borrow.Author.Needs.{needs}
 use Rattle.pathway.specs.Lines.{figured, shared, baseIn, exposureWith, doseFiguresWith, figuresWith}
 use Rattle.pathway.proofs.FigureLaws.{in-air, as-dose}
@@ -48,7 +48,7 @@ cancer-from-requires c κs = search needs
 returns-2 : tie.Need-returns-2
 unfolding figured figuresWith doseFiguresWith exposureWith baseIn shared
 returns-2 c =
-    (rw (c .cancer-from .ensures, c .before .csf-of .ensures, c .before .before .hazard-from .ensures, c .before .before .before .rfd-of .ensures, c .before .before .before .before .medium-of2 .ensures, c .before .before .before .before .before .medium-of .ensures, c .before .before .before .before .before .before .exposure-from .ensures, c .before .before .before .before .before .before .before .begun-in .ensures, c .before .before .before .before .before .before .before .before .share-of .ensures)
+    (rw (c .cancer-from .ensures, c .before .csf-of .ensures, c .before .before .hazard-from .ensures, c .before .before .before .rfd-of .ensures, c .before .before .before .before .medium-of2 .ensures, c .before .before .before .before .before .medium-of .ensures, c .before .before .before .before .before .before .exposure-from .ensures, c .before .before .before .before .before .before .before .before .share-of .ensures, c .before .before .before .before .before .before .before .begun-in .ensures)
     refl)
     ∙ as-dose _ _ _ _ _ (sym (c .before .before .before .before .before .before .before .before .before .before .is-timed .ensures) ∙ c .before .before .before .before .before .before .before .before .before .if1 .left)
 

@@ -1,7 +1,7 @@
 -- By the test of the route. Assumes nothing.
 use mathlib.Core.Path.{refl}
 use borrow.Author.Needs.{needs}
-use Rattle.pathway.proofs.Routes.{by-route}
+use Rattle.equations.proofs.Guided.{route-tested}
 use Rattle.pathway.proofs.rfd_of.Statement.{statement}
 use Rattle.pathway.proofs.rfd_of.Tie as tie
 
@@ -9,10 +9,10 @@ is-inhaled-requires : tie.Need-is-inhaled-requires
 is-inhaled-requires c κs = search needs
 
 returns : tie.Need-returns
-returns c = rw (by-route, ← c .before .is-inhaled .ensures, c .if1 .taken) refl
+returns c = rw (route-tested, ← c .before .is-inhaled .ensures, c .if1 .taken) refl
 
 returns-2 : tie.Need-returns-2
-returns-2 c = rw (by-route, ← c .before .is-inhaled .ensures, c .if1 .left) refl
+returns-2 c = rw (route-tested, ← c .before .is-inhaled .ensures, c .if1 .left) refl
 
 pub rfd-of-spec : {M : Type 1} → statement M
 rfd-of-spec = tie.close (tie.spec is-inhaled-requires returns returns-2)

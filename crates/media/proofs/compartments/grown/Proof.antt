@@ -3,7 +3,8 @@ use mathlib.Core.Path.{refl}
 use Rattle.slots.specs.Slots.{table, same, isIn, placeIn, ownerOf, placeOf}
 use Rattle.equations.specs.Formula.{read, pairs}
 use Rattle.equations.specs.Readings.{plain, plainWith, letters, inputs, byOwner, valueIn}
-use Rattle.media.specs.Media.{ofSlots, grownIn}
+use Rattle.equations.specs.Page.{aboveGround, belowGround}
+use Rattle.media.specs.Media.{grownIn}
 use borrow.Author.Needs.{needs}
 use Rattle.media.proofs.compartments.grown.Statement.{statement}
 use Rattle.media.proofs.compartments.grown.Tie as tie
@@ -36,7 +37,7 @@ all-requires : tie.Need-all-requires
 all-requires c κs = search needs
 
 returns : tie.Need-returns
-unfolding grownIn ofSlots plain plainWith read letters inputs byOwner valueIn ownerOf placeOf table same isIn placeIn pairs
+unfolding grownIn aboveGround belowGround plain plainWith read letters inputs byOwner valueIn ownerOf placeOf table same isIn placeIn pairs
 returns c = rw (c .all .ensures, c .before .over .ensures, c .before .before .at4 .ensures, c .before .before .before .times3 .ensures, c .before .before .before .before .at3 .ensures, c .before .before .before .before .before .times2 .ensures, c .before .before .before .before .before .before .at2 .ensures, c .before .before .before .before .before .before .before .times .ensures, c .before .before .before .before .before .before .before .before .at .ensures)
     refl
 

@@ -1,8 +1,10 @@
 -- The operations in the formula's order. Assumes nothing.
 use mathlib.Core.Path.{refl}
 use Rattle.pair.specs.Calls.{after}
-use Rattle.equations.specs.Formula.{pairs}
-use Rattle.media.specs.Media.{soilBeyond}
+use Rattle.slots.specs.Slots.{same}
+use Rattle.equations.specs.Formula.{read, pairs}
+use Rattle.equations.specs.Readings.{letters, plainWith, asAnswers}
+use Rattle.media.specs.Media.{heldIn, soilBeyond}
 use borrow.Author.Needs.{needs}
 use Rattle.media.proofs.compartments.soil_beyond.Statement.{statement}
 use Rattle.media.proofs.compartments.soil_beyond.Tie as tie
@@ -35,7 +37,7 @@ over-requires : tie.Need-over-requires
 over-requires c κs = search needs
 
 returns : tie.Need-returns
-unfolding soilBeyond pairs after
+unfolding soilBeyond heldIn plainWith asAnswers read letters same pairs after
 returns c = rw (c .over .ensures, c .before .answer2 .ensures, c .before .before .plus .ensures, c .before .before .before .answer .ensures, c .before .before .before .before .times .ensures, c .before .before .before .before .before .product2 .ensures, c .before .before .before .before .before .before .pair .ensures, c .before .before .before .before .before .before .before .g-at .ensures, c .before .before .before .before .before .before .before .before .product .ensures) refl
 
 pub soil-beyond-spec : {M : Type 1} → statement M

@@ -1,6 +1,10 @@
 -- A refusal is carried along; no reference value gives no figure. Assumes nothing.
 use mathlib.Core.Path.{refl}
 use borrow.Author.Needs.{needs}
+use Rattle.slots.specs.Slots.{same}
+use Rattle.equations.specs.Formula.{read, pairs}
+use Rattle.equations.specs.Readings.{letters, plainWith, plain}
+use Rattle.equations.specs.Ahead.{ofTwo}
 use Rattle.equations.specs.Page.{airFigureBy}
 use Rattle.pair.specs.Calls.{afterOne, mapped}
 use Rattle.pathway.specs.Inner.{absentFor}
@@ -51,7 +55,7 @@ worked-figure-requires : tie.Need-worked-figure-requires
 worked-figure-requires c κs = search needs
 
 returns-3 : tie.Need-returns-3
-unfolding mapped exposed unitRiskGiven unitRiskValue airFigureBy airFigureOf airRiskOf
+unfolding mapped exposed unitRiskGiven unitRiskValue airFigureBy ofTwo plain plainWith read letters pairs same airFigureOf airRiskOf
 returns-3 c = rw (c .before .before .before .before .before .before .before .before .before .before .exposure .given .1, c .before .before .before .before .before .before .before .unit-risk .given .1, c .worked-figure .ensures, c .before .times2 .ensures, c .before .before .answer2 .ensures, c .before .before .before .times .ensures, c .before .before .before .before .entry .ensures, c .before .before .before .before .before .answer .ensures) refl
 
 pub risk-in-air-spec : {M : Type 1} → statement M

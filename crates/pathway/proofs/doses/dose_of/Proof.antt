@@ -1,7 +1,6 @@
 -- A refusal is carried along, else the product answers. Assumes nothing.
 use mathlib.Core.Path.{refl}
 use borrow.Author.Needs.{needs}
-use Rattle.equations.specs.Page.{intakeBy}
 use Rattle.pair.specs.Calls.{answer, after, mapped}
 use Rattle.pathway.specs.Lines.{factored, dosed, doseOf}
 use Rattle.pathway.proofs.doses.dose_of.Statement.{statement}
@@ -14,7 +13,7 @@ enum-told : tie.Need-enum-told
 enum-told c = search needs
 
 returns : tie.Need-returns
-unfolding after mapped factored dosed doseOf intakeBy
+unfolding after mapped factored dosed doseOf
 returns c = rw (c .enum-told .given .1) refl
 
 pair-requires : tie.Need-pair-requires
@@ -30,11 +29,11 @@ enum-told-2 : tie.Need-enum-told-2
 enum-told-2 c = search needs
 
 returns-2 : tie.Need-returns-2
-unfolding answer after mapped factored dosed doseOf intakeBy
+unfolding answer after mapped factored dosed doseOf
 returns-2 c = rw (c .before .before .before .before .before .before .factor .given .1, ← c .before .before .before .before .pair .ensures, ← c .before .before .before .product .ensures, c .before .p .given .1) refl
 
 returns-3 : tie.Need-returns-3
-unfolding answer after mapped factored dosed doseOf intakeBy
+unfolding answer after mapped factored dosed doseOf
 returns-3 c = rw (c .before .before .before .before .before .factor .given .1, ← c .before .before .before .pair .ensures, ← c .before .before .product .ensures, c .enum-told2 .given .1) refl
 
 pub dose-of-spec : {M : Type 1} → statement M

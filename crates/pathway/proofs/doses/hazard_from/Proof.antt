@@ -4,6 +4,10 @@ use borrow.Author.Needs.{needs}
 use Rattle.pair.specs.declared.Pair.{Pair}
 use Rattle.pair.specs.Calls.{answer, mapped, stepped}
 use Rattle.equations.specs.declared.Effect.the-variants.{Hazard}
+use Rattle.slots.specs.Slots.{same}
+use Rattle.equations.specs.Formula.{read, pairs}
+use Rattle.equations.specs.Readings.{letters, plainWith, plain}
+use Rattle.equations.specs.Ahead.{ofTwo}
 use Rattle.equations.specs.Page.{figureBy}
 use Rattle.pathway.specs.Lines.{some, figure, rfdGiven, rfdValue, figureIfGiven}
 use Rattle.pathway.proofs.HabitLaws.{in-one-chain, without-base}
@@ -42,7 +46,7 @@ worked-figure-requires : tie.Need-worked-figure-requires
 worked-figure-requires c κs = search needs
 
 returns-3 : tie.Need-returns-3
-unfolding answer stepped figureBy rfdGiven rfdValue
+unfolding answer stepped figureBy ofTwo plain plainWith read letters pairs same rfdGiven rfdValue
 returns-3 c = rw (c .before .before .before .before .before .before .before .rfd .given .1, c .before .before .before .before .base .given .1)
     (c .worked-figure .ensures ∙ ap (mapped (λ (q : Pair). some q)) (rw (c .before .before .pair .ensures) at (c .before .through .ensures)) ∙ in-one-chain Hazard _ _ _ _)
 

@@ -1,6 +1,10 @@
 -- A refusal is carried along; no reference value gives no figure. Assumes nothing.
 use mathlib.Core.Path.{refl}
 use borrow.Author.Needs.{needs}
+use Rattle.slots.specs.Slots.{same}
+use Rattle.equations.specs.Formula.{read, pairs}
+use Rattle.equations.specs.Readings.{letters, plainWith, plain}
+use Rattle.equations.specs.Ahead.{ofTwo}
 use Rattle.equations.specs.Page.{figureBy}
 use Rattle.pair.specs.Calls.{after, afterOne, mapped}
 use Rattle.pathway.specs.Inner.{absentFor}
@@ -29,7 +33,7 @@ absent-figure-requires : tie.Need-absent-figure-requires
 absent-figure-requires c κs = search needs
 
 returns-2 : tie.Need-returns-2
-unfolding after afterOne mapped dosed rfdGiven rfdValue figureBy figureOf quotientOf absentFor
+unfolding after afterOne mapped dosed rfdGiven rfdValue figureBy ofTwo plain plainWith read letters pairs same figureOf quotientOf absentFor
 returns-2 c = rw (c .before .before .before .before .dose .given .1, c .before .enum-told2 .given .1) (c .absent-figure .ensures)
 
 quotient-requires : tie.Need-quotient-requires
@@ -39,7 +43,7 @@ worked-figure-requires : tie.Need-worked-figure-requires
 worked-figure-requires c κs = search needs
 
 returns-3 : tie.Need-returns-3
-unfolding after afterOne mapped dosed rfdGiven rfdValue figureBy figureOf quotientOf
+unfolding after afterOne mapped dosed rfdGiven rfdValue figureBy ofTwo plain plainWith read letters pairs same figureOf quotientOf
 returns-3 c = rw (c .before .before .before .before .before .before .dose .given .1, c .before .before .before .rfd .given .1, c .worked-figure .ensures, c .before .quotient .ensures) refl
 
 pub quotient-of-spec : {M : Type 1} → statement M

@@ -1,6 +1,10 @@
 -- A refusal is carried along; no reference value gives no figure. Assumes nothing.
 use mathlib.Core.Path.{refl}
 use borrow.Author.Needs.{needs}
+use Rattle.slots.specs.Slots.{same}
+use Rattle.equations.specs.Formula.{read, pairs}
+use Rattle.equations.specs.Readings.{letters, plainWith, plain}
+use Rattle.equations.specs.Ahead.{ofTwo}
 use Rattle.equations.specs.Page.{figureBy}
 use Rattle.pair.specs.Calls.{after, afterOne, mapped}
 use Rattle.pathway.specs.Inner.{absentFor}
@@ -29,7 +33,7 @@ absent-figure-requires : tie.Need-absent-figure-requires
 absent-figure-requires c κs = search needs
 
 returns-2 : tie.Need-returns-2
-unfolding after afterOne mapped dosed csfGiven csfValue figureBy figureOf riskOf absentFor
+unfolding after afterOne mapped dosed csfGiven csfValue figureBy ofTwo plain plainWith read letters pairs same figureOf riskOf absentFor
 returns-2 c = rw (c .before .before .before .before .dose .given .1, c .before .enum-told2 .given .1) (c .absent-figure .ensures)
 
 product-requires : tie.Need-product-requires
@@ -39,7 +43,7 @@ worked-figure-requires : tie.Need-worked-figure-requires
 worked-figure-requires c κs = search needs
 
 returns-3 : tie.Need-returns-3
-unfolding after afterOne mapped dosed csfGiven csfValue figureBy figureOf riskOf
+unfolding after afterOne mapped dosed csfGiven csfValue figureBy ofTwo plain plainWith read letters pairs same figureOf riskOf
 returns-3 c = rw (c .before .before .before .before .before .before .dose .given .1, c .before .before .before .csf .given .1, c .worked-figure .ensures, c .before .product .ensures) refl
 
 pub risk-of-spec : {M : Type 1} → statement M

@@ -2,9 +2,11 @@
 use mathlib.Core.Path.{refl}
 use borrow.Author.Needs.{needs}
 use Rattle.equations.specs.Formula.{read, pairs}
+use Rattle.equations.specs.Page.{exposure}
+use Rattle.equations.specs.Ahead.{only, aSlot, isReceptors, ahead}
 use Rattle.equations.specs.Readings.{plain, plainWith, letters, inputs, byOwner, valueIn}
 use Rattle.slots.specs.Slots.{table, same, isIn, placeIn, ownerOf, placeOf}
-use Rattle.pathway.specs.Lines.{workedFor, workedOf, begins}
+use Rattle.pathway.specs.Lines.{workedFor, workedOf}
 use Rattle.pathway.proofs.exposure.begun_of.Statement.{statement}
 use Rattle.pathway.proofs.exposure.begun_of.Tie as tie
 
@@ -69,32 +71,32 @@ times-requires-4 : tie.Need-times-requires-4
 times-requires-4 c κs = search needs
 
 returns : tie.Need-returns
-unfolding workedFor plain plainWith read letters inputs byOwner valueIn ownerOf placeOf table same isIn placeIn pairs workedOf begins
+unfolding workedFor plain plainWith read letters inputs byOwner valueIn ownerOf placeOf table same isIn placeIn pairs workedOf exposure ahead isReceptors only aSlot
 returns c = rw (c .at .ensures, c .before .enum-told .given .1)
     refl
 
 returns-2 : tie.Need-returns-2
-unfolding workedFor plain plainWith read letters inputs byOwner valueIn ownerOf placeOf table same isIn placeIn pairs workedOf begins
+unfolding workedFor plain plainWith read letters inputs byOwner valueIn ownerOf placeOf table same isIn placeIn pairs workedOf exposure ahead isReceptors only aSlot
 returns-2 c = rw (c .at2 .ensures, c .before .enum-told2 .given .1)
     refl
 
 returns-3 : tie.Need-returns-3
-unfolding workedFor plain plainWith read letters inputs byOwner valueIn ownerOf placeOf table same isIn placeIn pairs workedOf begins
+unfolding workedFor plain plainWith read letters inputs byOwner valueIn ownerOf placeOf table same isIn placeIn pairs workedOf exposure ahead isReceptors only aSlot
 returns-3 c = rw (c .at3 .ensures, c .before .enum-told3 .given .1)
     refl
 
 returns-4 : tie.Need-returns-4
-unfolding workedFor plain plainWith read letters inputs byOwner valueIn ownerOf placeOf table same isIn placeIn pairs workedOf begins
+unfolding workedFor plain plainWith read letters inputs byOwner valueIn ownerOf placeOf table same isIn placeIn pairs workedOf exposure ahead isReceptors only aSlot
 returns-4 c = rw (c .before .enum-told4 .given .1)
     (c .held .ensures)
 
 returns-5 : tie.Need-returns-5
-unfolding workedFor plain plainWith read letters inputs byOwner valueIn ownerOf placeOf table same isIn placeIn pairs workedOf begins
+unfolding workedFor plain plainWith read letters inputs byOwner valueIn ownerOf placeOf table same isIn placeIn pairs workedOf exposure ahead isReceptors only aSlot
 returns-5 c = rw (c .times2 .ensures, c .before .at6 .ensures, c .before .before .times .ensures, c .before .before .before .at5 .ensures, c .before .before .before .before .at4 .ensures, c .before .before .before .before .before .enum-told5 .given .1)
     refl
 
 returns-6 : tie.Need-returns-6
-unfolding workedFor plain plainWith read letters inputs byOwner valueIn ownerOf placeOf table same isIn placeIn pairs workedOf begins
+unfolding workedFor plain plainWith read letters inputs byOwner valueIn ownerOf placeOf table same isIn placeIn pairs workedOf exposure ahead isReceptors only aSlot
 returns-6 c = rw (c .times4 .ensures, c .before .at9 .ensures, c .before .before .times3 .ensures, c .before .before .before .at8 .ensures, c .before .before .before .before .at7 .ensures, c .before .before .before .before .before .enum-told6 .given .1)
     refl
 

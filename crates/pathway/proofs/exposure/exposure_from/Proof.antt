@@ -1,6 +1,11 @@
 -- Each pathway by its own function. Assumes nothing.
 use borrow.Author.Needs.{needs}
-use Rattle.pathway.specs.Lines.{onward}
+use Rattle.slots.specs.Slots.{table, same, isIn, ownerOf}
+use Rattle.equations.specs.Formula.{read}
+use Rattle.equations.specs.Page.{exposure}
+use Rattle.equations.specs.Readings.{byOwner}
+use Rattle.equations.specs.Ahead.{only, aSlot, isReceptors, readFrom, plainFrom}
+use Rattle.pathway.specs.Lines.{exposureFrom}
 use Rattle.pathway.proofs.exposure.exposure_from.Statement.{statement}
 use Rattle.pathway.proofs.exposure.exposure_from.Tie as tie
 
@@ -41,32 +46,27 @@ produce-requires-2 : tie.Need-produce-requires-2
 produce-requires-2 c κs = search needs
 
 returns : tie.Need-returns
-unfolding onward
 returns c = rw (c .before .enum-told .given .1)
     (c .air .ensures)
 
 returns-2 : tie.Need-returns-2
-unfolding onward
 returns-2 c = rw (c .before .enum-told2 .given .1)
     (c .soil-summer .ensures)
 
 returns-3 : tie.Need-returns-3
-unfolding onward
 returns-3 c = rw (c .before .enum-told3 .given .1)
     (c .soil-winter .ensures)
 
 returns-4 : tie.Need-returns-4
-unfolding onward
 returns-4 c = rw (c .before .enum-told4 .given .1)
     (c .skin .ensures)
 
 returns-5 : tie.Need-returns-5
-unfolding onward
 returns-5 c = rw (c .before .enum-told5 .given .1)
     (c .produce .ensures)
 
 returns-6 : tie.Need-returns-6
-unfolding onward
+unfolding exposureFrom plainFrom readFrom isReceptors only aSlot read byOwner ownerOf table same isIn exposure
 returns-6 c = rw (c .before .enum-told6 .given .1)
     (c .produce2 .ensures)
 

@@ -1,10 +1,10 @@
 -- What it begins with, the share absorbed, and what it goes on with. Assumes nothing.
-use mathlib.Core.Path.{_∙_, ap, ap₂}
+use mathlib.Core.Path.{_∙_, ap₂}
 use borrow.Author.Needs.{needs}
 use Rattle.pair.specs.declared.Pair.{Pair}
-use Rattle.pair.specs.Calls.{is, after, product}
-use Rattle.equations.specs.Readings.{noValues}
-use Rattle.pathway.specs.Lines.{workedFor, onward, shareOf}
+use Rattle.pair.specs.Calls.{Outcome}
+use Rattle.pathway.specs.declared.Absorbed.{Absorbed}
+use Rattle.pathway.specs.Lines.{exposureFrom}
 use Rattle.pathway.proofs.HabitLaws.{begun-exposure}
 use Rattle.pathway.proofs.exposure.exposure_of.Statement.{statement}
 use Rattle.pathway.proofs.exposure.exposure_of.Tie as tie
@@ -24,9 +24,9 @@ exposure-from-requires c κs = search needs
 returns : tie.Need-returns
 returns c =
     let a = c .before .before .before .before .args in
-    let share = c .before .before .share-of .ensures ∙ ap (shareOf (a .pathway)) (c .before .before .before .absorbed-of .ensures) in
     c .exposure-from .ensures
-    ∙ ap₂ (onward (after product) (workedFor (a .s) noValues (a .r)) (a .pathway)) (ap (λ (q : Pair). is q) share) (c .before .begun-of .ensures)
+    ∙ c .before .before .share-of .ensures _ (a .s) (a .r)
+    ∙ ap₂ (λ (o : Outcome Pair) (absorbed : Absorbed). exposureFrom o (a .pathway) (a .s) absorbed (a .r)) (c .before .begun-of .ensures) (c .before .before .before .absorbed-of .ensures)
     ∙ begun-exposure (a .s) (a .c) (a .r) (a .pathway)
 
 pub exposure-of-spec : {M : Type 1} → statement M

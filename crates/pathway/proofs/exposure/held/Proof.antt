@@ -2,9 +2,11 @@
 use mathlib.Core.Path.{refl}
 use borrow.Author.Needs.{needs}
 use Rattle.equations.specs.Formula.{read, pairs}
+use Rattle.equations.specs.Page.{exposure}
+use Rattle.equations.specs.Ahead.{only, aSlot, isReceptors, ahead}
 use Rattle.equations.specs.Readings.{plain, plainWith, letters, inputs, byOwner, valueIn}
 use Rattle.slots.specs.Slots.{table, same, isIn, placeIn, ownerOf, placeOf}
-use Rattle.pathway.specs.Lines.{workedFor, workedOf, begins}
+use Rattle.pathway.specs.Lines.{workedFor, workedOf}
 use Rattle.pathway.proofs.exposure.held.Statement.{statement}
 use Rattle.pathway.proofs.exposure.held.Tie as tie
 
@@ -30,7 +32,7 @@ plus-requires : tie.Need-plus-requires
 plus-requires c κs = search needs
 
 returns : tie.Need-returns
-unfolding workedFor plain plainWith read letters inputs byOwner valueIn ownerOf placeOf table same isIn placeIn pairs workedOf begins
+unfolding workedFor plain plainWith read letters inputs byOwner valueIn ownerOf placeOf table same isIn placeIn pairs workedOf exposure ahead isReceptors only aSlot
 returns c = rw (c .plus .ensures, c .before .times2 .ensures, c .before .before .at4 .ensures, c .before .before .before .at3 .ensures, c .before .before .before .before .times .ensures, c .before .before .before .before .before .at2 .ensures, c .before .before .before .before .before .before .at .ensures)
     refl
 

@@ -2,9 +2,12 @@
 use mathlib.Core.Path.{refl}
 use borrow.Author.Needs.{needs}
 use Rattle.equations.specs.Formula.{read, pairs}
-use Rattle.equations.specs.Readings.{plain, plainWith, letters, inputs, byOwner, valueIn}
+use Rattle.equations.specs.Page.{exposure}
+use Rattle.equations.specs.Readings.{letters, byOwner, valueIn}
+use Rattle.equations.specs.Ahead.{only, aSlot, isReceptors, readFrom, plainFrom}
 use Rattle.slots.specs.Slots.{table, same, isIn, placeIn, ownerOf, placeOf}
-use Rattle.pathway.specs.Lines.{workedFor, onward}
+use Rattle.pathway.specs.Inner.{each}
+use Rattle.pathway.specs.Lines.{shareAt, takenIn, exposureFrom}
 use Rattle.pair.proofs.Promises.{per-million-entry}
 use Rattle.pathway.proofs.exposure.skin.Statement.{statement}
 use Rattle.pathway.proofs.exposure.skin.Tie as tie
@@ -31,7 +34,7 @@ times-requires-2 : tie.Need-times-requires-2
 times-requires-2 c κs = search needs
 
 returns : tie.Need-returns
-unfolding workedFor plain plainWith read letters inputs byOwner valueIn ownerOf placeOf table same isIn placeIn pairs onward
+unfolding exposureFrom plainFrom readFrom isReceptors only aSlot read letters takenIn shareAt each byOwner valueIn ownerOf placeOf table same isIn placeIn pairs exposure
 returns c = rw (c .times2 .ensures, c .before .answer .ensures, c .before .before .times .ensures, c .before .before .before .at .ensures, c .before .before .before .before .times-three .ensures, c .before .before .before .before .before .value2 .ensures, c .before .before .before .before .before .before .value .ensures, per-million-entry)
     refl
 
