@@ -8,7 +8,7 @@ use Rattle.slots.specs.declared.Owner.{Owner}
 use Rattle.slots.specs.declared.Owner.the-variants.{Site, Chemical, Receptor}
 use Rattle.slots.specs.declared.Sort.{Sort}
 use Rattle.slots.specs.declared.Sort.the-variants.{Ordinary, Composite}
-use Rattle.sizes.specs.Sizes.{maxChemicals, mostStages, slotsPerRecord}
+use Rattle.sizes.specs.Sizes.{maxChemicals, mostReceptors, mostStages, slotsPerRecord}
 use Rattle.cases.specs.Ranges.{isYearOf, isYear}
 use Rattle.slots.specs.declared.Guidance.{Guidance}
 use Rattle.slots.specs.declared.Guidance.the-variants.{Of2005, Of2009}
@@ -18,9 +18,10 @@ use Rattle.cases.specs.declared.Filled.{Filled}
 use Rattle.cases.specs.declared.Record.{Record}
 use Rattle.cases.specs.declared.Case.{Case}
 
+-- how many receptors a deck of each sort may have
 abbrev pub maxReceptors : Sort → ℕ
-maxReceptors Ordinary = 4
-maxReceptors Composite = 8
+maxReceptors Ordinary = mostReceptors
+maxReceptors Composite = mostStages
 
 -- a slot past those of the site's two lines, or of a place that has no record
 abbrev pub noSlot : Filled

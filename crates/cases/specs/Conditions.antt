@@ -40,7 +40,7 @@ unfoldable pub upTo : (ℕ → List Condition) → ℕ → List Condition
 upTo f zero = []
 upTo f (suc n) = upTo f n ++ f (suc n)
 
--- number, line and field as document 01 tells them; all 0 where the deck is read
+-- number, line and field as document 01 tells them; all 0 where none holds
 unfoldable pub toldOf : Status → Told
 toldOf Passed = record { number = 0; line = 0; field = 0 }
 toldOf (Stopped number line field) = record { number = number; line = line; field = field }

@@ -30,7 +30,7 @@ use Rattle.slots.specs.Slots.{Slot, table, same, isIn, placeIn, entryRule, owne
 use Rattle.equations.specs.Formula.{Letter, slot, rest, later, g-at-x, h-at-x, g-at-x′, Formula, read, pairs, fractions}
 use Rattle.equations.specs.Page as page
 use Rattle.equations.specs.Page.{Growth, growth, x, x′}
-use Rattle.equations.specs.Readings.{Inputs, AtBoth, letters, noGrowth, plainWith, plain, exponents, grownAt, asAnswers, pacesOf, pairGrowing, worked, exactInputs, exactGrowing, exactly, byOwner}
+use Rattle.equations.specs.Readings.{Inputs, AtBoth, letters, noGrowth, plainWith, plain, exponents, growthAtBoth, asAnswers, pacesOf, pairGrowing, worked, exactInputs, exactGrowing, exactly, byOwner}
 use Rattle.equations.proofs.Nearness.{Near, near-more, spread}
 use Rattle.equations.proofs.Profile.{Profile, profiles, ofNumber, positives, usable, joined, Fits, Good, answeredAs, both, parts, good-more, good-number}
 use Rattle.equations.proofs.FormulaLaws.{profile, reads-good}
@@ -192,8 +192,8 @@ module _ (stay : Stay) (env : Inputs Pair) (vals : Slot → Fraction) (inputs : 
       (plain-good x′ (ap (λ (P : Profile). P .answered) (x′-plain profiles (ofSlots stay) (noGrowth profiles) ∙ told))))
 
   growth-good : (N : ℕ) → 256 ≤ N →
-      GrownGood (ofGrown stay) (grownAt pairGrowing (pacesOf env) (exponents pairs (asAnswers env))) (grownAt (exactGrowing N) (pacesOf env) (exponents fractions (exactInputs vals)))
-  unfolding ofGrown grownAt pacesOf exponents exactInputs
+      GrownGood (ofGrown stay) (growthAtBoth pairGrowing (pacesOf env) (exponents pairs (asAnswers env))) (growthAtBoth (exactGrowing N) (pacesOf env) (exponents fractions (exactInputs vals)))
+  unfolding ofGrown growthAtBoth pacesOf exponents exactInputs
   growth-good N n =
       let at-x = grown x-good N n in
       record { g = λ t. at-x .g; h = λ t. at-x .h; g′ = later-growth stay refl }
@@ -207,8 +207,8 @@ module _ (stay : Stay) (env : Inputs Pair) (vals : Slot → Fraction) (inputs : 
   worked-good : (f : Formula) → ofFormula stay f .answered ≡ true → (N : ℕ) → 256 ≤ N → Good (ofFormula stay f) (worked env f) (exactly N (pacesOf env) vals f)
   unfolding ofFormula worked exactly
   worked-good f h N n =
-      let o = grownAt pairGrowing (pacesOf env) (exponents pairs (asAnswers env)) in
-      let v = grownAt (exactGrowing N) (pacesOf env) (exponents fractions (exactInputs vals)) in
+      let o = growthAtBoth pairGrowing (pacesOf env) (exponents pairs (asAnswers env)) in
+      let v = growthAtBoth (exactGrowing N) (pacesOf env) (exponents fractions (exactInputs vals)) in
       reads-good (letters (ofSlots stay) (ofGrown stay)) (letters (asAnswers env) o) (letters (exactInputs vals) v) (letter-good (ofGrown stay) o v (growth-good N n)) f h
 
   -- Every formula whose profile says so is answered with one pair, which holds the exact value for every N from 256 up.

@@ -21,7 +21,7 @@ use Rattle.equations.specs.Formula.{Letter, slot, rest, later, g-at-x, h
 use Rattle.equations.specs.Ahead.{only}
 use Rattle.equations.specs.Page as page
 use Rattle.equations.specs.Page.{Growth, x, x′}
-use Rattle.equations.specs.Readings.{Inputs, AtBoth, letters, noGrowth, plainWith, plain, exponents, grownAt, asAnswers, paceOf, pacesOf, pairGrowing, worked}
+use Rattle.equations.specs.Readings.{Inputs, AtBoth, letters, noGrowth, plainWith, plain, exponents, growthAtBoth, asAnswers, paceOf, pacesOf, pairGrowing, worked}
 use Rattle.equations.proofs.Pathways.{pathways, passes, onEach, byEither, on-guided}
 use Rattle.equations.proofs.AheadLaws.{only-same}
 use Rattle.equations.proofs.Profile.{both}
@@ -116,7 +116,7 @@ pub record Alike (mark : Slot → Bool) (env env' : Inputs Pair) : Type 0 where
 
 -- g and h at these exponents
 grownFrom : AtBoth (Outcome Pair) → AtBoth (Growth (Outcome Pair))
-grownFrom e = grownAt pairGrowing (record { at-x = paceOf (e .at-x); at-x′ = paceOf (e .at-x′) }) e
+grownFrom e = growthAtBoth pairGrowing (record { at-x = paceOf (e .at-x); at-x′ = paceOf (e .at-x′) }) e
 
 -- Where the marked slots stand neither in x nor in x′, a formula that they do not stand in is worked the same, and one may rise with them.
 module _ (mark : Slot → Bool) (free : (steady (marked mark) x ≡ true) × (steady (marked mark) x′ ≡ true)) (env env' : Inputs Pair) (alike : Alike mark env env') where

@@ -15,7 +15,7 @@ use Rattle.equations.specs.Series.{Series, phi, psi, first, step, terms,
 use Rattle.equations.specs.Letters.{g, h}
 use Rattle.equations.specs.Page.{x, Pace, Slow, Growth, gWith, growth}
 use Rattle.equations.specs.Ranges.{sixtyFour}
-use Rattle.equations.specs.Readings.{Inputs, letters, plain, exponents, grownAt, asAnswers, paceIf, paceOf, pacesOf, pairGrowing, worked}
+use Rattle.equations.specs.Readings.{Inputs, letters, plain, exponents, growthAtBoth, asAnswers, paceIf, paceOf, pacesOf, pairGrowing, worked}
 use Rattle.equations.proofs.Limits.{sixty-four-number}
 use Rattle.equations.proofs.SeriesLaws.{zero-below}
 
@@ -114,9 +114,9 @@ module _ (env : Inputs Pair) (zero-x : plain pairs (asAnswers env .value) x ≡ 
       ∙ ap (λ (p : Pace). growth pairGrowing p (is zeroPair)) slow-at-zero ∙ growth-at-zero
 
   pub g-at-zero : worked env g ≡ is onePair
-  unfolding worked read letters grownAt exponents
+  unfolding worked read letters growthAtBoth exponents
   g-at-zero = ap (λ (v : Growth (Outcome Pair)). v .g) grown-is
 
   pub h-at-zero : worked env h ≡ is (firstPair psi)
-  unfolding worked read letters grownAt exponents
+  unfolding worked read letters growthAtBoth exponents
   h-at-zero = ap (λ (v : Growth (Outcome Pair)). v .h) grown-is

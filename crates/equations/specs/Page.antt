@@ -27,8 +27,8 @@ hundred = constant 100 (pos 0)
 abbrev pub thousand : Formula
 thousand = constant 1000 (pos 0)
 
-abbrev pub year : Formula
-year = constant 365 (pos 0)
+abbrev pub daysPerYear : Formula
+daysPerYear = constant 365 (pos 0)
 
 abbrev pub perMillion : Formula
 perMillion = constant 1 (negsuc 5)

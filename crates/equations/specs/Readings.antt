@@ -55,8 +55,8 @@ plain alg env f = plainWith alg env (alg .number 1 (pos 0)) f
 unfoldable pub exponents : {A : Type 0} → Algebra A → Inputs A → AtBoth A
 exponents alg env = record { at-x = plain alg (env .value) x; at-x′ = plainWith alg (env .value) (env .later) x′ }
 
-unfoldable pub grownAt : {A : Type 0} → Growing A → AtBoth Pace → AtBoth A → AtBoth (Growth A)
-grownAt r paces e = record { at-x = growth r (paces .at-x) (e .at-x); at-x′ = growth r (paces .at-x′) (e .at-x′) }
+unfoldable pub growthAtBoth : {A : Type 0} → Growing A → AtBoth Pace → AtBoth A → AtBoth (Growth A)
+growthAtBoth r paces e = record { at-x = growth r (paces .at-x) (e .at-x); at-x′ = growth r (paces .at-x′) (e .at-x′) }
 
 -- on pairs
 unfoldable pub asAnswers : Inputs Pair → Inputs (Outcome Pair)
@@ -81,7 +81,7 @@ unfoldable pub pairGrowing : Growing (Outcome Pair)
 pairGrowing = record { operations = pairs; series = pairSeries; fast = λ x. is nextToNothing; rest = afterOne oneMinus }
 
 unfoldable pub worked : Inputs Pair → Formula → Outcome Pair
-worked env f = read pairs (letters (asAnswers env) (grownAt pairGrowing (pacesOf env) (exponents pairs (asAnswers env)))) f
+worked env f = read pairs (letters (asAnswers env) (growthAtBoth pairGrowing (pacesOf env) (exponents pairs (asAnswers env)))) f
 
 -- on exact fractions, where the two differences are worked from the values, and 1 / φ is what it is
 unfoldable pub exactInputs : (Slot → Fraction) → Inputs Fraction
@@ -97,7 +97,7 @@ exactGrowing N =
     }
 
 unfoldable pub exactly : ℕ → AtBoth Pace → (Slot → Fraction) → Formula → Fraction
-exactly N paces env f = read fractions (letters (exactInputs env) (grownAt (exactGrowing N) paces (exponents fractions (exactInputs env)))) f
+exactly N paces env f = read fractions (letters (exactInputs env) (growthAtBoth (exactGrowing N) paces (exponents fractions (exactInputs env)))) f
 
 -- the value at a place of a record; a place that no slot has reads as 1, as a missing reference value does
 unfoldable pub valueIn : Values → ℕ → Pair

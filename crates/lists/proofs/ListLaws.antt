@@ -7,19 +7,18 @@ use mathlib.Core.List.{List, [], _∷_, _++_}
 use lib.ListN.{length, take, drop, set, length-take, length-drop, getD}
 use lib.Seq.{take-all, take-nil}
 
--- ---- a line is whole or lacking
+-- a list of no elements
 pub none : (l : List ℕ) → length l ≡ 0 → l ≡ []
 none [] h = refl
 none (x ∷ xs) h = absurd (omega arith)
 
--- ---- the part from k to the end
+-- the part from k to the end
 pub tail-part : (s : List ℕ) (k : ℕ) → take (length s - k) (drop k s) ≡ drop k s
 tail-part s k = take-all (length s - k) (drop k s) (subst (λ (n : ℕ). length (drop k s) ≤ n) (length-drop k s) (le-refl (length (drop k s))))
 
 pub take-short : (n : ℕ) (s : List ℕ) → length (take n s) ≤ n
 take-short n s = omega (arith, length-take n s)
 
--- ---- parts of two lists whose first elements agree
 pub drop-take : (k m : ℕ) (s : List ℕ) → drop k (take (k + m) s) ≡ take m (drop k s)
 drop-take zero m s = ap (λ (n : ℕ). take n s) (zero-add m)
 drop-take (suc k) m [] = ap (drop (suc k)) (take-nil (suc k + m)) ∙ sym (take-nil m)

@@ -48,7 +48,6 @@ pub filled-at : {A : Type 0} (f : ℕ → A) (d : A) (n : ℕ) (rest : List A) (
 filled-at f d n rest k h =
     List·getD-append (tabulate n f) rest d k (subst (λ (m : ℕ). k < m) (sym (length-tabulate f d 0 n)) h) ∙ tabulated f d n k h
 
--- ---- the case
 pub tabulate-same : {A : Type 0} (f g : ℕ → A) (n : ℕ) → ((k : ℕ) → k < n → f k ≡ g k) → tabulate n f ≡ tabulate n g
 unfolding tabulate
 tabulate-same f g zero h = refl

@@ -9,7 +9,6 @@ unfoldable pub tabulate : {A : Type 0} → ℕ → (ℕ → A) → List A
 tabulate zero f = []
 tabulate (suc n) f = tabulate n f ++ (f n ∷ [])
 
--- ---- 42
 -- f 0 ++ f 1 ++ .. ++ f (n − 1)
 unfoldable pub chained : {A : Type 0} → (ℕ → List A) → ℕ → List A
 chained f zero = []

@@ -9,7 +9,7 @@ use Rattle.equations.specs.declared.Stay.{Stay}
 use Rattle.equations.specs.declared.Stay.the-variants.{Within, Beyond}
 use Rattle.equations.specs.Formula.{Formula, read}
 use Rattle.equations.specs.Page.{u, kse, ksr, ksl, k, x, A, D, C, mean, gathered, aboveGround, belowGround}
-use Rattle.equations.specs.Readings.{Inputs, letters, plain, plainWith, exponents, grownAt, asAnswers, pacesOf, worked, inputs, byOwner, noValues}
+use Rattle.equations.specs.Readings.{Inputs, letters, plain, plainWith, exponents, growthAtBoth, asAnswers, pacesOf, worked, inputs, byOwner, noValues}
 use Rattle.media.specs.declared.Media.{Media}
 use Rattle.media.specs.declared.Ground.{Ground}
 use Rattle.media.specs.Media.{mediaInputs, four, mediaIn, mediaOf, groundFrom, groundOf, grownIn, heldIn, soilBeyond, meanMedia}
@@ -72,15 +72,15 @@ module _ (s c r : Values) (rests : Slot → Pair) (later : Pair) where
   air-alike = refl
 
   highest-alike : worked env C ≡ worked full C
-  unfolding mediaInputs worked grownAt exponents pacesOf plain plainWith asAnswers read letters inputs byOwner ownerOf placeOf table same isIn placeIn C D x k u kse ksr ksl
+  unfolding mediaInputs worked growthAtBoth exponents pacesOf plain plainWith asAnswers read letters inputs byOwner ownerOf placeOf table same isIn placeIn C D x k u kse ksr ksl
   highest-alike = refl
 
   within-alike : worked env (mean Within) ≡ worked full (mean Within)
-  unfolding mediaInputs worked grownAt exponents pacesOf plain plainWith asAnswers read letters inputs byOwner ownerOf placeOf table same isIn placeIn mean D x k u kse ksr ksl
+  unfolding mediaInputs worked growthAtBoth exponents pacesOf plain plainWith asAnswers read letters inputs byOwner ownerOf placeOf table same isIn placeIn mean D x k u kse ksr ksl
   within-alike = refl
 
   gathered-alike : worked env gathered ≡ worked full gathered
-  unfolding mediaInputs worked grownAt exponents pacesOf plain plainWith asAnswers read letters inputs byOwner ownerOf placeOf table same isIn placeIn gathered D x k u kse ksr ksl
+  unfolding mediaInputs worked growthAtBoth exponents pacesOf plain plainWith asAnswers read letters inputs byOwner ownerOf placeOf table same isIn placeIn gathered D x k u kse ksr ksl
   gathered-alike = refl
 
   media-alike : (soil : Formula) → worked env soil ≡ worked full soil → mediaIn env soil ≡ mediaIn full soil

@@ -7,7 +7,7 @@ use Rattle.equations.specs.declared.Values.{Values}
 use Rattle.equations.specs.declared.Stay.the-variants.{Within, Beyond}
 use Rattle.equations.specs.Formula.{Formula, read, pairs}
 use Rattle.equations.specs.Page.{u, kse, ksr, ksl, k, x, x′, A, D, C, mean, gathered, aboveGround, belowGround}
-use Rattle.equations.specs.Readings.{Inputs, letters, plain, plainWith, exponents, grownAt, asAnswers, pacesOf, worked, inputs, byOwner}
+use Rattle.equations.specs.Readings.{Inputs, letters, plain, plainWith, exponents, growthAtBoth, asAnswers, pacesOf, worked, inputs, byOwner}
 use Rattle.media.specs.Media.{growthAt, mediaIn, grownIn}
 
 module _ (env : Inputs Pair) where
@@ -19,19 +19,19 @@ module _ (env : Inputs Pair) where
   laid = pairs .times (worked env D) (is (env .value "tD"))
 
   pub highest-is : worked env C ≡ pairs .times laid (growthAt at-x .g)
-  unfolding worked asAnswers read letters grownAt exponents pacesOf growthAt C
+  unfolding worked asAnswers read letters growthAtBoth exponents pacesOf growthAt C
   highest-is = refl
 
   pub within-is : worked env (mean Within) ≡ pairs .times laid (growthAt at-x .h)
-  unfolding worked asAnswers read letters grownAt exponents pacesOf growthAt mean
+  unfolding worked asAnswers read letters growthAtBoth exponents pacesOf growthAt mean
   within-is = refl
 
   pub gathered-is : worked env gathered ≡ pairs .times (pairs .times laid (is (env .value "tD"))) (growthAt at-x .h)
-  unfolding worked asAnswers read letters grownAt exponents pacesOf growthAt gathered
+  unfolding worked asAnswers read letters growthAtBoth exponents pacesOf growthAt gathered
   gathered-is = refl
 
   pub beyond-is : worked env (mean Beyond) ≡ pairs .over (pairs .plus (worked env gathered) (pairs .times (pairs .times (worked env C) (is (env .later))) (growthAt (worked env x′) .g))) (is (env .value "T2"))
-  unfolding worked asAnswers read letters grownAt exponents pacesOf growthAt plainWith mean x′ k u kse ksr ksl
+  unfolding worked asAnswers read letters growthAtBoth exponents pacesOf growthAt plainWith mean x′ k u kse ksr ksl
   beyond-is = refl
 
   pub loss-is : worked env k ≡ plain pairs (λ i. is (env .value i)) k

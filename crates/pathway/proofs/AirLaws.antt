@@ -13,7 +13,7 @@ use Rattle.slots.specs.Slots.{table, same, isIn, placeIn, ownerOf, placeOf}
 use Rattle.pathway.specs.declared.TimeShare.{TimeShare}
 use Rattle.pathway.specs.declared.AirExposure.{AirExposure}
 use Rattle.pathway.specs.Inner.{shareWith}
-use Rattle.pathway.specs.Lines.{some, workedFor, workedOf, timeShareOf, exposureOf, airFigureOf}
+use Rattle.pathway.specs.Lines.{some, workedFor, workedOf, timeShareOf, airExposureOf, airFigureOf}
 use Rattle.pathway.proofs.Carried.{pair-back}
 
 -- a receptor's letters are read alike with any site and chemical
@@ -29,8 +29,8 @@ own-share e r = refl
 
 -- a figure is the page's, of the share of time × the air's concentration
 pub air-figure-page : (e : Effect) (t : Outcome Pair) (air v : Pair) →
-    airFigureOf e (exposureOf (mapped (λ (q : Pair). record { 0 = q }) t) (record { 0 = air })) (some v) ≡ mapped (λ (q : Pair). some q) (ofTwo (airFigureBy e) (after product t (is air)) (is v))
-unfolding airFigureOf exposureOf
+    airFigureOf e (airExposureOf (mapped (λ (q : Pair). record { 0 = q }) t) (record { 0 = air })) (some v) ≡ mapped (λ (q : Pair). some q) (ofTwo (airFigureBy e) (after product t (is air)) (is v))
+unfolding airFigureOf airExposureOf
 air-figure-page e t air v =
     let share : Outcome Pair = mapped (λ (g : TimeShare). g .0) (mapped (λ (q : Pair). record { 0 = q }) t) in
     ap (λ (o : Outcome Pair). mapped (λ (q : Pair). some q) (ofTwo (airFigureBy e) o (is v)))

@@ -178,8 +178,8 @@ unfoldable pub timeShareOf : Effect → Values → Outcome TimeShare
 timeShareOf e r = mapped (λ (q : Pair). record { 0 = q }) (workedOf r (timeShare e))
 
 -- the exposure concentration: share of time × the air's concentration
-unfoldable pub exposureOf : Outcome TimeShare → Conc → Outcome AirExposure
-exposureOf t c = mapped (λ (q : Pair). record { 0 = q }) (after product (mapped (λ (g : TimeShare). g .0) t) (is (c .0)))
+unfoldable pub airExposureOf : Outcome TimeShare → Conc → Outcome AirExposure
+airExposureOf t c = mapped (λ (q : Pair). record { 0 = q }) (after product (mapped (λ (g : TimeShare). g .0) t) (is (c .0)))
 
 -- its figure with a reference value; none without one, if it is a pair
 unfoldable pub airFigureOf : Effect → Outcome AirExposure → Optional Pair → Outcome (Optional Pair)
@@ -214,8 +214,8 @@ airFigureIfGiven e x none = is none
 unfoldable pub airFiguresWith : SharesOfTime → Conc → AirReferences → Figured
 airFiguresWith t air refs =
     record {
-      hazard = airFigureIfGiven Hazard (exposureOf (t .hazard) air) (rfcValue (rfcGiven (refs .rfc)));
-      cancer = airFigureIfGiven Cancer (exposureOf (t .cancer) air) (unitRiskValue (unitRiskGiven (refs .«unit_risk»)));
+      hazard = airFigureIfGiven Hazard (airExposureOf (t .hazard) air) (rfcValue (rfcGiven (refs .rfc)));
+      cancer = airFigureIfGiven Cancer (airExposureOf (t .cancer) air) (unitRiskValue (unitRiskGiven (refs .«unit_risk»)));
     }
 
 -- the slots RfDi and CSFi hold a reference concentration and a unit risk then

@@ -26,7 +26,7 @@ ghost use Rattle.pair.specs.Calls.{answer};
 ghost use Rattle.equations.specs.declared.Effect.the-variants.{Hazard, Cancer};
 ghost use Rattle.equations.specs.Page.{AT, timeInAir};
 ghost use Rattle.pathway.specs.Inner.{shareWith};
-ghost use Rattle.pathway.specs.Lines.{workedOf, figure, timed, exposed, rfcGiven, rfcValue, unitRiskGiven, unitRiskValue, exposureOf, airQuotientOf, airRiskOf, airFigureIfGiven, asRfc, asUnitRisk};
+ghost use Rattle.pathway.specs.Lines.{workedOf, figure, timed, exposed, rfcGiven, rfcValue, unitRiskGiven, unitRiskValue, airExposureOf, airQuotientOf, airRiskOf, airFigureIfGiven, asRfc, asUnitRisk};
 
 // AT.
 pub(crate) fn averaging_time(r: Values, effect: Effect) -> Answer
@@ -57,7 +57,7 @@ pub(crate) fn share_of_time(spent: Answer, r: Values, effect: Effect) -> Timed
 
 // Share of time × the air's concentration.
 pub(crate) fn exposed_of(share: Timed, air: Conc) -> Exposed
-    ensures { λ r. ⌜ exposed r ≡ exposureOf (timed share) air ⌝ }
+    ensures { λ r. ⌜ exposed r ≡ airExposureOf (timed share) air ⌝ }
 {
     let Timed::Is(t) = share else {
         return Exposed::Refused;
@@ -97,7 +97,7 @@ pub(crate) fn risk_in_air(exposure: Exposed, unit_risk: GivenUnitRisk) -> Figure
 
 // No figure without the reference value, whatever the share of time.
 pub(crate) fn hazard_in_air(share: Timed, air: Conc, rfc: GivenRfc) -> Figure
-    ensures { λ r. ⌜ figure r ≡ airFigureIfGiven Hazard (exposureOf (timed share) air) (rfcValue (rfcGiven rfc)) ⌝ }
+    ensures { λ r. ⌜ figure r ≡ airFigureIfGiven Hazard (airExposureOf (timed share) air) (rfcValue (rfcGiven rfc)) ⌝ }
 {
     let GivenRfc::Is(_) = rfc else {
         return Figure::Absent;
@@ -106,7 +106,7 @@ pub(crate) fn hazard_in_air(share: Timed, air: Conc, rfc: GivenRfc) -> Figure
 }
 
 pub(crate) fn cancer_in_air(share: Timed, air: Conc, unit_risk: GivenUnitRisk) -> Figure
-    ensures { λ r. ⌜ figure r ≡ airFigureIfGiven Cancer (exposureOf (timed share) air) (unitRiskValue (unitRiskGiven «unit_risk»)) ⌝ }
+    ensures { λ r. ⌜ figure r ≡ airFigureIfGiven Cancer (airExposureOf (timed share) air) (unitRiskValue (unitRiskGiven «unit_risk»)) ⌝ }
 {
     let GivenUnitRisk::Is(_) = unit_risk else {
         return Figure::Absent;

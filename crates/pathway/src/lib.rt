@@ -316,7 +316,7 @@ pub fn time_share(effect: Effect, receptor: Values) -> Timed
 
 // The exposure concentration: share of time × the air's concentration.
 pub fn exposure_concentration(share: TimeShare, air: Conc) -> Exposed
-    ensures { λ r. ⌜ specs.exposed r ≡ specs.exposureOf (calls.is share) air ⌝ }
+    ensures { λ r. ⌜ specs.exposed r ≡ specs.airExposureOf (calls.is share) air ⌝ }
 {
     exposed_of(Timed::Is(share), air)
 }

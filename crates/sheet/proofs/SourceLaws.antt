@@ -32,7 +32,7 @@ use Rattle.media.proofs.Means.{Told, four-told, ground-highest, mean-media}
 use Rattle.pathway.specs.declared.Factor.{Factor}
 use Rattle.pathway.specs.declared.Dose.{Dose}
 use Rattle.pathway.specs.declared.References.{References}
-use Rattle.pathway.specs.Lines.{Optional, some, none, Figured, workedFor, workedOf, factorOf, concentrationFor, doseOf, figureOf, rfdGiven, csfGiven, rfdValue, csfValue, rfcGiven, unitRiskGiven, rfcValue, unitRiskValue, asRfc, asUnitRisk, timeShareOf, exposureOf, inAirOf, airFigureIfGiven, airFiguresWith, airReferencesOf, breathedBy, absorbedOf, habitsOf, figureIfGiven, doseFiguresWith, figuresBy, figuresWith}
+use Rattle.pathway.specs.Lines.{Optional, some, none, Figured, workedFor, workedOf, factorOf, concentrationFor, doseOf, figureOf, rfdGiven, csfGiven, rfdValue, csfValue, rfcGiven, unitRiskGiven, rfcValue, unitRiskValue, asRfc, asUnitRisk, timeShareOf, airExposureOf, inAirOf, airFigureIfGiven, airFiguresWith, airReferencesOf, breathedBy, absorbedOf, habitsOf, figureIfGiven, doseFiguresWith, figuresBy, figuresWith}
 use Rattle.pathway.proofs.Carried.{pair-back}
 use Rattle.pathway.proofs.HabitLaws.{own-factor}
 use Rattle.pathway.proofs.AirLaws.{time-share-alike, air-figure-page}
@@ -231,10 +231,10 @@ unit-risk-optional Absent = refl
 unit-risk-optional (Given power digits) = refl
 
 air-figure-for : (e : Effect) (r : Values) (air : Conc) (chemical : Record) →
-    figureFor e (airFiguresWith (inAirOf r) air (airReferencesOf (referencesOf chemical))) ≡ airFigureIfGiven e (exposureOf (timeShareOf e r) air) (optional (referenceAt e Air chemical))
+    figureFor e (airFiguresWith (inAirOf r) air (airReferencesOf (referencesOf chemical))) ≡ airFigureIfGiven e (airExposureOf (timeShareOf e r) air) (optional (referenceAt e Air chemical))
 unfolding figureFor airFiguresWith inAirOf airReferencesOf referencesOf referenceAt byRoute byMedium
-air-figure-for Hazard r air chemical = ap (airFigureIfGiven Hazard (exposureOf (timeShareOf Hazard r) air)) (rfc-optional (valueAt chemical (placeOf "RfDi")))
-air-figure-for Cancer r air chemical = ap (airFigureIfGiven Cancer (exposureOf (timeShareOf Cancer r) air)) (unit-risk-optional (valueAt chemical (placeOf "CSFi")))
+air-figure-for Hazard r air chemical = ap (airFigureIfGiven Hazard (airExposureOf (timeShareOf Hazard r) air)) (rfc-optional (valueAt chemical (placeOf "RfDi")))
+air-figure-for Cancer r air chemical = ap (airFigureIfGiven Cancer (airExposureOf (timeShareOf Cancer r) air)) (unit-risk-optional (valueAt chemical (placeOf "CSFi")))
 
 -- ---- a line of a scenario whose chemical does not stop it
 -- figures are a formula's, for one effect: their columns and their cap
@@ -311,16 +311,16 @@ module _ (scenario : Scenario) (j i : ℕ) (e : Effect) (ground : Ground) (laid 
       ∙ ap (λ (v : Pair). figure (worked (pairsAt scenario j i) (page.timeShare e)) (worked (pairsAt scenario j i) page.A) v) (sym (pair-printed scenario j i (referenceSlot e Air) (reference-source e Air)))
       ∙ sym (air-line-by e (pairsAt scenario j i))
 
-  air-figured : figureFor e inAir ≡ airFigureIfGiven e (exposureOf (timeShareOf e receptor′) air) (optional inhaled)
+  air-figured : figureFor e inAir ≡ airFigureIfGiven e (airExposureOf (timeShareOf e receptor′) air) (optional inhaled)
   unfolding inAir inhaled references′
   air-figured =
       air-figure-for e receptor′ air (chemicalIn scenario i)
-      ∙ ap (λ (v : Value). airFigureIfGiven e (exposureOf (timeShareOf e receptor′) air) (optional v)) (sym (reference-printed scenario i e Air))
+      ∙ ap (λ (v : Value). airFigureIfGiven e (airExposureOf (timeShareOf e receptor′) air) (optional v)) (sym (reference-printed scenario i e Air))
 
   air-agrees : Agrees scenario j i e Air inAir (page.airLine e)
   unfolding hasReference inhaled airFigureIfGiven timeShareOf
   air-agrees =
-      let c = figure-columns e (airFigureIfGiven e (exposureOf (timeShareOf e receptor′) air)) (λ v. ofTwo (airFigureBy e) (after product (workedOf receptor′ (page.timeShare e)) (is (air .0))) (is v))
+      let c = figure-columns e (airFigureIfGiven e (airExposureOf (timeShareOf e receptor′) air)) (λ v. ofTwo (airFigureBy e) (after product (workedOf receptor′ (page.timeShare e)) (is (air .0))) (is v))
       refl (λ v. air-figure-page e (workedOf receptor′ (page.timeShare e)) (air .0) v) inhaled in (
         ap (columnsOf e) air-figured ∙ c .0 ∙ ap (λ (o : Outcome Pair). cond (isGiven inhaled) (countedIn (unitOf e) o) Cols.Absent) air-is,
         ap (aboveCap e) air-figured ∙ c .1 ∙ ap (λ (o : Outcome Pair). isGiven inhaled && highAbove (capOf e) o) air-is,
