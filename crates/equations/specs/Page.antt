@@ -130,7 +130,7 @@ belowGround soil = soil ⊗ RCF ⊗ VG ⊘ Kds
 
 -- Six pathways: the intake factor, its medium, and the reference value
 unfoldable pub AT : Effect → Formula
-AT Hazard = year ⊗ ED
+AT Hazard = daysPerYear ⊗ ED
 AT Cancer = ATc
 
 unfoldable pub B : Effect → Formula
