@@ -64,7 +64,7 @@ printed-lasts sort s v above-zero f =
     let some = range-positive rule (g .digits) (g .power) (g .ranged) z in
     let low = finest rule (g .digits) (g .power) (g .ranged) some m (g .spelled) .0 in
     let e = printed-exactly rule b d z m v f .exact in
-    let across = amount-across (g .digits) (g .power) v (timeGiven v) (g .printed) (e .same) in
+    let across = amount-across (g .digits) (g .power) v (timeGiven v) (g .given) (e .same) in
     record {
       exact = e;
       some = some-amount (g .digits) (10 ^ place (g .power)) (amount (timeGiven v)) (10 ^ depth) across some (ten-above (place (g .power)));

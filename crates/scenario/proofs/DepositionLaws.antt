@@ -82,7 +82,7 @@ module _ (rule : Rule) (b : rule .blank ≡ false) (d : rule .dash ≡ false) (z
       let g = needed rule v f b d in
       let h = digits-told (g .digits) (g .power) (g .ranged) (g .spelled) in
       let y : Years = h .0 in
-      rw (g .printed)
+      rw (g .given)
       (record {
         told = λ digits power e. rw (← same-digits (g .power) power (g .digits) digits e, ← same-power (g .power) power (g .digits) digits e, h .1) refl;
         exact = rw (h .1) (record { time = printed-is-years (g .digits) (g .power) y (h .1); proper = scaled-proper (g .digits) (g .power); same = printed-same (g .digits) (g .power) y (h .1) });
