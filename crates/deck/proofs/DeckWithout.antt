@@ -5,13 +5,14 @@ use native.Mathlib.Omega.{arith}
 use mathlib.Core.List.{List}
 use Rattle.deck.specs.Parts.{linesOf}
 use Rattle.cases.specs.Conditions.{Without, upTo}
+use Rattle.deck.specs.declared.kinds.Kind.{Kind}
 use Rattle.deck.specs.DeckConditions.{fieldConditions, fieldAt, lineConditionsAfter, lineConditions, conditions}
 use Rattle.sizes.specs.Sizes.{fieldsPerLine}
 use Rattle.slots.specs.declared.Sort.{Sort}
 use Rattle.cases.proofs.FirstMet.{without-append, without-upTo}
 
 -- ---- the deck's own
-field-without : (sort : Sort) (kind : ℕ) (line : List ℕ) (n f : ℕ) → Without 41 (fieldAt sort kind line n f)
+field-without : (sort : Sort) (kind : Kind) (line : List ℕ) (n f : ℕ) → Without 41 (fieldAt sort kind line n f)
 unfolding fieldAt fieldConditions
 field-without sort kind line n f = (λ e. omega arith, (λ e. omega arith, (λ e. omega arith, tt)))
 

@@ -20,11 +20,15 @@ use Rattle.slots.specs.declared.Sort.{Sort}
 use Rattle.spelling.specs.Columns.{within, leading}
 use Rattle.deck.specs.Parts.{linesOf, lineOf, fieldIn, fieldOf}
 use Rattle.spelling.specs.Spelling.{digitsOf, unspaced, signSpelled, exponentSpelled, endedOf, pointedOf, spelledOf, loneDash, wordOf, idIn}
-use Rattle.deck.specs.Kinds.{Follows, _after_, kindOf, start, S1, S2, C1, R1, EN, kindOrder, befores, among, kinds, rulesIn, rulesOf}
+use Rattle.deck.specs.Kinds.{kindIn, kindOf, isLine, isLast, isEnd, mayBegin, mayFollow, rulesOf}
+use Rattle.slots.specs.declared.Owner.the-variants.{Site, Chemical, Receptor}
+use Rattle.deck.specs.declared.kinds.Kind.{Kind}
+use Rattle.deck.specs.declared.kinds.Kind.the-variants.{Start, Line, End, Other}
+use Rattle.deck.specs.declared.lines.Seen.{Seen}
 use Rattle.powers.specs.Powers.{above, below}
 use Rattle.cases.specs.Ranges.{valueAtMost, valueAtLeast, withinBounds, isYearOf, isYear, inRange}
 use Rattle.cases.specs.Conditions.{Condition, at, first, upTo}
-use Rattle.deck.specs.DeckConditions.{misspelled, misplaced, outOfRange, fieldConditions, fieldAt, badBytes, badKind, idOf, wrongId, badId, lineConditionsAfter, countOf, lineConditions, maxLength, badLength, noEnd, conditions}
+use Rattle.deck.specs.DeckConditions.{misspelled, misplaced, outOfRange, fieldConditions, fieldAt, badBytes, badKind, idOf, wrongId, badId, lineConditionsAfter, seenWith, seenIn, lineConditions, maxLength, badLength, noEnd, conditions}
 use Rattle.lists.specs.Lists.{tabulate}
 use Rattle.deck.specs.DeckCase.{valueOf, slotSpelled, recordOf, recordsOf, caseWith, caseOf}
 use Rattle.cases.specs.Cases.{noSlot, noRecord, valueAt, guidanceOf, clearYear, caseWithoutYear}
@@ -43,8 +47,8 @@ use Rattle.deck.proofs.PartLaws.{line-is}
 use Rattle.lists.proofs.Tabulated.{length-tabulate, filled-at, tabulate-same}
 use Rattle.deck.proofs.SpelledWords.{choose}
 use Rattle.cases.proofs.FirstMet.{orElse, first-append, upTo-each}
-use Rattle.deck.proofs.Scan.{line-read}
-use Rattle.deck.proofs.LinePlaces.{may-follow}
+use Rattle.deck.proofs.Scan.{line-read, may-follow}
+use Rattle.deck.proofs.KindLaws.{is-line}
 use Rattle.lists.proofs.ListLaws.{drop-take}
 
 module _ (n : ℕ) (s t : List ℕ) (e : take n s ≡ take n t) where
@@ -185,7 +189,7 @@ module _ (l m : List ℕ) (b : Blanked l m) where
   kind-same =
       let p = same-byte 68 m l (b .front) 0 (lit≤ tt) in
       let q = same-byte 68 m l (b .front) 1 (lit≤ tt) in
-      λ i. 256 * p i + q i
+      λ i. kindIn (p i) (q i)
 
   id-same : idOf m ≡ idOf l
   unfolding idOf
@@ -288,7 +292,7 @@ module _ (deck : List ℕ) (long : 162 ≤ length deck) where
         ∙ sym (drop-take 80 1 (drop 81 deck)));
   }
 
-  -- each line's kind and id, and so the counts
+  -- each line's kind and id, and so what is seen
   kinds-same : (n : ℕ) → kindOf (lineOf (withoutYear deck) n) ≡ kindOf (lineOf deck n)
   kinds-same =
       by-line (λ n. kindOf (lineOf (withoutYear deck) n) ≡ kindOf (lineOf deck n))
@@ -299,13 +303,14 @@ module _ (deck : List ℕ) (long : 162 ≤ length deck) where
       by-line (λ n. idOf (lineOf (withoutYear deck) n) ≡ idOf (lineOf deck n))
       (id-same (lineOf deck 2) (lineOf (withoutYear deck) 2) second-blanked) (λ n h. ap idOf (line-same n h))
 
-  counts-same : (kind n : ℕ) → countOf (withoutYear deck) kind n ≡ countOf deck kind n
-  unfolding countOf
-  counts-same kind zero = refl
-  counts-same kind (suc n) =
+  seen-same : (n : ℕ) → seenIn (withoutYear deck) n ≡ seenIn deck n
+  unfolding seenIn
+  seen-same zero = refl
+  seen-same (suc n) =
+      let s = seen-same n in
       let k = kinds-same (suc n) in
-      let c = counts-same kind n in
-      λ i. cond (eqb (k i) kind) (suc (c i)) (c i)
+      let d = ids-same (suc n) in
+      λ i. seenWith (s i) (k i) (d i)
 
 module _ {A : Type 0} (f : ℕ → A) (n : ℕ) (rest : List A) where
   tabulate-last : tabulate (suc n) f ++ rest ≡ tabulate n f ++ (f n ∷ rest)
@@ -360,16 +365,12 @@ module _ (deck : List ℕ) (long : 162 ≤ length deck) where
       let rs = records-same (3 + 4 * c) r 8 (omega arith) in
       λ i. record { site = site-cleared i; chemicals = record { count = c; records = cs i }; receptors = record { count = r; records = rs i } }
 
-  all-counted : (kind : ℕ) → countOf (withoutYear deck) kind (linesOf (withoutYear deck)) ≡ countOf deck kind (linesOf deck)
-  all-counted kind = ap (countOf (withoutYear deck) kind) (lines-same deck long) ∙ counts-same deck long kind (linesOf deck)
-
 -- the case of a deck without its year is the deck's case without its year
 pub case-without : (deck : List ℕ) → 162 ≤ length deck → caseOf (withoutYear deck) ≡ caseWithoutYear (caseOf deck)
 unfolding caseOf
 case-without deck long =
-    let c = all-counted deck long C1 in
-    let r = all-counted deck long R1 in
-    (λ i. caseWith (withoutYear deck) (c i) (r i)) ∙ case-with deck long (countOf deck C1 (linesOf deck)) (countOf deck R1 (linesOf deck))
+    let s = ap (seenIn (withoutYear deck)) (lines-same deck long) ∙ seen-same deck long (linesOf deck) in
+    (λ i. caseWith (withoutYear deck) (s i .chemicals) (s i .receptors)) ∙ case-with deck long (seenIn deck (linesOf deck) .chemicals) (seenIn deck (linesOf deck) .receptors)
 
 -- ---- the first condition of two lists, where those before it agree
 same-next : (s t u : Status) → (s ≡ Passed → t ≡ u) → orElse s t ≡ orElse s u
@@ -391,35 +392,30 @@ same-else : (b : Bool) (s t u : Status) → (b ≡ false → t ≡ u) → cond b
 same-else true s t u h = refl
 same-else false s t u h = h refl
 
--- ---- the one kind that may follow another: in every row that names a, the kind is k
-only : ℕ → ℕ → List Follows → Bool
-only a k [] = true
-only a k ((j after js) ∷ rest) = cond (among a js) (eqb j k) true && only a k rest
+-- ---- the one kind that may follow the start, and the site's first line
+after-start : (k : Kind) → mayFollow Start k ≡ true → k ≡ Line Site 0
+unfolding mayFollow mayBegin isLast isLine
+after-start (Line Site zero) h = refl
+after-start (Line Chemical zero) h = absurd (false≢true h)
+after-start (Line Receptor zero) h = absurd (false≢true h)
+after-start (Line o (suc n)) h = absurd (false≢true h)
+after-start Start h = absurd (false≢true h)
+after-start End h = absurd (false≢true h)
+after-start Other h = absurd (false≢true h)
 
-only-row : (a k c j : ℕ) (js ks : List ℕ) (t u : Bool) → eqb c j ≡ t → among a js ≡ u → cond u (eqb j k) true ≡ true → (among a ks ≡ true → c ≡ k)
-    → among a (cond t js ks) ≡ true → c ≡ k
-only-row a k c j js ks true true e f g q h = eqb-true c j e ∙ eqb-true j k g
-only-row a k c j js ks true false e f g q h = absurd (false≢true (sym f ∙ h))
-only-row a k c j js ks false u e f g q h = q h
-
-only-kind : (a k c : ℕ) (rows : List Follows) → only a k rows ≡ true → among a (befores rows c) ≡ true → c ≡ k
-unfolding only befores among
-only-kind a k c [] o h = absurd (false≢true h)
-only-kind a k c ((j after js) ∷ rest) o h =
-    let p = both (cond (among a js) (eqb j k) true) (only a k rest) o in
-    only-row a k c j js (befores rest c) (eqb c j) (among a js) refl refl (p .0) (only-kind a k c rest (p .1)) h
-
-after-start : (c : ℕ) → among start (befores kindOrder c) ≡ true → c ≡ S1
-unfolding only kindOrder among
-after-start c h = only-kind start S1 c kindOrder refl h
-
-after-first : (c : ℕ) → among S1 (befores kindOrder c) ≡ true → c ≡ S2
-unfolding only kindOrder among
-after-first c h = only-kind S1 S2 c kindOrder refl h
+after-first : (k : Kind) → mayFollow (Line Site 0) k ≡ true → k ≡ Line Site 1
+unfolding mayFollow mayBegin isLast isLine
+after-first (Line Site zero) h = absurd (false≢true h)
+after-first (Line Chemical zero) h = absurd (false≢true h)
+after-first (Line Receptor zero) h = absurd (false≢true h)
+after-first (Line o (suc n)) h = let e = is-line o n (Line Site 0) h in cc
+after-first Start h = absurd (false≢true h)
+after-first End h = absurd (false≢true h)
+after-first Other h = absurd (false≢true h)
 
 -- ---- no condition of the year's field holds
-year-rule : (sort : Sort) → getD (rulesOf sort S2) 5 unused ≡ guidanceYear
-unfolding rulesOf rulesIn kinds lineRules ruleAt ruleIn table
+year-rule : (sort : Sort) → getD (rulesOf sort (Line Site 1)) 5 unused ≡ guidanceYear
+unfolding lineRules ruleAt ruleIn table
 year-rule sort = refl
 
 module _ (digits : ℕ) (z : ℤ) (e : digits * 10 ^ above z ≡ 2005 * 10 ^ below z) where
@@ -454,51 +450,51 @@ year-read Dash n f h = absurd (false≢true h)
 year-read (Number digits power) n f h = simp (year-in digits power h)
 year-read Other n f h = absurd (false≢true h)
 
--- ---- the second line, after a line of kind S1: past 21 it is of kind S2, so it is no EN and its sixth field is the year's
-module _ (sort : Sort) (idBefore chemicals receptors : ℕ) (l m : List ℕ) (b : Blanked l m) (y : is2005 (wordOf (fieldIn l 6)) ≡ true) where
-  sixth-read : (s : List ℕ) → is2005 (wordOf (fieldIn s 6)) ≡ true → first (fieldAt sort S2 s 2 6) ≡ Passed
+-- ---- the second line, after the site's first: past 21 it is the site's second, so it is no EN and its sixth field is the year's
+module _ (sort : Sort) (seen : Seen) (l m : List ℕ) (b : Blanked l m) (y : is2005 (wordOf (fieldIn l 6)) ≡ true) where
+  sixth-read : (s : List ℕ) → is2005 (wordOf (fieldIn s 6)) ≡ true → first (fieldAt sort (Line Site 1) s 2 6) ≡ Passed
   unfolding fieldAt
   sixth-read s h = rw (year-rule sort) (year-read (wordOf (fieldIn s 6)) 2 6 h)
 
-  field-agrees : (k : ℕ) → k < 6 → first (fieldAt sort S2 m 2 (suc k)) ≡ first (fieldAt sort S2 l 2 (suc k))
+  field-agrees : (k : ℕ) → k < 6 → first (fieldAt sort (Line Site 1) m 2 (suc k)) ≡ first (fieldAt sort (Line Site 1) l 2 (suc k))
   unfolding fieldAt is2005
   field-agrees k h =
       ⊎-elim
       (λ q.
-      subst (λ (n : ℕ). first (fieldAt sort S2 m 2 (suc n)) ≡ first (fieldAt sort S2 l 2 (suc n))) (sym q)
+      subst (λ (n : ℕ). first (fieldAt sort (Line Site 1) m 2 (suc n)) ≡ first (fieldAt sort (Line Site 1) l 2 (suc n))) (sym q)
       (sixth-read m (ap is2005 (sixth-blank l m b)) ∙ sym (sixth-read l y)))
-      (λ g. ap (λ (s : List ℕ). first (fieldConditions (getD (rulesOf sort S2) (suc k - 1) unused) (wordOf s) 2 (suc k))) (field-same l m b (suc k) g))
+      (λ g. ap (λ (s : List ℕ). first (fieldConditions (getD (rulesOf sort (Line Site 1)) (suc k - 1) unused) (wordOf s) 2 (suc k))) (field-same l m b (suc k) g))
       (eq-or-lt-of-le (le-of-suc-le-suc h))
 
-  id-agrees : badId S1 idBefore S2 m ≡ badId S1 idBefore S2 l
+  id-agrees : badId seen (Line Site 1) m ≡ badId seen (Line Site 1) l
   unfolding badId
-  id-agrees = ap (wrongId S1 idBefore S2) (id-same l m b)
+  id-agrees = ap (wrongId seen (Line Site 1)) (id-same l m b)
 
-  kind-agrees : (k : ℕ) → k ≡ S2
-      → cond (badId S1 idBefore k m) (Stopped 22 2 0) (first (upTo (fieldAt sort k m 2) 6))
-      ≡ cond (badId S1 idBefore k l) (Stopped 22 2 0) (first (upTo (fieldAt sort k l 2) 6))
+  kind-agrees : (k : Kind) → k ≡ Line Site 1
+      → cond (badId seen k m) (Stopped 22 2 0) (first (upTo (fieldAt sort k m 2) 6))
+      ≡ cond (badId seen k l) (Stopped 22 2 0) (first (upTo (fieldAt sort k l 2) 6))
   kind-agrees k e =
-      let f = same-upTo (fieldAt sort S2 m 2) (fieldAt sort S2 l 2) 6 (λ j h r. field-agrees j h) in
+      let f = same-upTo (fieldAt sort (Line Site 1) m 2) (fieldAt sort (Line Site 1) l 2) 6 (λ j h r. field-agrees j h) in
       subst
-      (λ (n : ℕ).
-      cond (badId S1 idBefore n m) (Stopped 22 2 0) (first (upTo (fieldAt sort n m 2) 6))
-      ≡ cond (badId S1 idBefore n l) (Stopped 22 2 0) (first (upTo (fieldAt sort n l 2) 6)))
+      (λ (n : Kind).
+      cond (badId seen n m) (Stopped 22 2 0) (first (upTo (fieldAt sort n m 2) 6))
+      ≡ cond (badId seen n l) (Stopped 22 2 0) (first (upTo (fieldAt sort n l 2) 6)))
       (sym e) (λ i. cond (id-agrees i) (Stopped 22 2 0) (f i))
 
-  second-agrees : length l ≡ 81
-      → first (lineConditionsAfter sort S1 idBefore chemicals receptors m 2) ≡ first (lineConditionsAfter sort S1 idBefore chemicals receptors l 2)
+  second-agrees : length l ≡ 81 → seen .kind ≡ Line Site 0
+      → first (lineConditionsAfter sort seen m 2) ≡ first (lineConditionsAfter sort seen l 2)
   unfolding first lineConditionsAfter
-  second-agrees long =
+  second-agrees long before =
       let p = bytes-same l m b long (plain-2005 (fieldIn l 6) y) in
       let k = kind-same l m b in
       (λ i.
       cond (p i) (Stopped 12 2 0)
-      (cond (badKind sort S1 (k i) chemicals receptors) (Stopped 21 2 0)
-      (cond (badId S1 idBefore (k i) m) (Stopped 22 2 0) (first (upTo (fieldAt sort (k i) m 2) 6)))))
+      (cond (badKind sort seen (k i)) (Stopped 21 2 0)
+      (cond (badId seen (k i) m) (Stopped 22 2 0) (first (upTo (fieldAt sort (k i) m 2) 6)))))
       ∙ same-else (badBytes l) (Stopped 12 2 0) _ _
       (λ u.
-      same-else (badKind sort S1 (kindOf l) chemicals receptors) (Stopped 21 2 0) _ _
-      (λ v. kind-agrees (kindOf l) (after-first (kindOf l) (may-follow sort S1 (kindOf l) chemicals receptors v))))
+      same-else (badKind sort seen (kindOf l)) (Stopped 21 2 0) _ _
+      (λ v. kind-agrees (kindOf l) (after-first (kindOf l) (subst (λ (x : Kind). mayFollow x (kindOf l) ≡ true) before (may-follow sort seen (kindOf l) v)))))
 
 -- ---- the deck's conditions
 in-order : (sort : Sort) (s : List ℕ) → first (conditions sort s)
@@ -507,31 +503,20 @@ unfolding first conditions
 in-order sort s = ap (λ (t : Status). cond (badLength sort s) (Stopped 11 0 0) t) (first-append (upTo (lineConditions sort s) (linesOf s)) (at 21 (linesOf s + 1) 0 (noEnd s) ∷ []))
 
 module _ (sort : Sort) (deck : List ℕ) (long : 162 ≤ length deck) (y : is2005 (yearWord deck) ≡ true) where
-  no-line : kindOf (lineOf deck 0) ≡ start
-  unfolding kindOf lineOf within
-  no-line = refl
-
-  first-kind : first (upTo (lineConditions sort deck) 1) ≡ Passed → kindOf (lineOf deck 1) ≡ S1
-  unfolding lineConditions
+  first-kind : first (upTo (lineConditions sort deck) 1) ≡ Passed → seenIn deck 1 .kind ≡ Line Site 0
+  unfolding lineConditions seenIn seenWith
   first-kind e =
-      let r = line-read sort (kindOf (lineOf deck 0)) (idOf (lineOf deck 0)) (countOf deck C1 0) (countOf deck R1 0) 1 (lineOf deck 1) (upTo-each (lineConditions sort deck) 1 e 0 (lit≤ tt)) in
-      after-start (kindOf (lineOf deck 1))
-      (subst (λ (k : ℕ). among k (befores kindOrder (kindOf (lineOf deck 1))) ≡ true) no-line (may-follow sort _ _ _ _ (r .kind)))
+      let r = line-read sort (seenIn deck 0) 1 (lineOf deck 1) (upTo-each (lineConditions sort deck) 1 e 0 (lit≤ tt)) in
+      after-start (kindOf (lineOf deck 1)) (may-follow sort (seenIn deck 0) (kindOf (lineOf deck 1)) (r .kind))
 
   sixth-2005 : is2005 (wordOf (fieldIn (lineOf deck 2) 6)) ≡ true
   unfolding yearWord fieldOf
   sixth-2005 = y
 
   -- line n as it stands in the deck without its year, after the lines of the deck
-  carried : (n : ℕ) → lineConditions sort (withoutYear deck) n
-      ≡ lineConditionsAfter sort (kindOf (lineOf deck (n - 1))) (idOf (lineOf deck (n - 1))) (countOf deck C1 (n - 1)) (countOf deck R1 (n - 1)) (lineOf (withoutYear deck) n) n
+  carried : (n : ℕ) → lineConditions sort (withoutYear deck) n ≡ lineConditionsAfter sort (seenIn deck (n - 1)) (lineOf (withoutYear deck) n) n
   unfolding lineConditions
-  carried n =
-      let k = kinds-same deck long (n - 1) in
-      let d = ids-same deck long (n - 1) in
-      let c = counts-same deck long C1 (n - 1) in
-      let r = counts-same deck long R1 (n - 1) in
-      λ i. lineConditionsAfter sort (k i) (d i) (c i) (r i) (lineOf (withoutYear deck) n) n
+  carried n = ap (λ (s : Seen). lineConditionsAfter sort s (lineOf (withoutYear deck) n) n) (seen-same deck long (n - 1))
 
   line-agrees : (n : ℕ) → first (upTo (lineConditions sort deck) (n - 1)) ≡ Passed → first (lineConditions sort (withoutYear deck) n) ≡ first (lineConditions sort deck n)
   unfolding lineConditions
@@ -539,15 +524,8 @@ module _ (sort : Sort) (deck : List ℕ) (long : 162 ≤ length deck) (y : is200
       by-line (λ n. first (upTo (lineConditions sort deck) (n - 1)) ≡ Passed → first (lineConditions sort (withoutYear deck) n) ≡ first (lineConditions sort deck n))
       (λ e.
       ap first (carried 2)
-      ∙ subst
-      (λ (k : ℕ).
-      first (lineConditionsAfter sort k (idOf (lineOf deck 1)) (countOf deck C1 1) (countOf deck R1 1) (lineOf (withoutYear deck) 2) 2)
-      ≡ first (lineConditionsAfter sort k (idOf (lineOf deck 1)) (countOf deck C1 1) (countOf deck R1 1) (lineOf deck 2) 2))
-      (sym (first-kind e))
-      (second-agrees sort (idOf (lineOf deck 1)) (countOf deck C1 1) (countOf deck R1 1) (lineOf deck 2) (lineOf (withoutYear deck) 2) (second-blanked deck long) sixth-2005 (second-length deck long)))
-      (λ n h e.
-      ap first (carried n)
-      ∙ ap (λ (l : List ℕ). first (lineConditionsAfter sort (kindOf (lineOf deck (n - 1))) (idOf (lineOf deck (n - 1))) (countOf deck C1 (n - 1)) (countOf deck R1 (n - 1)) l n)) (line-same deck long n h))
+      ∙ second-agrees sort (seenIn deck 1) (lineOf deck 2) (lineOf (withoutYear deck) 2) (second-blanked deck long) sixth-2005 (second-length deck long) (first-kind e))
+      (λ n h e. ap first (carried n) ∙ ap (λ (l : List ℕ). first (lineConditionsAfter sort (seenIn deck (n - 1)) l n)) (line-same deck long n h))
 
   lines-agree : (m : ℕ) → first (upTo (lineConditions sort (withoutYear deck)) m) ≡ first (upTo (lineConditions sort deck) m)
   lines-agree m =
@@ -556,7 +534,7 @@ module _ (sort : Sort) (deck : List ℕ) (long : 162 ≤ length deck) (y : is200
 
   end-agrees : noEnd (withoutYear deck) ≡ noEnd deck
   unfolding noEnd
-  end-agrees = ap (λ (k : ℕ). not (eqb k EN)) (ap (λ (n : ℕ). kindOf (lineOf (withoutYear deck) n)) (lines-same deck long) ∙ kinds-same deck long (linesOf deck))
+  end-agrees = ap (λ (k : Kind). not (isEnd k)) (ap (λ (n : ℕ). kindOf (lineOf (withoutYear deck) n)) (lines-same deck long) ∙ kinds-same deck long (linesOf deck))
 
   length-agrees : badLength sort (withoutYear deck) ≡ badLength sort deck
   unfolding badLength

@@ -1,11 +1,11 @@
 -- Slot 12, the year (document 02, P6), and a deck and a case as they would be with that slot blank, as every deck before P6 had it.
 -- Assumes nothing.
-use Prim.Native.Nat.{ℕ}
+use Prim.Native.Nat.{ℕ, _+_, _*_, _-_}
 use mathlib.Core.Bool.{Bool, true, false}
 use mathlib.Core.List.{List, _++_}
 use lib.ListN.{take, drop, replicate}
 use Rattle.spelling.specs.Columns.{fieldWidth}
-use Rattle.deck.specs.Parts.{fieldOf}
+use Rattle.deck.specs.Parts.{deckLineWidth, columns, fieldOf}
 use Rattle.spelling.specs.Spelling.{wordOf}
 use Rattle.sizes.specs.Sizes.{siteLines, fieldsPerLine}
 use Rattle.cases.specs.Ranges.{isYearOf}
@@ -24,6 +24,10 @@ is2005 Dash = false
 is2005 (Number digits power) = isYearOf Of2005 digits power
 is2005 Other = false
 
--- the deck with spaces in its twelve columns, after the 81 bytes of a line, 8 columns and five fields
+-- the bytes before it: a line, and of the next all columns but the last field's
+abbrev pub yearStart : ℕ
+yearStart = deckLineWidth * (siteLines - 1) + (columns - fieldWidth)
+
+-- the deck with spaces in its columns
 unfoldable pub withoutYear : List ℕ → List ℕ
-withoutYear deck = take 149 deck ++ (replicate fieldWidth 32 ++ drop 161 deck)
+withoutYear deck = take yearStart deck ++ (replicate fieldWidth 32 ++ drop (yearStart + fieldWidth) deck)

@@ -10,7 +10,9 @@ use lib.IntN.{ℤ, subℕ}
 use Rattle.spelling.specs.Columns.{leading}
 use Rattle.deck.specs.Parts.{fieldIn, fieldOf}
 use Rattle.spelling.specs.Spelling.{wordOf}
-use Rattle.sizes.specs.Sizes.{maxChemicals, mostStages, siteLines, recordLines, fieldsPerLine}
+use Rattle.deck.specs.DeckConditions.{maxLines}
+use Rattle.sizes.specs.Sizes.{fieldsPerLine}
+use Rattle.slots.specs.declared.Sort.the-variants.{Composite}
 use Rattle.powers.specs.Powers.{above, below}
 use Rattle.cases.specs.Ranged.{Spelled}
 use Rattle.lists.specs.Lists.{tabulate}
@@ -56,7 +58,7 @@ packedAt deck i = packedOf (wordOf (fieldOf deck (i / fieldsPerLine + 1) (i % fi
 
 -- the fields of the longest deck
 abbrev pub maxFields : ℕ
-maxFields = fieldsPerLine * (siteLines + recordLines * (maxChemicals + mostStages) + 1)
+maxFields = fieldsPerLine * maxLines Composite
 
 -- all of a deck's; those that it lacks have no value
 unfoldable pub packedFields : List ℕ → List ℕ
