@@ -72,12 +72,12 @@ record-at : (deck : List ℕ) (n count room i : ℕ) → i < count → getD (rec
 unfolding recordsOf
 record-at deck n count room i h = filled-at (λ j. recordOf deck (n + recordLines * j) recordLines) noRecord count (replicate (room - count) noRecord) i h
 
--- the places of an owner's slots are those of its lines
-places-are : (o : Owner) → places o ≡ ownerLines o * fieldsPerLine
+-- an owner's slots stand in its lines
+places-in : (o : Owner) → places o ≤ ownerLines o * fieldsPerLine
 unfolding places
-places-are Site = refl
-places-are Chemical = refl
-places-are Receptor = refl
+places-in Site = omega arith
+places-in Chemical = omega arith
+places-in Receptor = omega arith
 
 -- ---- the law
 module _ (sort : Sort) (deck : List ℕ) (e : first (conditions sort deck) ≡ Passed) where
@@ -105,7 +105,7 @@ module _ (sort : Sort) (deck : List ℕ) (e : first (conditions sort deck) ≡ P
   unfolding valueAt
   value-fits o i k h p r g =
       let n = begin o (seenIn deck (linesOf deck) .chemicals) i in
-      let b : k < ownerLines o * fieldsPerLine = omega (arith, places-are o) in
+      let b : k < ownerLines o * fieldsPerLine = omega (arith, places-in o) in
       let j : k / fieldsPerLine < ownerLines o = omega arith in
       subst (λ (x : Filled). Fits (ruleAt sort o k) (x .value)) (sym (ap (λ (x : Record). getD (x .slots) k noSlot) g ∙ record-slot deck n (ownerLines o) k b))
       (slot-fits o n k (begin-some o _ i) (omega (arith, line-inside sort deck e o i (k / fieldsPerLine) h j)) (kind-of sort deck e o i (k / fieldsPerLine) h j))

@@ -12,7 +12,7 @@ use Rattle.slots.specs.declared.Owner.{Owner}
 use Rattle.slots.specs.declared.Owner.the-variants.{Site, Chemical, Receptor}
 use Rattle.deck.specs.declared.kinds.Kind.{Kind}
 use Rattle.deck.specs.declared.kinds.Kind.the-variants.{Start, Line, End, Other}
-use Rattle.deck.specs.Kinds.{letter, ownerLines, firstDigit, numbered, kindIn, kindOf, isLine, isStart, isEnd, mayBegin, mayFollow}
+use Rattle.deck.specs.Kinds.{letter, ownerLines, firstDigit, numbered, spellsEnd, kindIn, kindOf, isLine, isStart, isEnd, mayBegin, mayFollow}
 use Rattle.lists.proofs.Booleans.{both}
 
 -- ---- the bytes of a kind
@@ -37,7 +37,7 @@ module _ (a b : ℕ) where
   of-owner Chemical e = simp (ne-eqb a (letter Site) (λ q. omega arith), eq-eqb a (letter Chemical) e)
   of-owner Receptor e = simp (ne-eqb a (letter Site) (λ q. omega arith), ne-eqb a (letter Chemical) (λ q. omega arith), eq-eqb a (letter Receptor) e)
 
-  pub of-none : (a ≡ letter Site → ⊥) → (a ≡ letter Chemical → ⊥) → (a ≡ letter Receptor → ⊥) → cond (eqb a 69 && eqb b 78) End Other ≡ kindIn a b
+  pub of-none : (a ≡ letter Site → ⊥) → (a ≡ letter Chemical → ⊥) → (a ≡ letter Receptor → ⊥) → cond (spellsEnd a b) End Other ≡ kindIn a b
   unfolding kindIn
   of-none s c r = simp (ne-eqb a (letter Site) s, ne-eqb a (letter Chemical) c, ne-eqb a (letter Receptor) r)
 
@@ -126,4 +126,4 @@ kind-within line =
     let b = getD line 1 0 in
     within-cond (eqb a (letter Site)) _ _ (λ t. within-numbered Site b)
     (within-cond (eqb a (letter Chemical)) _ _ (λ t. within-numbered Chemical b)
-    (within-cond (eqb a (letter Receptor)) _ _ (λ t. within-numbered Receptor b) (within-cond (eqb a 69 && eqb b 78) End Other (λ t. tt) tt)))
+    (within-cond (eqb a (letter Receptor)) _ _ (λ t. within-numbered Receptor b) (within-cond (spellsEnd a b) End Other (λ t. tt) tt)))

@@ -19,7 +19,7 @@ use Rattle.sizes.specs.Sizes.{fieldsPerLine}
 use Rattle.slots.specs.declared.Sort.the-variants.{Composite}
 use Rattle.deck.specs.DeckConditions.{maxLines}
 use Rattle.deck.specs.DeckCase.{valueOf, slotSpelled}
-use Rattle.deck.specs.Inner.{Small, packedOf, unpackedOf, packedIn, packedAt, maxFields, packedFields}
+use Rattle.deck.specs.Inner.{Small, powers, noPower, packedOf, unpackedOf, packedIn, packedAt, maxFields, packedFields}
 use Rattle.cases.specs.declared.Filled.{Filled}
 use Rattle.cases.specs.declared.Value.{Value}
 use Rattle.spelling.specs.declared.Word.{Word}
@@ -30,21 +30,21 @@ use Rattle.lists.proofs.Tabulated.{length-tabulate, tabulated}
 use Rattle.deck.proofs.SpelledWords.{field-small}
 
 -- ---- a value
-power-back : (p : ℤ) → above p ≤ 99 → below p ≤ 111 → subℕ (128 + above p - below p) 128 ≡ p
+power-back : (p : ℤ) → above p ≤ 99 → below p ≤ 111 → subℕ (noPower + above p - below p) noPower ≡ p
 unfolding above below
-power-back (pos n) h l = simp (le-ltb (128 + n - 0) 128 (omega arith)) (ap pos (omega arith))
-power-back (negsuc n) h l = simp (lt-ltb (128 + 0 - suc n) 128 (omega arith)) (ap negsuc (omega arith))
+power-back (pos n) h l = simp (le-ltb (noPower + n - 0) noPower (omega arith)) (ap pos (omega arith))
+power-back (negsuc n) h l = simp (lt-ltb (noPower + 0 - suc n) noPower (omega arith)) (ap negsuc (omega arith))
 
 unpacked-word : (w : Word) → Small w → unpackedOf (packedOf w) ≡ valueOf w
 unfolding unpackedOf packedOf valueOf
 unpacked-word Blank s = refl
 unpacked-word Dash s = refl
 unpacked-word (Number digits power) s =
-    let e = 128 + above power - below power in
-    let some : (256 * digits + e ≡ 0 → ⊥) = (λ q. omega (arith, s .low)) in
-    let d : (256 * digits + e) / 256 ≡ digits = omega (arith, s .high, s .low) in
-    let m : (256 * digits + e) % 256 ≡ e = omega (arith, s .high, s .low) in
-    simp (ne-eqb (256 * digits + e) 0 some, d, m, power-back power (s .high) (s .low))
+    let e = noPower + above power - below power in
+    let some : (powers * digits + e ≡ 0 → ⊥) = (λ q. omega (arith, s .low)) in
+    let d : (powers * digits + e) / powers ≡ digits = omega (arith, s .high, s .low) in
+    let m : (powers * digits + e) % powers ≡ e = omega (arith, s .high, s .low) in
+    simp (ne-eqb (powers * digits + e) 0 some, d, m, power-back power (s .high) (s .low))
 unpacked-word Other s = refl
 
 -- ---- a line's six values

@@ -13,7 +13,7 @@ use Rattle.slots.specs.declared.Guidance.the-variants.{Of2005}
 use Rattle.spelling.specs.declared.Word.{Word}
 use Rattle.spelling.specs.declared.Word.the-variants.{Blank, Dash, Number, Other}
 
--- what it holds: the sixth field of the site's second line
+-- what it holds: the last field of the site's last line
 unfoldable pub yearWord : List ℕ → Word
 yearWord deck = wordOf (fieldOf deck siteLines fieldsPerLine)
 
@@ -24,10 +24,16 @@ is2005 Dash = false
 is2005 (Number digits power) = isYearOf Of2005 digits power
 is2005 Other = false
 
--- the bytes before it: a line, and of the next all columns but the last field's
+-- the columns of its line before it, and the bytes of the deck before it and with it
+abbrev pub yearColumn : ℕ
+yearColumn = columns - fieldWidth
+
 abbrev pub yearStart : ℕ
-yearStart = deckLineWidth * (siteLines - 1) + (columns - fieldWidth)
+yearStart = deckLineWidth * (siteLines - 1) + yearColumn
+
+abbrev pub yearEnd : ℕ
+yearEnd = yearStart + fieldWidth
 
 -- the deck with spaces in its columns
 unfoldable pub withoutYear : List ℕ → List ℕ
-withoutYear deck = take yearStart deck ++ (replicate fieldWidth 32 ++ drop (yearStart + fieldWidth) deck)
+withoutYear deck = take yearStart deck ++ (replicate fieldWidth 32 ++ drop yearEnd deck)

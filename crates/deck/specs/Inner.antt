@@ -34,9 +34,15 @@ Small Dash = Unit {0}
 Small (Number digits power) = Spelled digits power
 Small Other = Unit {0}
 
--- 256 × the digits + 128 + the power, which lies from -111 to 99
+-- room for a power, which lies from -111 to 99, and what is added to it so that it is not below 0
+abbrev pub powers : ℕ
+powers = 256
+
+abbrev pub noPower : ℕ
+noPower = 128
+
 abbrev pub packedNumber : ℕ → ℤ → ℕ
-packedNumber digits power = 256 * digits + (128 + above power - below power)
+packedNumber digits power = powers * digits + (noPower + above power - below power)
 
 -- 0 where there is no value
 unfoldable pub packedOf : Word → ℕ
@@ -46,7 +52,7 @@ packedOf (Number digits power) = packedNumber digits power
 packedOf Other = 0
 
 unfoldable pub unpackedOf : ℕ → Value
-unpackedOf v = cond (eqb v 0) Absent (Given (subℕ (v % 256) 128) (v / 256))
+unpackedOf v = cond (eqb v 0) Absent (Given (subℕ (v % powers) noPower) (v / powers))
 
 -- field f, from 0, of a line
 unfoldable pub packedIn : List ℕ → ℕ → ℕ

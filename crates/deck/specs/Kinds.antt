@@ -36,13 +36,16 @@ firstDigit = 49
 unfoldable pub numbered : Owner → ℕ → Kind
 numbered o digit = cond (leb firstDigit digit && ltb (digit - firstDigit) (ownerLines o)) (Line o (digit - firstDigit)) Other
 
--- the kind that two bytes spell; E and N are 69 and 78
+abbrev pub spellsEnd : ℕ → ℕ → Bool
+spellsEnd a b = eqb a 69 && eqb b 78
+
+-- the kind that two bytes spell
 unfoldable pub kindIn : ℕ → ℕ → Kind
 kindIn a b =
     cond (eqb a (letter Site)) (numbered Site b)
     (cond (eqb a (letter Chemical)) (numbered Chemical b)
     (cond (eqb a (letter Receptor)) (numbered Receptor b)
-    (cond (eqb a 69 && eqb b 78) End Other)))
+    (cond (spellsEnd a b) End Other)))
 
 -- columns 1-2
 unfoldable pub kindOf : List ℕ → Kind
