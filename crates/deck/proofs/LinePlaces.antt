@@ -19,7 +19,7 @@ use Rattle.deck.specs.Parts.{linesOf, lineOf}
 use Rattle.deck.specs.Kinds.{ownerLines, kindOf, isLine, isLast, isEnd, mayBegin, mayFollow}
 use Rattle.cases.specs.Cases.{maxReceptors}
 use Rattle.cases.specs.Conditions.{at, first, upTo}
-use Rattle.deck.specs.DeckConditions.{badLength, noEnd, lineConditionsAfter, counted, seenWith, seenIn, lineConditions, conditions}
+use Rattle.deck.specs.DeckConditions.{badLength, noEnd, lineConditionsAfter, begunWith, seenWith, seenIn, lineConditions, conditions}
 use Rattle.deck.specs.DeckCase.{chemicalsStart}
 use Rattle.cases.specs.declared.Status.the-variants.{Passed}
 use Rattle.lists.proofs.Booleans.{and-false}
@@ -28,9 +28,9 @@ use Rattle.deck.proofs.KindLaws.{Within, kind-within, is-line, is-start
 use Rattle.deck.proofs.Scan.{LineRead, line-read, end-seen, may-follow, few-chemicals, few-receptors}
 
 -- a later line of a record begins none
-not-counted : (o p : Owner) (m c : ℕ) → counted o (Line p (suc m)) c ≡ c
-unfolding counted isLine
-not-counted o p m c = simp (eqb·zero-suc m, and-false)
+not-begun : (o p : Owner) (m c : ℕ) → begunWith o (Line p (suc m)) c ≡ c
+unfolding begunWith isLine
+not-begun o p m c = simp (eqb·zero-suc m, and-false)
 
 -- ---- where line n stands, of this kind, after c chemicals and r receptors began, of which there may be most
 abbrev Stands : ℕ → ℕ → Kind → ℕ → ℕ → Type 0
@@ -54,16 +54,16 @@ module _ (most n : ℕ) (before : Kind) (c r : ℕ) (s : Stands most n before c 
   is-after o p false e h f g = g (is-before p (ownerLines p - 1) h)
 
   -- from a line to the next
-  step : (k : Kind) → mayFollow before k ≡ true → Within k → counted Chemical k c ≤ maxChemicals → counted Receptor k r ≤ most
-      → Stands most (suc n) k (counted Chemical k c) (counted Receptor k r)
-  unfolding mayFollow mayBegin isLast isLine counted
+  step : (k : Kind) → mayFollow before k ≡ true → Within k → begunWith Chemical k c ≤ maxChemicals → begunWith Receptor k r ≤ most
+      → Stands most (suc n) k (begunWith Chemical k c) (begunWith Receptor k r)
+  unfolding mayFollow mayBegin isLast isLine begunWith
   step Start h w p q = absurd (false≢true h)
   step (Line Site zero) h w p q = let b = subst (λ (k : Kind). Stands most n k c r) (is-start before h) s in omega arith
   step (Line Chemical zero) h w p q = is-after Site Chemical (isLast Site before) refl h (λ b. omega arith) (λ b. omega arith)
   step (Line Receptor zero) h w p q = is-after Chemical Receptor (isLast Chemical before) refl h (λ b. omega arith) (λ b. omega arith)
-  step (Line Site (suc m)) h w p q = let b = is-before Site m h in omega (arith, not-counted Chemical Site m c, not-counted Receptor Site m r)
-  step (Line Chemical (suc m)) h w p q = let b = is-before Chemical m h in omega (arith, not-counted Chemical Chemical m c, not-counted Receptor Chemical m r)
-  step (Line Receptor (suc m)) h w p q = let b = is-before Receptor m h in omega (arith, not-counted Chemical Receptor m c, not-counted Receptor Receptor m r)
+  step (Line Site (suc m)) h w p q = let b = is-before Site m h in omega (arith, not-begun Chemical Site m c, not-begun Receptor Site m r)
+  step (Line Chemical (suc m)) h w p q = let b = is-before Chemical m h in omega (arith, not-begun Chemical Chemical m c, not-begun Receptor Chemical m r)
+  step (Line Receptor (suc m)) h w p q = let b = is-before Receptor m h in omega (arith, not-begun Chemical Receptor m c, not-begun Receptor Receptor m r)
   step End h w p q = let b = is-before Receptor (recordLines - 1) h in omega arith
   step Other h w p q = absurd (false≢true h)
 
@@ -77,17 +77,17 @@ all-few most n Other c r s = absurd s
 
 -- ---- counts only grow, and no chemical begins after a receptor
 module _ (most n : ℕ) where
-  grow : (k : Kind) (c r : ℕ) → Stands most n k (counted Chemical k c) (counted Receptor k r)
-      → (c ≤ counted Chemical k c) × (1 ≤ r → (c ≡ counted Chemical k c) × (1 ≤ counted Receptor k r))
-  unfolding counted isLine
+  grow : (k : Kind) (c r : ℕ) → Stands most n k (begunWith Chemical k c) (begunWith Receptor k r)
+      → (c ≤ begunWith Chemical k c) × (1 ≤ r → (c ≡ begunWith Chemical k c) × (1 ≤ begunWith Receptor k r))
+  unfolding begunWith isLine
   grow Start c r s = (omega arith, λ h. omega arith)
   grow (Line Site j) c r s = (omega arith, λ h. omega arith)
   grow (Line Chemical zero) c r s = (omega arith, λ h. absurd (omega arith))
   grow (Line Chemical (suc j)) c r s =
-      (omega (arith, not-counted Chemical Chemical j c), λ h. (sym (not-counted Chemical Chemical j c), omega (arith, not-counted Receptor Chemical j r)))
+      (omega (arith, not-begun Chemical Chemical j c), λ h. (sym (not-begun Chemical Chemical j c), omega (arith, not-begun Receptor Chemical j r)))
   grow (Line Receptor zero) c r s = (omega arith, λ h. omega arith)
   grow (Line Receptor (suc j)) c r s =
-      (omega (arith, not-counted Chemical Receptor j c), λ h. (sym (not-counted Chemical Receptor j c), omega (arith, not-counted Receptor Receptor j r)))
+      (omega (arith, not-begun Chemical Receptor j c), λ h. (sym (not-begun Chemical Receptor j c), omega (arith, not-begun Receptor Receptor j r)))
   grow End c r s = (omega arith, λ h. omega arith)
   grow Other c r s = absurd s
 

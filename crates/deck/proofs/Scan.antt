@@ -22,7 +22,7 @@ use Rattle.deck.specs.declared.kinds.Kind.the-variants.{Start}
 use Rattle.deck.specs.declared.lines.Seen.{Seen}
 use Rattle.slots.specs.declared.Sort.the-variants.{Ordinary, Composite}
 use Rattle.cases.specs.Conditions.{Condition, at, first, upTo}
-use Rattle.deck.specs.DeckConditions.{fieldAt, badBytes, badKind, badId, idOf, lineConditionsAfter, counted, seenWith, seenIn, lineConditions, maxLength, badLength, noEnd}
+use Rattle.deck.specs.DeckConditions.{fieldAt, badBytes, badKind, badId, idOf, lineConditionsAfter, begunWith, seenWith, seenIn, lineConditions, maxLength, badLength, noEnd}
 use Rattle.cases.specs.declared.Status.{Status}
 use Rattle.cases.specs.declared.Status.the-variants.{Passed, Stopped}
 use Rattle.deck.proofs.PartLaws.{line-is}
@@ -69,12 +69,12 @@ module _ (sort : Sort) (seen : Seen) (kind : Kind) (e : badKind sort seen kind �
   pub may-follow : mayFollow (seen .kind) kind ≡ true
   may-follow = parts .0
 
-  pub few-chemicals : seen .chemicals ≤ maxChemicals → counted Chemical kind (seen .chemicals) ≤ maxChemicals
-  unfolding counted
+  pub few-chemicals : seen .chemicals ≤ maxChemicals → begunWith Chemical kind (seen .chemicals) ≤ maxChemicals
+  unfolding begunWith
   few-chemicals h = few-with (isLine Chemical 0 kind) (seen .chemicals) maxChemicals h (parts .1)
 
-  pub few-receptors : seen .receptors ≤ maxReceptors sort → counted Receptor kind (seen .receptors) ≤ maxReceptors sort
-  unfolding counted
+  pub few-receptors : seen .receptors ≤ maxReceptors sort → begunWith Receptor kind (seen .receptors) ≤ maxReceptors sort
+  unfolding begunWith
   few-receptors h = few-with (isLine Receptor 0 kind) (seen .receptors) (maxReceptors sort) h (parts .2)
 
 -- ---- what the code carries after n lines

@@ -90,8 +90,8 @@ lineConditionsAfter sort seen line n =
 
 -- ---- the deck
 -- one more where this kind begins a record of the owner
-unfoldable pub counted : Owner → Kind → ℕ → ℕ
-counted o kind n = cond (isLine o 0 kind) (suc n) n
+unfoldable pub begunWith : Owner → Kind → ℕ → ℕ
+begunWith o kind n = cond (isLine o 0 kind) (suc n) n
 
 -- with a line of this kind and id more
 unfoldable pub seenWith : Seen → Kind → ℕ → Seen
@@ -99,8 +99,8 @@ seenWith seen kind id =
     record {
       kind = kind;
       id = id;
-      chemicals = counted Chemical kind (seen .chemicals);
-      receptors = counted Receptor kind (seen .receptors);
+      chemicals = begunWith Chemical kind (seen .chemicals);
+      receptors = begunWith Receptor kind (seen .receptors);
     }
 
 -- what the lines 1 to n tell: the kind and id of the last, and how many chemicals and receptors began

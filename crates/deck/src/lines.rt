@@ -8,7 +8,7 @@ ghost use Rattle.deck.specs.Parts.{deckLineWidth, columns};
 ghost use Rattle.deck.specs.Kinds.{kindOf};
 ghost use Rattle.cases.specs.Cases.{maxReceptors};
 ghost use Rattle.cases.specs.Conditions.{first};
-ghost use Rattle.deck.specs.DeckConditions.{badBytes, badKind, idOf, wrongId, badId, lineConditionsAfter, maxLines, counted, seenWith};
+ghost use Rattle.deck.specs.DeckConditions.{badBytes, badKind, idOf, wrongId, badId, lineConditionsAfter, maxLines, begunWith, seenWith};
 ghost use Rattle.sizes.specs.Sizes.{fieldsPerLine, maxChemicals, mostStages};
 ghost use Rattle.lists.specs.Lists.{tabulate};
 ghost use Rattle.deck.specs.Inner.{Printable, packedIn};
@@ -167,9 +167,9 @@ pub(crate) fn line_status(
 }
 
 // One more where this kind begins a record of the owner.
-fn counted(owner: Owner, kind: Kind, n: usize) -> usize
+fn begun_with(owner: Owner, kind: Kind, n: usize) -> usize
     requires { ⌜ n ≤ maxLines Sort.Composite ⌝ }
-    ensures { λ r. ⌜ r ≡ counted owner kind n ⌝ }
+    ensures { λ r. ⌜ r ≡ begunWith owner kind n ⌝ }
 {
     if is_line(owner, 0, kind) {
         return n + 1;
@@ -183,8 +183,8 @@ impl Seen {
         requires { ⌜ (self .chemicals ≤ maxChemicals) × (self .receptors ≤ mostStages) ⌝ }
         ensures { λ r. ⌜ r ≡ seenWith self kind id ⌝ }
     {
-        let chemicals = counted(Owner::Chemical, kind, self.chemicals);
-        let receptors = counted(Owner::Receptor, kind, self.receptors);
+        let chemicals = begun_with(Owner::Chemical, kind, self.chemicals);
+        let receptors = begun_with(Owner::Receptor, kind, self.receptors);
         Seen {
             kind,
             id,
