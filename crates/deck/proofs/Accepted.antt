@@ -1,7 +1,7 @@
 -- Every value of an accepted case lies where the equations need it: a number that a field may spell, in its slot's range.
 -- Assumes nothing.
 use Prim.Native.Nat.{ℕ, zero, suc, _+_, _*_, _-_, _/_, _%_, _≤_, _<_}
-use native.Mathlib.Nat.{mod-lt}
+use native.Mathlib.Nat.{mod-lt, add-sub-cancel}
 use native.Mathlib.Omega.{arith}
 use mathlib.Core.Path.{_≡_, refl, sym, ap, _∙_, subst}
 use mathlib.Core.Bool.{Bool, true, false, not, _||_, true≢false}
@@ -33,7 +33,7 @@ use Rattle.cases.specs.declared.Record.{Record}
 use Rattle.spelling.specs.declared.Word.{Word}
 use Rattle.spelling.specs.declared.Word.the-variants.{Blank, Dash, Number, Other}
 use Rattle.cases.specs.declared.Status.the-variants.{Passed}
-use Rattle.cases.proofs.FirstMet.{first-read, upTo-each}
+use Rattle.cases.proofs.FirstMet.{first-read, chained-each}
 use Rattle.lists.proofs.Tabulated.{filled-at}
 use Rattle.deck.proofs.LinePlaces.{begin, records, begin-some, line-facts, counts, line-inside, kind-of}
 use Rattle.deck.proofs.SpelledWords.{field-small}
@@ -91,13 +91,11 @@ module _ (sort : Sort) (deck : List ℕ) (e : first (conditions sort deck) ≡ P
       let l = lineOf deck (n + k / fieldsPerLine) in
       let line : lineOf deck (suc m) ≡ l = ap (lineOf deck) (omega arith) in
       let r = subst (λ (x : List ℕ). first (upTo (fieldAt sort (kindOf x) x (suc m)) fieldsPerLine) ≡ Passed) line (line-facts sort deck e m (omega arith) .fields) in
-      let g = upTo-each (fieldAt sort (kindOf l) l (suc m)) fieldsPerLine r f (mod-lt k (lit< tt)) in
-      let i : suc f - 1 ≡ f = omega arith in
-      let rule : getD (rulesOf sort (kindOf l)) (suc f - 1) unused ≡ ruleAt sort o k =
-      ap (λ (x : ℕ). getD (rulesOf sort (kindOf l)) x unused) i ∙ ap (λ (x : Kind). getD (rulesOf sort x) f unused) q ∙ place-rule sort o k in
+      let g = chained-each (λ j. fieldAt sort (kindOf l) l (suc m) (j + 1)) fieldsPerLine r f (mod-lt k (lit< tt)) in
+      let rule : getD (rulesOf sort (kindOf l)) (f + 1 - 1) unused ≡ ruleAt sort o k =
+      ap (λ (x : ℕ). getD (rulesOf sort (kindOf l)) x unused) (add-sub-cancel f 1) ∙ ap (λ (x : Kind). getD (rulesOf sort x) f unused) q ∙ place-rule sort o k in
       subst (λ (x : Rule). Fits x (valueOf (wordOf (fieldIn l (f + 1))))) rule
-      (subst (λ (x : ℕ). Fits (getD (rulesOf sort (kindOf l)) (suc f - 1) unused) (valueOf (wordOf (fieldIn l x)))) (omega arith)
-      (field-fits (getD (rulesOf sort (kindOf l)) (suc f - 1) unused) (wordOf (fieldIn l (suc f))) (suc m) (suc f) (field-small l (suc f)) g))
+      (field-fits (getD (rulesOf sort (kindOf l)) (f + 1 - 1) unused) (wordOf (fieldIn l (f + 1))) (suc m) (f + 1) (field-small l (f + 1)) g)
 
   -- slot k of record i of an owner
   value-fits : (o : Owner) (i k : ℕ) → i < records o (seenIn deck (linesOf deck) .chemicals) (seenIn deck (linesOf deck) .receptors) → k < places o

@@ -12,7 +12,7 @@ use Rattle.slots.specs.declared.Owner.{Owner}
 use Rattle.slots.specs.declared.Owner.the-variants.{Site, Chemical, Receptor}
 use Rattle.deck.specs.declared.kinds.Kind.{Kind}
 use Rattle.deck.specs.declared.kinds.Kind.the-variants.{Start, Line, End, Other}
-use Rattle.deck.specs.Kinds.{letter, ownerLines, firstDigit, numbered, spellsEnd, kindIn, kindOf, isLine, isStart, isEnd, mayBegin, mayFollow}
+use Rattle.deck.specs.Kinds.{letter, ownerLines, firstDigit, lineDigit, numbered, spellsEnd, kindIn, kindOf, isLine, isStart, isEnd, mayBegin, mayFollow}
 use Rattle.lists.proofs.Booleans.{both}
 
 -- ---- the bytes of a kind
@@ -40,6 +40,10 @@ module _ (a b : ℕ) where
   pub of-none : (a ≡ letter Site → ⊥) → (a ≡ letter Chemical → ⊥) → (a ≡ letter Receptor → ⊥) → cond (spellsEnd a b) End Other ≡ kindIn a b
   unfolding kindIn
   of-none s c r = simp (ne-eqb a (letter Site) s, ne-eqb a (letter Chemical) c, ne-eqb a (letter Receptor) r)
+
+-- each line of a record has its owner's letter and its own digit
+pub line-spelled : (o : Owner) (n : ℕ) → n < ownerLines o → kindIn (letter o) (lineDigit n) ≡ Line o n
+line-spelled o n h = sym (digit-in o (lineDigit n) (omega arith) n (ownerLines o) (omega arith) refl h ∙ of-owner (letter o) (lineDigit n) o refl)
 
 pub some-lines : (o : Owner) → 1 ≤ ownerLines o
 some-lines Site = omega arith

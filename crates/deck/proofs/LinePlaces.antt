@@ -1,7 +1,8 @@
 -- Where the lines of an accepted deck stand: the site's, each chemical's, each receptor's, then EN.
 -- Assumes nothing.
 use Prim.Native.Nat.{ℕ, zero, suc, _+_, _*_, _-_, _≤_, _<_}
-use native.Mathlib.Nat.{add-zero, add-suc, le-refl}
+use native.Mathlib.Nat.{add-zero, add-suc, add-sub-cancel, le-refl}
+use native.Mathlib.Numerals.{add-one}
 use native.Mathlib.Omega.{arith}
 use mathlib.Core.Path.{_≡_, refl, sym, ap, _∙_, subst}
 use mathlib.Core.Bool.{Bool, true, false, _||_, false≢true}
@@ -23,7 +24,7 @@ use Rattle.deck.specs.DeckConditions.{badLength, noEnd, lineConditionsAf
 use Rattle.deck.specs.DeckCase.{chemicalsStart}
 use Rattle.cases.specs.declared.Status.the-variants.{Passed}
 use Rattle.lists.proofs.Booleans.{and-false}
-use Rattle.cases.proofs.FirstMet.{first-read, append-read, upTo-each}
+use Rattle.cases.proofs.FirstMet.{first-read, append-read, chained-each}
 use Rattle.deck.proofs.KindLaws.{Within, kind-within, is-line, is-start, is-end}
 use Rattle.deck.proofs.Scan.{LineRead, line-read, end-seen, may-follow, few-chemicals, few-receptors}
 
@@ -147,8 +148,7 @@ module _ (sort : Sort) (deck : List ℕ) (e : first (conditions sort deck) ≡ P
   unfolding lineConditions
   line-facts n h =
       line-read sort (seenIn deck n) (suc n) (lineOf deck (suc n))
-      (subst (λ (m : ℕ). first (lineConditionsAfter sort (seenIn deck m) (lineOf deck (suc n)) (suc n)) ≡ Passed)
-      (omega arith) (upTo-each (lineConditions sort deck) (linesOf deck) (parts .1 .0) n h))
+      (rw add-one at (rw (add-sub-cancel n 1) at (chained-each (λ k. lineConditions sort deck (k + 1)) (linesOf deck) (parts .1 .0) n h)))
 
   follows : (n : ℕ) → n < linesOf deck → mayFollow (seenIn deck n .kind) (kindOf (lineOf deck (suc n))) ≡ true
   follows n h = may-follow sort (seenIn deck n) (kindOf (lineOf deck (suc n))) (line-facts n h .kind)

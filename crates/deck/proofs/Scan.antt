@@ -21,13 +21,14 @@ use Rattle.deck.specs.declared.kinds.Kind.{Kind}
 use Rattle.deck.specs.declared.kinds.Kind.the-variants.{Start}
 use Rattle.deck.specs.declared.lines.Seen.{Seen}
 use Rattle.slots.specs.declared.Sort.the-variants.{Ordinary, Composite}
+use Rattle.lists.specs.Lists.{chained}
 use Rattle.cases.specs.Conditions.{Condition, at, first, upTo}
 use Rattle.deck.specs.DeckConditions.{fieldAt, badBytes, badKind, badId, idOf, lineConditionsAfter, begunWith, seenWith, seenIn, lineConditions, maxLength, badLength, noEnd}
 use Rattle.cases.specs.declared.Status.{Status}
 use Rattle.cases.specs.declared.Status.the-variants.{Passed, Stopped}
 use Rattle.deck.proofs.PartLaws.{line-is}
 use Rattle.deck.proofs.DeckCaseLaws.{line-full}
-use Rattle.cases.proofs.FirstMet.{orElse, first-append, turn-on, turn-out, first-read}
+use Rattle.cases.proofs.FirstMet.{orElse, first-append, goes-on, stops, first-read}
 use Rattle.lists.proofs.Booleans.{neither}
 
 -- what a line that stops nothing tells
@@ -86,7 +87,7 @@ pub record Scanned (sort : Sort) (deck : List ℕ) (n : ℕ) (seen : Seen) : Typ
   pub few-r : seen .receptors ≤ maxReceptors sort
 
 pub scanned-start : (sort : Sort) (deck : List ℕ) → Scanned sort deck 0 (record { kind = Start; id = 0; chemicals = 0; receptors = 0 })
-unfolding first upTo seenIn
+unfolding first chained seenIn
 scanned-start sort deck = record { bound = omega arith; reads = refl; told = refl; few-c = omega arith; few-r = omega arith }
 
 module _ (sort : Sort) (deck l : List ℕ) (n : ℕ) (seen : Seen) (s : Scanned sort deck n seen) (e : l ≡ lineOf deck (n + 1)) (t : Status)
@@ -99,7 +100,7 @@ module _ (sort : Sort) (deck l : List ℕ) (n : ℕ) (seen : Seen) (s : Scanned 
       → t ≡ first (upTo (lineConditions sort deck) (linesOf deck) ++ last)
   unfolding linesOf orElse
   scan-out h number line field q last =
-      let r = turn-out (lineConditions sort deck) n (length deck / deckLineWidth) h (s .reads) t here number line field q in
+      let r = stops (λ k. lineConditions sort deck (k + 1)) n (s .reads) t here (length deck / deckLineWidth) h number line field q in
       q ∙ sym (first-append (upTo (lineConditions sort deck) (length deck / deckLineWidth)) last ∙ ap (λ (u : Status). orElse u (first last)) (sym r ∙ q))
 
   pub scan-on : n < length deck / deckLineWidth → t ≡ Passed → (kind : Kind) (id : ℕ) (next : Seen) → kind ≡ kindOf l → id ≡ idOf l → next ≡ seenWith seen kind id
@@ -111,7 +112,7 @@ module _ (sort : Sort) (deck l : List ℕ) (n : ℕ) (seen : Seen) (s : Scanned 
       let line : l ≡ lineOf deck (suc n) = e ∙ ap (lineOf deck) (add-one n) in
       record {
         bound = omega arith;
-        reads = turn-on (lineConditions sort deck) n (s .reads) t here q;
+        reads = goes-on (λ k. lineConditions sort deck (k + 1)) n (s .reads) t here q;
         told = rw add-one (v ∙ (λ j. seenWith (s .told j) (kindOf (line j)) (idOf (line j))));
         few-c = subst (λ (x : Seen). x .chemicals ≤ maxChemicals) (sym v) (few-chemicals sort seen (kindOf l) (read .kind) (s .few-c));
         few-r = subst (λ (x : Seen). x .receptors ≤ maxReceptors sort) (sym v) (few-receptors sort seen (kindOf l) (read .kind) (s .few-r));

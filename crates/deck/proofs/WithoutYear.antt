@@ -30,7 +30,7 @@ use Rattle.powers.specs.Powers.{above, below}
 use Rattle.cases.specs.Ranges.{valueAtMost, valueAtLeast, withinBounds, isYearOf, isYear, inRange}
 use Rattle.cases.specs.Conditions.{Condition, at, first, upTo}
 use Rattle.deck.specs.DeckConditions.{misspelled, misplaced, outOfRange, fieldConditions, fieldAt, badBytes, badKind, idOf, wrongId, badId, lineConditionsAfter, seenWith, seenIn, lineConditions, maxLength, badLength, noEnd, conditions}
-use Rattle.lists.specs.Lists.{tabulate}
+use Rattle.lists.specs.Lists.{tabulate, chained}
 use Rattle.deck.specs.DeckCase.{chemicalsStart, valueOf, slotSpelled, recordOf, recordsOf, caseWith, caseOf}
 use Rattle.cases.specs.Cases.{noSlot, noRecord, valueAt, guidanceOf, clearYear, caseWithoutYear}
 use Rattle.deck.specs.Guidance.{yearWord, is2005, yearColumn, yearStart, yearEnd, withoutYear}
@@ -47,7 +47,7 @@ use Rattle.spelling.proofs.WordLaws.{exponent-four}
 use Rattle.deck.proofs.PartLaws.{line-is}
 use Rattle.lists.proofs.Tabulated.{length-tabulate, filled-at, tabulate-same}
 use Rattle.deck.proofs.SpelledWords.{choose}
-use Rattle.cases.proofs.FirstMet.{orElse, first-append, upTo-each}
+use Rattle.cases.proofs.FirstMet.{orElse, first-append, chained-each}
 use Rattle.deck.proofs.Scan.{line-read, may-follow}
 use Rattle.deck.proofs.KindLaws.{is-line}
 use Rattle.lists.proofs.ListLaws.{drop-take}
@@ -393,15 +393,15 @@ unfolding orElse
 same-next Passed t u h = h refl
 same-next (Stopped number line field) t u h = refl
 
-same-upTo : (f g : ℕ → List Condition) (m : ℕ) → ((k : ℕ) → k < m → first (upTo g k) ≡ Passed → first (f (suc k)) ≡ first (g (suc k)))
-    → first (upTo f m) ≡ first (upTo g m)
-unfolding upTo
-same-upTo f g zero h = refl
-same-upTo f g (suc m) h =
-    first-append (upTo f m) (f (suc m))
-    ∙ ap (λ (s : Status). orElse s (first (f (suc m)))) (same-upTo f g m (λ k l. h k (omega arith)))
-    ∙ same-next (first (upTo g m)) (first (f (suc m))) (first (g (suc m))) (h m (omega arith))
-    ∙ sym (first-append (upTo g m) (g (suc m)))
+same-chained : (f g : ℕ → List Condition) (m : ℕ) → ((k : ℕ) → k < m → first (chained g k) ≡ Passed → first (f k) ≡ first (g k))
+    → first (chained f m) ≡ first (chained g m)
+unfolding chained
+same-chained f g zero h = refl
+same-chained f g (suc m) h =
+    first-append (chained f m) (f m)
+    ∙ ap (λ (s : Status). orElse s (first (f m))) (same-chained f g m (λ k l. h k (omega arith)))
+    ∙ same-next (first (chained g m)) (first (f m)) (first (g m)) (h m (omega arith))
+    ∙ sym (first-append (chained g m) (g m))
 
 same-else : (b : Bool) (s t u : Status) → (b ≡ false → t ≡ u) → cond b s t ≡ cond b s u
 same-else true s t u h = refl
@@ -471,14 +471,14 @@ module _ (sort : Sort) (seen : Seen) (l m : List ℕ) (b : Blanked l m) (y : is2
   unfolding fieldAt
   sixth-read s h = rw (year-rule sort) (year-read (wordOf (fieldIn s fieldsPerLine)) siteLines fieldsPerLine h)
 
-  field-agrees : (k : ℕ) → k < fieldsPerLine → first (fieldAt sort yearLine m siteLines (suc k)) ≡ first (fieldAt sort yearLine l siteLines (suc k))
+  field-agrees : (k : ℕ) → k < fieldsPerLine → first (fieldAt sort yearLine m siteLines (k + 1)) ≡ first (fieldAt sort yearLine l siteLines (k + 1))
   unfolding fieldAt is2005
   field-agrees k h =
       ⊎-elim
       (λ q.
-      subst (λ (n : ℕ). first (fieldAt sort yearLine m siteLines (suc n)) ≡ first (fieldAt sort yearLine l siteLines (suc n))) (sym q)
+      subst (λ (n : ℕ). first (fieldAt sort yearLine m siteLines (n + 1)) ≡ first (fieldAt sort yearLine l siteLines (n + 1))) (sym q)
       (sixth-read m (ap is2005 (sixth-blank l m b)) ∙ sym (sixth-read l y)))
-      (λ (g : k < fieldsPerLine - 1). ap (λ (s : List ℕ). first (fieldConditions (getD (rulesOf sort yearLine) (suc k - 1) unused) (wordOf s) siteLines (suc k))) (field-same l m b (suc k) (omega arith)))
+      (λ (g : k < fieldsPerLine - 1). ap (λ (s : List ℕ). first (fieldConditions (getD (rulesOf sort yearLine) (k + 1 - 1) unused) (wordOf s) siteLines (k + 1))) (field-same l m b (k + 1) (omega arith)))
       (eq-or-lt-of-le (le-of-suc-le-suc h))
 
   id-agrees : badId seen yearLine m ≡ badId seen yearLine l
@@ -489,7 +489,7 @@ module _ (sort : Sort) (seen : Seen) (l m : List ℕ) (b : Blanked l m) (y : is2
       → cond (badId seen k m) (Stopped 22 siteLines 0) (first (upTo (fieldAt sort k m siteLines) fieldsPerLine))
       ≡ cond (badId seen k l) (Stopped 22 siteLines 0) (first (upTo (fieldAt sort k l siteLines) fieldsPerLine))
   kind-agrees k e =
-      let f = same-upTo (fieldAt sort yearLine m siteLines) (fieldAt sort yearLine l siteLines) fieldsPerLine (λ j h r. field-agrees j h) in
+      let f = same-chained (λ k. fieldAt sort yearLine m siteLines (k + 1)) (λ k. fieldAt sort yearLine l siteLines (k + 1)) fieldsPerLine (λ j h r. field-agrees j h) in
       subst
       (λ (n : Kind).
       cond (badId seen n m) (Stopped 22 siteLines 0) (first (upTo (fieldAt sort n m siteLines) fieldsPerLine))
@@ -521,7 +521,7 @@ module _ (sort : Sort) (deck : List ℕ) (long : deckLineWidth * siteLines ≤ l
   first-kind : first (upTo (lineConditions sort deck) 1) ≡ Passed → seenIn deck 1 .kind ≡ Line Site 0
   unfolding lineConditions seenIn seenWith
   first-kind e =
-      let r = line-read sort (seenIn deck 0) 1 (lineOf deck 1) (upTo-each (lineConditions sort deck) 1 e 0 (lit≤ tt)) in
+      let r = line-read sort (seenIn deck 0) 1 (lineOf deck 1) (chained-each (λ k. lineConditions sort deck (k + 1)) 1 e 0 (lit≤ tt)) in
       after-start (kindOf (lineOf deck 1)) (may-follow sort (seenIn deck 0) (kindOf (lineOf deck 1)) (r .kind))
 
   sixth-2005 : is2005 (wordOf (fieldIn (lineOf deck siteLines) fieldsPerLine)) ≡ true
@@ -544,8 +544,8 @@ module _ (sort : Sort) (deck : List ℕ) (long : deckLineWidth * siteLines ≤ l
 
   lines-agree : (m : ℕ) → first (upTo (lineConditions sort (withoutYear deck)) m) ≡ first (upTo (lineConditions sort deck) m)
   lines-agree m =
-      same-upTo (lineConditions sort (withoutYear deck)) (lineConditions sort deck) m
-      (λ k h e. line-agrees (suc k) (subst (λ (n : ℕ). first (upTo (lineConditions sort deck) n) ≡ Passed) (omega arith) e))
+      same-chained (λ k. lineConditions sort (withoutYear deck) (k + 1)) (λ k. lineConditions sort deck (k + 1)) m
+      (λ k h e. line-agrees (k + 1) (subst (λ (n : ℕ). first (upTo (lineConditions sort deck) n) ≡ Passed) (omega arith) e))
 
   end-agrees : noEnd (withoutYear deck) ≡ noEnd deck
   unfolding noEnd

@@ -28,11 +28,14 @@ ownerLines Site = siteLines
 ownerLines Chemical = recordLines
 ownerLines Receptor = recordLines
 
--- the digit of a record's first line; the others follow it
+-- the digit of a record's first line, 1, and that of line n, from 0
 abbrev pub firstDigit : ℕ
 firstDigit = 49
 
--- the line, from 0, of an owner's record with this digit
+abbrev pub lineDigit : ℕ → ℕ
+lineDigit n = firstDigit + n
+
+-- the line of an owner's record with this digit
 unfoldable pub numbered : Owner → ℕ → Kind
 numbered o digit = cond (leb firstDigit digit && ltb (digit - firstDigit) (ownerLines o)) (Line o (digit - firstDigit)) Other
 

@@ -33,7 +33,7 @@ use Rattle.spelling.specs.Spelling.{idSpelled, idIn, signSpelled, exponentSpell
 use Rattle.deck.specs.Kinds.{numbered, kindIn, kindOf, isLine, isLast, mayBegin, mayFollow}
 use Rattle.powers.specs.Powers.{above, below}
 use Rattle.cases.specs.Ranges.{valueAtMost, valueAtLeast, withinBounds, isYearOf, isYear, inRange}
-use Rattle.cases.specs.Conditions.{first, upTo}
+use Rattle.cases.specs.Conditions.{first}
 use Rattle.deck.specs.DeckConditions.{misspelled, misplaced, outOfRange, fieldConditions, fieldAt, badBytes, badKind, idOf, sameLetter, wrongId, badId, lineConditionsAfter, begunWith, seenWith, seenIn, lineConditions, badLength, noEnd, conditions}
 use Rattle.lists.specs.Lists.{tabulate, chained}
 use Rattle.deck.specs.DeckCase.{valueOf, slotSpelled, recordOf, recordsOf, caseWith, caseOf}
@@ -94,7 +94,7 @@ solvent-soils = (refl, refl)
 
 -- by the guidance of 2009
 air-whole : first (allConditions ordinary airDeck 665) ≡ Passed
-unfolding bytes lines deckOf airDeck within leading linesOf lineOf fieldIn fieldOf digitsValue idSpelled idIn signSpelled exponentSpelled powerOf digitsRead endedOf pointedOf spelledOf loneDash wordOf numbered kindIn kindOf isLine isLast mayBegin mayFollow idOf begunWith seenWith seenIn tabulate valueOf slotSpelled recordOf recordsOf caseWith caseOf table same isIn placeIn ownerOf placeOf valueAt chemicalAt receptorAt orOne pairOf restOf valuesOf chemicalIn receptorIn givenIn scenarioWith orNone timeGiven depositionOf stayIf laterIf receptorWith entered enteredFrom calls.longEntry years.time years.amount years.isYears years.wordsOf years.timeOf years.none years.least years.printedAmount years.printed years.together years.atMost years.asPair years.beyond ordinary scenarioOf valueIn byOwner inputs pairsAt asAnswers nineFigures inReach zeroExponent isZero isNumber zero one lesser rise unitsAt lower atMost isPair extra divided excessFrom excess carried rounded sumEnd productEnd quotientEnd restEnd provided calls.ends after afterOne zeroPair onePair entry sum product quotient oneMinusEntry pairs read letters noGrowth plainWith plain exponents grownAt stayIn compared paceIf paceOf pacesOf pairGrowing sixtyFour worked series.first series.step terms fromZero pairSeries u kse ksr ksl k x page.x′ page.gWith growth page.gathered page.mean page.soil A D C aboveGround belowGround AT B exposure factor byMedium medium intakeBy intake byRoute referenceSlot reference figureBy intakeLine byGuidance line guidanceOf guidanceIn pathwayAt isGiven hasReference figureAt chained ruleIn ruleAt lineRules above below valueAtMost valueAtLeast withinBounds inRange first upTo misspelled misplaced outOfRange fieldConditions fieldAt badBytes badKind sameLetter wrongId badId lineConditionsAfter lineConditions badLength noEnd conditions capOf linesPerReceptor linesOfReport isAbove highAbove overCap lineTooLarge largeLines reportConditions allConditions lengthOf airLine timeShare timeInAir airFigureBy yearOf isYearOf isYear
+unfolding bytes lines deckOf airDeck within leading linesOf lineOf fieldIn fieldOf digitsValue idSpelled idIn signSpelled exponentSpelled powerOf digitsRead endedOf pointedOf spelledOf loneDash wordOf numbered kindIn kindOf isLine isLast mayBegin mayFollow idOf begunWith seenWith seenIn tabulate valueOf slotSpelled recordOf recordsOf caseWith caseOf table same isIn placeIn ownerOf placeOf valueAt chemicalAt receptorAt orOne pairOf restOf valuesOf chemicalIn receptorIn givenIn scenarioWith orNone timeGiven depositionOf stayIf laterIf receptorWith entered enteredFrom calls.longEntry years.time years.amount years.isYears years.wordsOf years.timeOf years.none years.least years.printedAmount years.printed years.together years.atMost years.asPair years.beyond ordinary scenarioOf valueIn byOwner inputs pairsAt asAnswers nineFigures inReach zeroExponent isZero isNumber zero one lesser rise unitsAt lower atMost isPair extra divided excessFrom excess carried rounded sumEnd productEnd quotientEnd restEnd provided calls.ends after afterOne zeroPair onePair entry sum product quotient oneMinusEntry pairs read letters noGrowth plainWith plain exponents grownAt stayIn compared paceIf paceOf pacesOf pairGrowing sixtyFour worked series.first series.step terms fromZero pairSeries u kse ksr ksl k x page.x′ page.gWith growth page.gathered page.mean page.soil A D C aboveGround belowGround AT B exposure factor byMedium medium intakeBy intake byRoute referenceSlot reference figureBy intakeLine byGuidance line guidanceOf guidanceIn pathwayAt isGiven hasReference figureAt chained ruleIn ruleAt lineRules above below valueAtMost valueAtLeast withinBounds inRange first misspelled misplaced outOfRange fieldConditions fieldAt badBytes badKind sameLetter wrongId badId lineConditionsAfter lineConditions badLength noEnd conditions capOf linesPerReceptor linesOfReport isAbove highAbove overCap lineTooLarge largeLines reportConditions allConditions lengthOf airLine timeShare timeInAir airFigureBy yearOf isYearOf isYear
 air-whole = refl
 
 air-is : (columnsAt Hazard (scenarioOf ordinary airDeck) 0 0 Air ≡ Counted 1000000000000 1000000000000) × (columnsAt Cancer (scenarioOf ordinary airDeck) 0 0 Air ≡ Counted 33333333300000 33333333400000)
@@ -106,7 +106,7 @@ unfolding bytes lines printedLines printedText row rows linesText rowText column
 text-is = refl
 
 read-whole : first (allConditions ordinary deck 665) ≡ Passed
-unfolding bytes lines deckOf deckWith deck within leading linesOf lineOf fieldIn fieldOf digitsValue idSpelled idIn signSpelled exponentSpelled powerOf digitsRead endedOf pointedOf spelledOf loneDash wordOf numbered kindIn kindOf isLine isLast mayBegin mayFollow idOf begunWith seenWith seenIn tabulate valueOf slotSpelled recordOf recordsOf caseWith caseOf table same isIn placeIn ownerOf placeOf valueAt chemicalAt receptorAt orOne pairOf restOf valuesOf chemicalIn receptorIn givenIn scenarioWith orNone timeGiven depositionOf stayIf laterIf receptorWith entered enteredFrom calls.longEntry years.time years.amount years.isYears years.wordsOf years.timeOf years.none years.least years.printedAmount years.printed years.together years.atMost years.asPair years.beyond ordinary scenarioOf valueIn byOwner inputs pairsAt asAnswers nineFigures inReach zeroExponent isZero isNumber zero one lesser rise unitsAt lower atMost isPair extra divided excessFrom excess carried rounded sumEnd productEnd quotientEnd restEnd provided calls.ends after afterOne zeroPair onePair entry sum product quotient oneMinusEntry pairs read letters noGrowth plainWith plain exponents grownAt stayIn compared paceIf paceOf pacesOf pairGrowing sixtyFour worked series.first series.step terms fromZero pairSeries u kse ksr ksl k x page.x′ page.gWith growth page.gathered page.mean page.soil A D C aboveGround belowGround AT B exposure factor byMedium medium intakeBy intake byRoute referenceSlot reference figureBy intakeLine byGuidance line guidanceOf guidanceIn pathwayAt isGiven hasReference figureAt chained ruleIn ruleAt lineRules above below valueAtMost valueAtLeast withinBounds inRange first upTo misspelled misplaced outOfRange fieldConditions fieldAt badBytes badKind sameLetter wrongId badId lineConditionsAfter lineConditions badLength noEnd conditions capOf linesPerReceptor linesOfReport isAbove highAbove overCap lineTooLarge largeLines reportConditions allConditions lengthOf
+unfolding bytes lines deckOf deckWith deck within leading linesOf lineOf fieldIn fieldOf digitsValue idSpelled idIn signSpelled exponentSpelled powerOf digitsRead endedOf pointedOf spelledOf loneDash wordOf numbered kindIn kindOf isLine isLast mayBegin mayFollow idOf begunWith seenWith seenIn tabulate valueOf slotSpelled recordOf recordsOf caseWith caseOf table same isIn placeIn ownerOf placeOf valueAt chemicalAt receptorAt orOne pairOf restOf valuesOf chemicalIn receptorIn givenIn scenarioWith orNone timeGiven depositionOf stayIf laterIf receptorWith entered enteredFrom calls.longEntry years.time years.amount years.isYears years.wordsOf years.timeOf years.none years.least years.printedAmount years.printed years.together years.atMost years.asPair years.beyond ordinary scenarioOf valueIn byOwner inputs pairsAt asAnswers nineFigures inReach zeroExponent isZero isNumber zero one lesser rise unitsAt lower atMost isPair extra divided excessFrom excess carried rounded sumEnd productEnd quotientEnd restEnd provided calls.ends after afterOne zeroPair onePair entry sum product quotient oneMinusEntry pairs read letters noGrowth plainWith plain exponents grownAt stayIn compared paceIf paceOf pacesOf pairGrowing sixtyFour worked series.first series.step terms fromZero pairSeries u kse ksr ksl k x page.x′ page.gWith growth page.gathered page.mean page.soil A D C aboveGround belowGround AT B exposure factor byMedium medium intakeBy intake byRoute referenceSlot reference figureBy intakeLine byGuidance line guidanceOf guidanceIn pathwayAt isGiven hasReference figureAt chained ruleIn ruleAt lineRules above below valueAtMost valueAtLeast withinBounds inRange first misspelled misplaced outOfRange fieldConditions fieldAt badBytes badKind sameLetter wrongId badId lineConditionsAfter lineConditions badLength noEnd conditions capOf linesPerReceptor linesOfReport isAbove highAbove overCap lineTooLarge largeLines reportConditions allConditions lengthOf
 read-whole = refl
 
 answer-is : outcomeOf ordinary deck 665 ≡ record { number = 0; line = 665; field = 0 }
@@ -123,7 +123,7 @@ unfolding bytes lines compositeText row compositeRows linesText rowText columnsT
 composite-text = refl
 
 composite-whole : first (allConditions composite compositeDeck 665) ≡ Passed
-unfolding bytes lines deckOf deckWith compositeDeck within leading linesOf lineOf fieldIn fieldOf digitsValue idSpelled idIn signSpelled exponentSpelled powerOf digitsRead endedOf pointedOf spelledOf loneDash wordOf numbered kindIn kindOf isLine isLast mayBegin mayFollow idOf begunWith seenWith seenIn tabulate valueOf slotSpelled recordOf recordsOf caseWith caseOf table same isIn placeIn ownerOf placeOf valueAt chemicalAt receptorAt orOne pairOf restOf valuesOf chemicalIn receptorIn givenIn scenarioWith composed mean summed sumOfYears yearsTogether pairStage lastStage stageYears timeExposed pairComposite orNone timeGiven depositionOf stayIf laterIf receptorWith compositeReceptor calls.longEntry years.time years.amount years.isYears years.wordsOf years.timeOf years.none years.least years.printedAmount years.printed years.together years.atMost years.asPair years.beyond compositeFrom composite noReceptor scenarioOf valueIn byOwner inputs pairsAt asAnswers nineFigures inReach zeroExponent isZero isNumber zero one lesser rise unitsAt lower atMost isPair extra divided excessFrom excess carried rounded sumEnd productEnd quotientEnd restEnd provided calls.ends after afterOne zeroPair onePair entry sum product quotient oneMinusEntry pairs read letters noGrowth plainWith plain exponents grownAt stayIn compared paceIf paceOf pacesOf pairGrowing sixtyFour worked series.first series.step terms fromZero pairSeries u kse ksr ksl k x page.x′ page.gWith growth page.gathered page.mean page.soil A D C aboveGround belowGround AT B exposure factor byMedium medium intakeBy intake byRoute referenceSlot reference figureBy intakeLine byGuidance line guidanceOf guidanceIn pathwayAt isGiven hasReference figureAt chained ruleIn ruleAt lineRules above below valueAtMost valueAtLeast withinBounds inRange first upTo misspelled misplaced outOfRange fieldConditions fieldAt badBytes badKind sameLetter wrongId badId lineConditionsAfter lineConditions badLength noEnd conditions capOf linesPerReceptor linesOfReport isAbove highAbove overCap lineTooLarge largeLines reportConditions allConditions lengthOf
+unfolding bytes lines deckOf deckWith compositeDeck within leading linesOf lineOf fieldIn fieldOf digitsValue idSpelled idIn signSpelled exponentSpelled powerOf digitsRead endedOf pointedOf spelledOf loneDash wordOf numbered kindIn kindOf isLine isLast mayBegin mayFollow idOf begunWith seenWith seenIn tabulate valueOf slotSpelled recordOf recordsOf caseWith caseOf table same isIn placeIn ownerOf placeOf valueAt chemicalAt receptorAt orOne pairOf restOf valuesOf chemicalIn receptorIn givenIn scenarioWith composed mean summed sumOfYears yearsTogether pairStage lastStage stageYears timeExposed pairComposite orNone timeGiven depositionOf stayIf laterIf receptorWith compositeReceptor calls.longEntry years.time years.amount years.isYears years.wordsOf years.timeOf years.none years.least years.printedAmount years.printed years.together years.atMost years.asPair years.beyond compositeFrom composite noReceptor scenarioOf valueIn byOwner inputs pairsAt asAnswers nineFigures inReach zeroExponent isZero isNumber zero one lesser rise unitsAt lower atMost isPair extra divided excessFrom excess carried rounded sumEnd productEnd quotientEnd restEnd provided calls.ends after afterOne zeroPair onePair entry sum product quotient oneMinusEntry pairs read letters noGrowth plainWith plain exponents grownAt stayIn compared paceIf paceOf pacesOf pairGrowing sixtyFour worked series.first series.step terms fromZero pairSeries u kse ksr ksl k x page.x′ page.gWith growth page.gathered page.mean page.soil A D C aboveGround belowGround AT B exposure factor byMedium medium intakeBy intake byRoute referenceSlot reference figureBy intakeLine byGuidance line guidanceOf guidanceIn pathwayAt isGiven hasReference figureAt chained ruleIn ruleAt lineRules above below valueAtMost valueAtLeast withinBounds inRange first misspelled misplaced outOfRange fieldConditions fieldAt badBytes badKind sameLetter wrongId badId lineConditionsAfter lineConditions badLength noEnd conditions capOf linesPerReceptor linesOfReport isAbove highAbove overCap lineTooLarge largeLines reportConditions allConditions lengthOf
 composite-whole = refl
 
 composite-answer : outcomeOf composite compositeDeck 665 ≡ record { number = 0; line = 665; field = 0 }

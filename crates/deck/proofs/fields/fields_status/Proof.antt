@@ -1,6 +1,6 @@
 -- `deck::fields::fields_status` meets its contract. The invariant: no condition of the fields passed holds, and their values are kept.
 -- Assumes nothing.
-use Prim.Native.Nat.{ℕ, _-_, _≤_}
+use Prim.Native.Nat.{ℕ, _+_, _-_, _≤_}
 use native.Mathlib.Nat.{le-antisymm}
 use native.Mathlib.Omega.{arith}
 use borrow.Author.Needs.{needs}
@@ -10,10 +10,10 @@ use denote.Ref.{now}
 use Rattle.sizes.specs.Sizes.{fieldsPerLine}
 use Rattle.spelling.specs.Spelling.{wordOf}
 use Rattle.cases.specs.Conditions.{first, upTo}
-use Rattle.lists.specs.Lists.{tabulate}
+use Rattle.lists.specs.Lists.{tabulate, chained}
 use Rattle.deck.specs.Inner.{Small, packedIn}
 use Rattle.cases.specs.declared.Status.the-variants.{Passed}
-use Rattle.cases.proofs.FirstMet.{turn-on, turn-out, never}
+use Rattle.cases.proofs.FirstMet.{goes-on, stops, never}
 use Rattle.deck.proofs.FieldLaws.{fieldBy, field-turn, fields-by}
 use Rattle.deck.proofs.SpelledWords.{field-small}
 use Rattle.deck.proofs.Packed.{fields-more, fields-all}
@@ -31,7 +31,7 @@ rules-requires : tie.Need-rules-requires Inv-loop μ-loop
 rules-requires c κs = search needs
 
 loop-holds : tie.Need-loop-holds Inv-loop μ-loop
-unfolding first upTo tabulate
+unfolding first chained tabulate
 loop-holds c = (search needs, refl, refl, refl)
 
 mul-rule : tie.Need-mul-rule Inv-loop μ-loop
@@ -68,7 +68,7 @@ returns c =
     let rules = c .before .before .before .before .before .before .before .before .rules in
     let w = c .before .before .before .number .ensures .0 ∙ ap wordOf (c .before .before .before .before .field-part .ensures) in
     let turn = field-turn (a .n) (l .f) (now (a .line)) _ (rules .result) _ _ (omega arith) w (c .before .before .field-status .ensures) in (
-      turn-out (fieldBy (rules .result) (now (a .line)) (a .n)) (l .f) fieldsPerLine (c .before .before .before .before .before .before .loop-test .taken) (l .inv .1) _ turn _ _ _ (c .enum-told2 .given .1)
+      stops (λ k. fieldBy (rules .result) (now (a .line)) (a .n) (k + 1)) (l .f) (l .inv .1) _ turn fieldsPerLine (c .before .before .before .before .before .before .loop-test .taken) _ _ _ (c .enum-told2 .given .1)
           ∙ fields-by (a .sort) (a .kind) (a .n) (now (a .line)) _ (rules .ensures) fieldsPerLine,
       λ q. absurd (never _ _ _ _ (c .enum-told2 .given .1) q),
     )
@@ -94,7 +94,7 @@ loop-again c =
     let w = c .before .before .before .before .number .ensures .0 ∙ ap wordOf (c .before .before .before .before .before .field-part .ensures) in
     let turn = field-turn (a .n) (l .f) (now (a .line)) _ (rules .result) _ _ (omega arith) w (c .before .before .before .field-status .ensures) in (
       omega arith,
-      turn-on (fieldBy (rules .result) (now (a .line)) (a .n)) (l .f) (l .inv .1) _ turn (c .before .enum-told .given .1),
+      goes-on (λ k. fieldBy (rules .result) (now (a .line)) (a .n) (k + 1)) (l .f) (l .inv .1) _ turn (c .before .enum-told .given .1),
       length-set (l .values) (l .f) _ ∙ l .inv .2,
       fields-more (now (a .line)) (l .values) (l .f) _ _ (omega (arith, c .before .before .before .before .before .before .before .before .before .before .before .before .pre .1)) (c .packed .ensures) w (l .inv .3),
     )

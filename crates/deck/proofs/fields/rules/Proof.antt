@@ -1,4 +1,4 @@
--- `deck::fields::rules` meets its contract.
+-- `deck::fields::rules` meets its contract: a record's line, or one of no record.
 -- Assumes nothing.
 use borrow.Author.Needs.{needs}
 use mathlib.Core.Path.{refl}

@@ -1,4 +1,4 @@
--- `deck::kinds::begins_record` meets its contract.
+-- `deck::kinds::begins_record` meets its contract: by the kind.
 -- Assumes nothing.
 use borrow.Author.Needs.{needs}
 use mathlib.Core.Path.{refl}

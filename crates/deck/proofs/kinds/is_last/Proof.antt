@@ -1,4 +1,4 @@
--- `deck::kinds::is_last` meets its contract.
+-- `deck::kinds::is_last` meets its contract: an owner has a line at least.
 -- Assumes nothing.
 use borrow.Author.Needs.{needs}
 use Prim.Native.Nat.{ℕ, _-_}

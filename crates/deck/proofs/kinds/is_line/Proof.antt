@@ -1,4 +1,4 @@
--- `deck::kinds::is_line` meets its contract.
+-- `deck::kinds::is_line` meets its contract: the owner's letter, then the number.
 -- Assumes nothing.
 use borrow.Author.Needs.{needs}
 use mathlib.Core.Path.{refl, sym, _∙_}

@@ -1,4 +1,4 @@
--- `deck::kinds::kind_in` meets its contract.
+-- `deck::kinds::kind_in` meets its contract: an owner by its letter, or EN, or neither.
 -- Assumes nothing.
 use borrow.Author.Needs.{needs}
 use mathlib.Core.Path.{sym, _∙_}

@@ -1,4 +1,4 @@
--- `deck::kinds::kind_of` meets its contract.
+-- `deck::kinds::kind_of` meets its contract: columns 1-2.
 -- Assumes nothing.
 use borrow.Author.Needs.{needs}
 use Rattle.deck.specs.Kinds.{kindOf}

@@ -1,4 +1,4 @@
--- `deck::kinds::may_begin` meets its contract.
+-- `deck::kinds::may_begin` meets its contract: by the owner.
 -- Assumes nothing.
 use borrow.Author.Needs.{needs}
 use mathlib.Core.Path.{sym, _∙_}

@@ -1,4 +1,4 @@
--- `deck::kinds::may_follow` meets its contract.
+-- `deck::kinds::may_follow` meets its contract: a record's first line, a later one, or EN.
 -- Assumes nothing.
 use borrow.Author.Needs.{needs}
 use mathlib.Core.Path.{refl}

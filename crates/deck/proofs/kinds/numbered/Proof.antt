@@ -1,4 +1,4 @@
--- `deck::kinds::numbered` meets its contract.
+-- `deck::kinds::numbered` meets its contract: a digit too low, of a line, or too high.
 -- Assumes nothing.
 use borrow.Author.Needs.{needs}
 use Rattle.deck.proofs.KindLaws.{digit-low, digit-in, digit-high}
