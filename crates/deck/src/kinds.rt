@@ -1,8 +1,9 @@
 // The kinds of lines: which line of whose record two bytes spell, and which kind may follow which.
 ghost use mathlib.Core.Path.{_≡_};
+ghost use mathlib.Core.Bool.{cond};
 ghost use lib.ListN.{length};
 ghost use Rattle.deck.specs.Parts.{deckLineWidth};
-ghost use Rattle.deck.specs.Kinds.{letter, ownerLines, numbered, kindIn, kindOf, isLine, isLast, isStart, isEnd, begins, letterOf, mayBegin, mayFollow};
+ghost use Rattle.deck.specs.Kinds.{letter, ownerLines, numbered, spellsEnd, kindIn, kindOf, isLine, isLast, isStart, isEnd, begins, letterOf, mayBegin, mayFollow};
 use sizes::RECORD_LINES;
 use sizes::SITE_LINES;
 use slots::Owner;
@@ -60,6 +61,19 @@ fn numbered(owner: Owner, digit: u8) -> Kind
     Kind::Other
 }
 
+// EN, or no kind.
+fn end_in(first: u8, second: u8) -> Kind
+    ensures { λ r. ⌜ r ≡ cond (spellsEnd first second) Kind.End Kind.Other ⌝ }
+{
+    if first != b'E' {
+        return Kind::Other;
+    }
+    if second != b'N' {
+        return Kind::Other;
+    }
+    Kind::End
+}
+
 // The kind that two bytes spell.
 fn kind_in(first: u8, second: u8) -> Kind
     ensures { λ r. ⌜ r ≡ kindIn first second ⌝ }
@@ -73,13 +87,7 @@ fn kind_in(first: u8, second: u8) -> Kind
     if first == letter(Owner::Receptor) {
         return numbered(Owner::Receptor, second);
     }
-    if first != b'E' {
-        return Kind::Other;
-    }
-    if second != b'N' {
-        return Kind::Other;
-    }
-    Kind::End
+    end_in(first, second)
 }
 
 // Columns 1-2.

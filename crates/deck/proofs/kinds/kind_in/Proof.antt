@@ -2,7 +2,6 @@
 -- Assumes nothing.
 use borrow.Author.Needs.{needs}
 use mathlib.Core.Path.{sym, _∙_}
-use borrow.Author.Tests.{eq-eqb, ne-eqb}
 use Rattle.slots.specs.declared.Owner.the-variants.{Site, Chemical, Receptor}
 use Rattle.deck.proofs.KindLaws.{of-owner, of-none}
 use Rattle.deck.proofs.kinds.kind_in.Statement.{statement}
@@ -38,26 +37,16 @@ returns-3 : tie.Need-returns-3
 returns-3 c = let a = c .before .before .before .before .before .before .before .args in
     c .numbered3 .ensures ∙ of-owner (a .first) (a .second) Receptor (c .before .if3 .taken ∙ c .before .before .letter3 .ensures)
 
+end-in-requires : tie.Need-end-in-requires
+end-in-requires c κs = search needs
+
 returns-4 : tie.Need-returns-4
 returns-4 c =
-    let a = c .before .before .before .before .before .before .before .args in
-    let none = of-none (a .first) (a .second) (λ q. c .before .before .before .before .before .if1 .left (q ∙ sym (c .before .before .before .before .before .before .letter .ensures)))
-    (λ q. c .before .before .before .if2 .left (q ∙ sym (c .before .before .before .before .letter2 .ensures))) (λ q. c .before .if3 .left (q ∙ sym (c .before .before .letter3 .ensures))) in
-    simp (ne-eqb (a .first) 69 (c .if4 .taken)) at none
-
-returns-5 : tie.Need-returns-5
-returns-5 c =
-    let a = c .before .before .before .before .before .before .before .before .args in
-    let none = of-none (a .first) (a .second) (λ q. c .before .before .before .before .before .before .if1 .left (q ∙ sym (c .before .before .before .before .before .before .before .letter .ensures)))
-    (λ q. c .before .before .before .before .if2 .left (q ∙ sym (c .before .before .before .before .before .letter2 .ensures))) (λ q. c .before .before .if3 .left (q ∙ sym (c .before .before .before .letter3 .ensures))) in
-    simp (eq-eqb (a .first) 69 (c .before .if4 .left), ne-eqb (a .second) 78 (c .if5 .taken)) at none
-
-returns-6 : tie.Need-returns-6
-returns-6 c =
-    let a = c .before .before .before .before .before .before .before .before .args in
-    let none = of-none (a .first) (a .second) (λ q. c .before .before .before .before .before .before .if1 .left (q ∙ sym (c .before .before .before .before .before .before .before .letter .ensures)))
-    (λ q. c .before .before .before .before .if2 .left (q ∙ sym (c .before .before .before .before .before .letter2 .ensures))) (λ q. c .before .before .if3 .left (q ∙ sym (c .before .before .before .letter3 .ensures))) in
-    simp (eq-eqb (a .first) 69 (c .before .if4 .left), eq-eqb (a .second) 78 (c .if5 .left)) at none
+    let last = c .before in
+    let a = last .before .before .before .before .before .before .args in
+    c .end-in .ensures
+    ∙ of-none (a .first) (a .second) (λ q. last .before .before .before .before .if1 .left (q ∙ sym (last .before .before .before .before .before .letter .ensures)))
+    (λ q. last .before .before .if2 .left (q ∙ sym (last .before .before .before .letter2 .ensures))) (λ q. last .if3 .left (q ∙ sym (last .before .letter3 .ensures)))
 
 pub kind-in-spec : {M : Type 1} → statement M
 kind-in-spec =
@@ -72,6 +61,5 @@ kind-in-spec =
     letter-requires-3
     numbered-requires-3
     returns-3
-    returns-4
-    returns-5
-    returns-6)
+    end-in-requires
+    returns-4)
