@@ -1,16 +1,14 @@
 -- The first condition that holds, in lists that are put together; and a number that no condition of a list has.
 -- Assumes nothing.
 use Prim.Native.Nat.{ℕ, zero, suc, _+_, _-_, _<_}
-use native.Mathlib.Nat.{add-zero, add-suc, eq-or-lt-of-le, le-of-suc-le-suc, not-suc-le-zero}
-use native.Mathlib.Numerals.{add-one}
 use native.Mathlib.Omega.{arith}
-use mathlib.Core.Path.{_≡_, refl, sym, ap, _∙_, subst}
+use mathlib.Core.Path.{_≡_, refl, sym, ap, _∙_}
 use mathlib.Core.Bool.{Bool, true, false, cond}
 use mathlib.Core.List.{List, [], _∷_, _++_}
-use Rattle.cases.specs.Conditions.{Condition, first, upTo, NoneHolds, Without, toldOf}
+use Rattle.cases.specs.Conditions.{Condition, first, NoneHolds, Without, toldOf}
 use Rattle.cases.specs.declared.Status.{Status}
 use Rattle.cases.specs.declared.Status.the-variants.{Passed, Stopped}
-use mathlib.Core.Logic.{⊎-elim, _≢_}
+use mathlib.Core.Logic.{_≢_}
 use Rattle.lists.specs.Lists.{chained}
 use Rattle.lists.proofs.Chained.{chained-more, chained-split}
 
@@ -29,30 +27,6 @@ first-append [] ys = refl
 first-append (c ∷ cs) ys =
     ap (λ (t : Status). cond (c .holds) (Stopped (c .number) (c .line) (c .field)) t) (first-append cs ys)
     ∙ orElse-cond (c .holds) (Stopped (c .number) (c .line) (c .field)) (first cs) (first ys) refl
-
--- ---- f 1, f 2, .. in turn
-module _ (f : ℕ → List Condition) where
-  upTo-next : (k : ℕ) → first (upTo f (k + 1)) ≡ orElse (first (upTo f k)) (first (f (k + 1)))
-  unfolding upTo
-  upTo-next k = rw add-one (first-append (upTo f k) (f (suc k)))
-
-  pub turn-on : (k : ℕ) → first (upTo f k) ≡ Passed → (s : Status) → s ≡ first (f (k + 1)) → s ≡ Passed → first (upTo f (k + 1)) ≡ Passed
-  unfolding orElse
-  turn-on k e s p q = upTo-next k ∙ ap (λ (t : Status). orElse t (first (f (k + 1)))) e ∙ sym p ∙ q
-
-  stays : (k j number line field : ℕ) → first (upTo f k) ≡ Stopped number line field → first (upTo f (k + j)) ≡ Stopped number line field
-  unfolding orElse upTo
-  stays k zero number line field e = rw add-zero e
-  stays k (suc j) number line field e =
-      rw add-suc (first-append (upTo f (k + j)) (f (suc (k + j))) ∙ ap (λ (t : Status). orElse t (first (f (suc (k + j))))) (stays k j number line field e))
-
-  pub turn-out : (k m : ℕ) → k < m → first (upTo f k) ≡ Passed → (s : Status) → s ≡ first (f (k + 1)) → (number line field : ℕ) → s ≡ Stopped number line field
-      → s ≡ first (upTo f m)
-  unfolding orElse
-  turn-out k m h e s p number line field q =
-      let here : first (upTo f (k + 1)) ≡ Stopped number line field = upTo-next k ∙ ap (λ (t : Status). orElse t (first (f (k + 1)))) e ∙ sym p ∙ q in
-      let r : k + 1 + (m - (k + 1)) ≡ m = omega arith in
-      q ∙ sym (subst (λ (n : ℕ). first (upTo f n) ≡ Stopped number line field) r (stays (k + 1) (m - (k + 1)) number line field here))
 
 -- ---- where nothing holds
 pub never : (s : Status) (number line field : ℕ) → s ≡ Stopped number line field → s ≡ Passed → ⊥
@@ -74,13 +48,6 @@ orElse-read (Stopped number line field) t e = absurd (never (Stopped number line
 
 pub append-read : (xs ys : List Condition) → first (xs ++ ys) ≡ Passed → (first xs ≡ Passed) × (first ys ≡ Passed)
 append-read xs ys e = orElse-read (first xs) (first ys) (sym (first-append xs ys) ∙ e)
-
-pub upTo-each : (f : ℕ → List Condition) (m : ℕ) → first (upTo f m) ≡ Passed → (k : ℕ) → k < m → first (f (suc k)) ≡ Passed
-unfolding upTo
-upTo-each f zero e k h = absurd (not-suc-le-zero h)
-upTo-each f (suc m) e k h =
-    let p = append-read (upTo f m) (f (suc m)) e in
-    ⊎-elim (λ q. subst (λ (n : ℕ). first (f (suc n)) ≡ Passed) (sym q) (p .1)) (λ l. upTo-each f m (p .0) k l) (eq-or-lt-of-le (le-of-suc-le-suc h))
 
 pub read-none : (cs : List Condition) → first cs ≡ Passed → NoneHolds cs
 read-none [] e = tt
@@ -121,11 +88,6 @@ module _ (n : ℕ) where
   pub without-append : (xs ys : List Condition) → Without n xs → Without n ys → Without n (xs ++ ys)
   without-append [] ys h k = k
   without-append (c ∷ cs) ys h k = (h .0, without-append cs ys (h .1) k)
-
-  pub without-upTo : (f : ℕ → List Condition) → ((k : ℕ) → Without n (f k)) → (m : ℕ) → Without n (upTo f m)
-  unfolding upTo
-  without-upTo f h zero = tt
-  without-upTo f h (suc m) = without-append (upTo f m) (f (suc m)) (without-upTo f h m) (h (suc m))
 
   told-either : (b : Bool) (s t : Status) → toldOf s .number ≢ n → toldOf t .number ≢ n → toldOf (cond b s t) .number ≢ n
   told-either true s t h k = h

@@ -2,10 +2,11 @@
 -- call's list is its own; a later stage appends its conditions to an earlier one's.
 -- Assumes nothing.
 use mathlib.Core.Path.{_≡_}
-use Prim.Native.Nat.{ℕ, zero, suc, _+_}
+use Prim.Native.Nat.{ℕ, _+_}
 use mathlib.Core.Bool.{Bool, false, cond}
-use mathlib.Core.List.{List, [], _∷_, _++_}
+use mathlib.Core.List.{List, [], _∷_}
 use mathlib.Core.Logic.{_≢_}
+use Rattle.lists.specs.Lists.{chained}
 use Rattle.cases.specs.declared.Status.{Status}
 use Rattle.cases.specs.declared.Status.the-variants.{Passed, Stopped}
 use Rattle.cases.specs.declared.Told.{Told}
@@ -36,9 +37,8 @@ Without n [] = Unit {0}
 Without n (c ∷ cs) = (c .number ≢ n) × Without n cs
 
 -- f 1, f 2, .., f n
-unfoldable pub upTo : (ℕ → List Condition) → ℕ → List Condition
-upTo f zero = []
-upTo f (suc n) = upTo f n ++ f (suc n)
+abbrev pub upTo : (ℕ → List Condition) → ℕ → List Condition
+upTo f n = chained (λ k. f (k + 1)) n
 
 -- number, line and field as document 01 tells them; all 0 where none holds
 unfoldable pub toldOf : Status → Told

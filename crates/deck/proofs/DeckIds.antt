@@ -10,7 +10,7 @@ use Rattle.cases.specs.Cases.{noRecord, chemicalAt, receptorAt}
 use Rattle.spelling.specs.Columns.{idWidth}
 use Rattle.spelling.proofs.NumberRead.{id-small}
 use Rattle.lists.proofs.Tabulated.{filled-at}
-use Rattle.deck.specs.Parts.{lineOf}
+use Rattle.deck.specs.Parts.{kindWidth, lineOf}
 use Rattle.deck.specs.DeckConditions.{idOf}
 use Rattle.deck.specs.DeckCase.{recordOf, recordsOf, caseWith, caseOf}
 
@@ -19,7 +19,7 @@ unfolding recordsOf recordOf idOf
 record-id deck n count room i h =
     subst (λ (r : Record). r .id < 10 ^ idWidth)
     (sym (filled-at (λ k. recordOf deck (n + recordLines * k) recordLines) noRecord count (replicate (room - count) noRecord) i h))
-    (id-small (take idWidth (drop 2 (lineOf deck (n + recordLines * i)))))
+    (id-small (take idWidth (drop kindWidth (lineOf deck (n + recordLines * i)))))
 
 pub small-ids : (deck : List ℕ) → ((j : ℕ) → j < caseOf deck .receptors .count → receptorAt (caseOf deck) j .id < 10 ^ idWidth)
     × ((i : ℕ) → i < caseOf deck .chemicals .count → chemicalAt (caseOf deck) i .id < 10 ^ idWidth)

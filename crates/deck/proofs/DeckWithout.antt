@@ -1,25 +1,26 @@
 -- No condition of a deck is 41.
 -- Assumes nothing.
-use Prim.Native.Nat.{ℕ}
+use Prim.Native.Nat.{ℕ, _+_}
 use native.Mathlib.Omega.{arith}
 use mathlib.Core.List.{List}
 use Rattle.deck.specs.Parts.{linesOf}
 use Rattle.cases.specs.Conditions.{Without, upTo}
+use Rattle.deck.specs.declared.kinds.Kind.{Kind}
 use Rattle.deck.specs.DeckConditions.{fieldConditions, fieldAt, lineConditionsAfter, lineConditions, conditions}
 use Rattle.sizes.specs.Sizes.{fieldsPerLine}
 use Rattle.slots.specs.declared.Sort.{Sort}
-use Rattle.cases.proofs.FirstMet.{without-append, without-upTo}
+use Rattle.cases.proofs.FirstMet.{without-append, without-chained}
 
 -- ---- the deck's own
-field-without : (sort : Sort) (kind : ℕ) (line : List ℕ) (n f : ℕ) → Without 41 (fieldAt sort kind line n f)
+field-without : (sort : Sort) (kind : Kind) (line : List ℕ) (n f : ℕ) → Without 41 (fieldAt sort kind line n f)
 unfolding fieldAt fieldConditions
 field-without sort kind line n f = (λ e. omega arith, (λ e. omega arith, (λ e. omega arith, tt)))
 
 line-without : (sort : Sort) (deck : List ℕ) (n : ℕ) → Without 41 (lineConditions sort deck n)
 unfolding lineConditions lineConditionsAfter
-line-without sort deck n = (λ e. omega arith, (λ e. omega arith, (λ e. omega arith, without-upTo 41 _ (field-without sort _ _ n) fieldsPerLine)))
+line-without sort deck n = (λ e. omega arith, (λ e. omega arith, (λ e. omega arith, without-chained 41 _ (λ k. field-without sort _ _ n (k + 1)) fieldsPerLine)))
 
 pub deck-without : (sort : Sort) (deck : List ℕ) → Without 41 (conditions sort deck)
 unfolding conditions
 deck-without sort deck =
-    (λ e. omega arith, without-append 41 (upTo (lineConditions sort deck) (linesOf deck)) _ (without-upTo 41 (lineConditions sort deck) (line-without sort deck) (linesOf deck)) (λ e. omega arith, tt))
+    (λ e. omega arith, without-append 41 (upTo (lineConditions sort deck) (linesOf deck)) _ (without-chained 41 _ (λ k. line-without sort deck (k + 1)) (linesOf deck)) (λ e. omega arith, tt))

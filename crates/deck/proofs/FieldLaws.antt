@@ -10,6 +10,7 @@ use lib.ListN.{length, getD}
 use lib.Seq.{drop-cons}
 use Rattle.deck.specs.Parts.{fieldIn}
 use Rattle.spelling.specs.Spelling.{wordOf}
+use Rattle.deck.specs.declared.kinds.Kind.{Kind}
 use Rattle.deck.specs.Kinds.{rulesOf}
 use Rattle.cases.specs.Ranges.{withinBounds, inRange}
 use Rattle.slots.specs.Slots.{unused}
@@ -72,7 +73,7 @@ field-turn n f line w rules past s h p e =
     let same : getD rules f unused ≡ getD rules f past = cc in
     rw (← p, add-sub-cancel f 1, same) e
 
-pub fields-by : (sort : Sort) (kind n : ℕ) (line : List ℕ) (rules : List Rule) → rules ≡ rulesOf sort kind
+pub fields-by : (sort : Sort) (kind : Kind) (n : ℕ) (line : List ℕ) (rules : List Rule) → rules ≡ rulesOf sort kind
     → (k : ℕ) → first (upTo (fieldBy rules line n) k) ≡ first (upTo (fieldAt sort kind line n) k)
 unfolding fieldAt fieldBy
 fields-by sort kind n line rules e k = ap (λ (rs : List Rule). first (upTo (fieldBy rs line n) k)) e

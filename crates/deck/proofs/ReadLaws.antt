@@ -5,9 +5,8 @@ use mathlib.Core.Path.{_≡_, refl, sym, ap, _∙_}
 use mathlib.Core.Bool.{Bool, true, false}
 use mathlib.Core.List.{List, [], _∷_, _++_}
 use Rattle.deck.specs.Parts.{linesOf}
-use Rattle.deck.specs.Kinds.{C1, R1}
 use Rattle.cases.specs.Conditions.{at, first, upTo, toldOf}
-use Rattle.deck.specs.DeckConditions.{countOf, lineConditions, badLength, noEnd, conditions}
+use Rattle.deck.specs.DeckConditions.{seenIn, lineConditions, badLength, noEnd, conditions}
 use Rattle.deck.specs.DeckCase.{caseWith, caseOf, caseFor, readOf}
 use Rattle.cases.specs.Cases.{noCase}
 use Rattle.slots.specs.declared.Sort.{Sort}
@@ -39,14 +38,14 @@ module _ (sort : Sort) (deck : List ℕ) where
       unfolding caseFor
       read-stopped number line field q r g = reading r s (g .0) status-is (g .1 ∙ sym (ap (λ (u : Status). caseFor u deck) q))
 
-      pub read-case : s ≡ Passed → (c d : ℕ) → (c ≡ countOf deck C1 (linesOf deck)) × (d ≡ countOf deck R1 (linesOf deck)) → (k : Case) → k ≡ caseWith deck c d
+      pub read-case : s ≡ Passed → (c d : ℕ) → (c ≡ seenIn deck (linesOf deck) .chemicals) × (d ≡ seenIn deck (linesOf deck) .receptors) → (k : Case) → k ≡ caseWith deck c d
           → _≡_ {A = Reading} (record { status = s; case = k }) (readOf sort deck)
       unfolding caseFor caseOf
       read-case q c d n k g =
           reading (record { status = s; case = k }) s refl status-is
           (g
           ∙ ap (λ (m : ℕ). caseWith deck m d) (n .0)
-          ∙ ap (caseWith deck (countOf deck C1 (linesOf deck))) (n .1)
+          ∙ ap (caseWith deck (seenIn deck (linesOf deck) .chemicals)) (n .1)
           ∙ sym (ap (λ (u : Status). caseFor u deck) q))
 
   -- and what is told of it

@@ -1,130 +1,121 @@
 -- Laws of the lines in turn: what the code carries from line to line is what the lines before say.
 -- Assumes nothing.
-use Prim.Native.Nat.{ℕ, suc, _+_, _*_, _-_, _/_, _%_, _≤_, _<_}
+use Prim.Native.Nat.{ℕ, zero, suc, _+_, _*_, _-_, _/_, _%_, _≤_, _<_}
 use native.Mathlib.Nat.{add-sub-cancel, le-antisymm}
 use native.Mathlib.Numerals.{add-one}
 use native.Mathlib.Omega.{arith}
 use mathlib.Core.Path.{_≡_, refl, sym, ap, _∙_, subst}
 use mathlib.Core.Bool.{Bool, true, false, cond, not, _&&_, _||_}
 use mathlib.Core.List.{List, [], _∷_, _++_}
-use borrow.Author.Tests.{eq-eqb, ne-eqb, lt-ltb, le-ltb, leb-false, ltb-false}
+use borrow.Author.Tests.{not-false, eq-eqb, ne-eqb, lt-ltb, le-ltb, leb-false, ltb-false}
 use lib.Dec.{leb, ltb, eqb}
 use lib.ListN.{length, take, drop, length-take, length-drop}
-use Rattle.spelling.specs.Columns.{leading, within}
-use Rattle.deck.specs.Parts.{linesOf, lineOf}
-use Rattle.spelling.specs.Spelling.{idIn, idSpelled}
-use Rattle.deck.specs.Kinds.{kindOf, C1, R1, EN, among, befores, kindOrder}
+use Rattle.spelling.specs.Columns.{within}
+use Rattle.deck.specs.Parts.{deckLineWidth, linesOf, lineOf}
+use Rattle.deck.specs.Kinds.{kindOf, kindIn, isLine, isEnd, mayFollow}
 use Rattle.cases.specs.Cases.{maxReceptors}
-use Rattle.sizes.specs.Sizes.{fieldsPerLine}
+use Rattle.sizes.specs.Sizes.{fieldsPerLine, maxChemicals, mostStages}
+use Rattle.slots.specs.declared.Owner.the-variants.{Chemical, Receptor}
 use Rattle.slots.specs.declared.Sort.{Sort}
+use Rattle.deck.specs.declared.kinds.Kind.{Kind}
+use Rattle.deck.specs.declared.kinds.Kind.the-variants.{Start}
+use Rattle.deck.specs.declared.lines.Seen.{Seen}
 use Rattle.slots.specs.declared.Sort.the-variants.{Ordinary, Composite}
+use Rattle.lists.specs.Lists.{chained}
 use Rattle.cases.specs.Conditions.{Condition, at, first, upTo}
-use Rattle.deck.specs.DeckConditions.{fieldAt, badBytes, badKind, badId, idOf, lineConditionsAfter, countOf, lineConditions, maxLength, badLength, noEnd}
+use Rattle.deck.specs.DeckConditions.{fieldAt, badBytes, badKind, badId, idOf, lineConditionsAfter, begunWith, seenWith, seenIn, lineConditions, maxLength, badLength, noEnd}
 use Rattle.cases.specs.declared.Status.{Status}
 use Rattle.cases.specs.declared.Status.the-variants.{Passed, Stopped}
 use Rattle.deck.proofs.PartLaws.{line-is}
 use Rattle.deck.proofs.DeckCaseLaws.{line-full}
-use Rattle.cases.proofs.FirstMet.{orElse, first-append, turn-on, turn-out, first-read}
+use Rattle.cases.proofs.FirstMet.{orElse, first-append, goes-on, stops, first-read}
 use Rattle.lists.proofs.Booleans.{neither}
 
 -- what a line that stops nothing tells
-pub record LineRead (sort : Sort) (before idBefore chemicals receptors n : ℕ) (line : List ℕ) : Type 0 where
+pub record LineRead (sort : Sort) (seen : Seen) (n : ℕ) (line : List ℕ) : Type 0 where
   pub bytes : badBytes line ≡ false
-  pub kind : badKind sort before (kindOf line) chemicals receptors ≡ false
-  pub id : badId before idBefore (kindOf line) line ≡ false
+  pub kind : badKind sort seen (kindOf line) ≡ false
+  pub id : badId seen (kindOf line) line ≡ false
   pub fields : first (upTo (fieldAt sort (kindOf line) line n) fieldsPerLine) ≡ Passed
 
-pub line-read : (sort : Sort) (before idBefore chemicals receptors n : ℕ) (line : List ℕ) → first (lineConditionsAfter sort before idBefore chemicals receptors line n) ≡ Passed
-    → LineRead sort before idBefore chemicals receptors n line
+pub line-read : (sort : Sort) (seen : Seen) (n : ℕ) (line : List ℕ) → first (lineConditionsAfter sort seen line n) ≡ Passed → LineRead sort seen n line
 unfolding lineConditionsAfter
-line-read sort before idBefore chemicals receptors n line e =
+line-read sort seen n line e =
     let a = first-read _ _ e in
     let b = first-read _ _ (a .1) in
     let c = first-read _ _ (b .1) in
     record { bytes = a .0; kind = b .0; id = c .0; fields = c .1 }
 
-counted : (t : Bool) (n m : ℕ) → n ≤ m → (t && leb m n) ≡ false → cond t (suc n) n ≤ m
-counted true n m h e = leb-false m n e
-counted false n m h e = h
-
 -- a case has room for the receptors of either sort
-pub in-room : (sort : Sort) → maxReceptors sort ≤ 8
+pub in-room : (sort : Sort) → maxReceptors sort ≤ mostStages
 in-room Ordinary = omega arith
 in-room Composite = omega arith
 
-module _ (sort : Sort) (before kind chemicals receptors : ℕ) (e : badKind sort before kind chemicals receptors ≡ false) where
-  parts : ((not (among before (befores kindOrder kind)) || eqb kind C1 && leb 16 chemicals) ≡ false) × ((eqb kind R1 && leb (maxReceptors sort) receptors) ≡ false)
+few-with : (t : Bool) (n m : ℕ) → n ≤ m → (t && leb m n) ≡ false → cond t (suc n) n ≤ m
+few-with true n m h e = leb-false m n e
+few-with false n m h e = h
+
+module _ (sort : Sort) (seen : Seen) (kind : Kind) (e : badKind sort seen kind ≡ false) where
+  parts : (mayFollow (seen .kind) kind ≡ true)
+      × ((isLine Chemical 0 kind && leb maxChemicals (seen .chemicals)) ≡ false)
+      × ((isLine Receptor 0 kind && leb (maxReceptors sort) (seen .receptors)) ≡ false)
   unfolding badKind
-  parts = neither (not (among before (befores kindOrder kind)) || eqb kind C1 && leb 16 chemicals) (eqb kind R1 && leb (maxReceptors sort) receptors) e
+  parts =
+      let out = not (mayFollow (seen .kind) kind) in
+      let c = isLine Chemical 0 kind && leb maxChemicals (seen .chemicals) in
+      let a = neither (out || c) (isLine Receptor 0 kind && leb (maxReceptors sort) (seen .receptors)) e in
+      let b = neither out c (a .0) in
+      (not-false (mayFollow (seen .kind) kind) (b .0), b .1, a .1)
 
-  pub few-chemicals : chemicals ≤ 16 → cond (eqb kind C1) (suc chemicals) chemicals ≤ 16
-  few-chemicals h = counted (eqb kind C1) chemicals 16 h (neither (not (among before (befores kindOrder kind))) (eqb kind C1 && leb 16 chemicals) (parts .0) .1)
+  pub may-follow : mayFollow (seen .kind) kind ≡ true
+  may-follow = parts .0
 
-  pub few-receptors : receptors ≤ maxReceptors sort → cond (eqb kind R1) (suc receptors) receptors ≤ maxReceptors sort
-  few-receptors h = counted (eqb kind R1) receptors (maxReceptors sort) h (parts .1)
+  pub few-chemicals : seen .chemicals ≤ maxChemicals → begunWith Chemical kind (seen .chemicals) ≤ maxChemicals
+  unfolding begunWith
+  few-chemicals h = few-with (isLine Chemical 0 kind) (seen .chemicals) maxChemicals h (parts .1)
+
+  pub few-receptors : seen .receptors ≤ maxReceptors sort → begunWith Receptor kind (seen .receptors) ≤ maxReceptors sort
+  unfolding begunWith
+  few-receptors h = few-with (isLine Receptor 0 kind) (seen .receptors) (maxReceptors sort) h (parts .2)
 
 -- ---- what the code carries after n lines
-pub record Scanned (sort : Sort) (deck : List ℕ) (n kind id chemicals receptors : ℕ) : Type 0 where
-  pub bound : n ≤ length deck / 81
+pub record Scanned (sort : Sort) (deck : List ℕ) (n : ℕ) (seen : Seen) : Type 0 where
+  pub bound : n ≤ length deck / deckLineWidth
   pub reads : first (upTo (lineConditions sort deck) n) ≡ Passed
-  pub kind-is : kind ≡ kindOf (lineOf deck n)
-  pub id-is : id ≡ idOf (lineOf deck n)
-  pub chemicals-are : chemicals ≡ countOf deck C1 n
-  pub receptors-are : receptors ≡ countOf deck R1 n
-  pub few-c : chemicals ≤ 16
-  pub few-r : receptors ≤ maxReceptors sort
+  pub told : seen ≡ seenIn deck n
+  pub few-c : seen .chemicals ≤ maxChemicals
+  pub few-r : seen .receptors ≤ maxReceptors sort
 
-line-none : (deck : List ℕ) → lineOf deck 0 ≡ []
-unfolding lineOf within
-line-none deck = refl
+pub scanned-start : (sort : Sort) (deck : List ℕ) → Scanned sort deck 0 (record { kind = Start; id = 0; chemicals = 0; receptors = 0 })
+unfolding first chained seenIn
+scanned-start sort deck = record { bound = omega arith; reads = refl; told = refl; few-c = omega arith; few-r = omega arith }
 
-pub scanned-start : (sort : Sort) (deck : List ℕ) → Scanned sort deck 0 0 0 0 0
-unfolding first upTo countOf kindOf idOf idIn idSpelled leading
-scanned-start sort deck =
-    record {
-      bound = omega arith;
-      reads = refl;
-      kind-is = ap kindOf (sym (line-none deck));
-      id-is = ap idOf (sym (line-none deck));
-      chemicals-are = refl;
-      receptors-are = refl;
-      few-c = omega arith;
-      few-r = omega arith;
-    }
-
-module _ (sort : Sort) (deck l : List ℕ) (n kind id chemicals receptors : ℕ) (s : Scanned sort deck n kind id chemicals receptors) (e : l ≡ lineOf deck (n + 1)) (t : Status)
-    (f : t ≡ first (lineConditionsAfter sort kind id chemicals receptors l (n + 1))) where
+module _ (sort : Sort) (deck l : List ℕ) (n : ℕ) (seen : Seen) (s : Scanned sort deck n seen) (e : l ≡ lineOf deck (n + 1)) (t : Status)
+    (f : t ≡ first (lineConditionsAfter sort seen l (n + 1))) where
   pub here : t ≡ first (lineConditions sort deck (n + 1))
   unfolding lineConditions
-  here =
-      rw (add-sub-cancel n 1, ← s .kind-is, ← s .id-is, ← s .chemicals-are, ← s .receptors-are, ← e) f
+  here = rw (add-sub-cancel n 1, ← s .told, ← e) f
 
-  pub scan-out : n < length deck / 81 → (number line field : ℕ) → t ≡ Stopped number line field → (last : List Condition)
+  pub scan-out : n < length deck / deckLineWidth → (number line field : ℕ) → t ≡ Stopped number line field → (last : List Condition)
       → t ≡ first (upTo (lineConditions sort deck) (linesOf deck) ++ last)
   unfolding linesOf orElse
   scan-out h number line field q last =
-      let r = turn-out (lineConditions sort deck) n (length deck / 81) h (s .reads) t here number line field q in
-      q ∙ sym (first-append (upTo (lineConditions sort deck) (length deck / 81)) last ∙ ap (λ (u : Status). orElse u (first last)) (sym r ∙ q))
+      let r = stops (λ k. lineConditions sort deck (k + 1)) n (s .reads) t here (length deck / deckLineWidth) h number line field q in
+      q ∙ sym (first-append (upTo (lineConditions sort deck) (length deck / deckLineWidth)) last ∙ ap (λ (u : Status). orElse u (first last)) (sym r ∙ q))
 
-  count-next : (k c : ℕ) → c ≡ countOf deck k n → cond (eqb (kindOf l) k) (suc c) c ≡ countOf deck k (n + 1)
-  unfolding countOf
-  count-next k c q = rw (add-one, ← q) (ap (λ (m : List ℕ). cond (eqb (kindOf m) k) (suc c) c) (e ∙ ap (lineOf deck) (add-one n)))
-
-  pub scan-on : n < length deck / 81 → t ≡ Passed → (kind′ id′ a b c d : ℕ) → kind′ ≡ kindOf l → id′ ≡ idOf l → (a ≡ kind′) × (b ≡ id′)
-      → c ≡ cond (eqb kind′ C1) (suc chemicals) chemicals → d ≡ cond (eqb kind′ R1) (suc receptors) receptors → Scanned sort deck (n + 1) a b c d
-  scan-on h q kind′ id′ a b c d k i ab cc dd =
-      let read = line-read sort kind id chemicals receptors (n + 1) l (sym f ∙ q) in
-      let c′ : c ≡ cond (eqb (kindOf l) C1) (suc chemicals) chemicals = cc ∙ ap (λ (m : ℕ). cond (eqb m C1) (suc chemicals) chemicals) k in
-      let d′ : d ≡ cond (eqb (kindOf l) R1) (suc receptors) receptors = dd ∙ ap (λ (m : ℕ). cond (eqb m R1) (suc receptors) receptors) k in
+  pub scan-on : n < length deck / deckLineWidth → t ≡ Passed → (kind : Kind) (id : ℕ) (next : Seen) → kind ≡ kindOf l → id ≡ idOf l → next ≡ seenWith seen kind id
+      → Scanned sort deck (n + 1) next
+  unfolding seenIn seenWith
+  scan-on h q kind id next k i w =
+      let read = line-read sort seen (n + 1) l (sym f ∙ q) in
+      let v : next ≡ seenWith seen (kindOf l) (idOf l) = w ∙ (λ j. seenWith seen (k j) (i j)) in
+      let line : l ≡ lineOf deck (suc n) = e ∙ ap (lineOf deck) (add-one n) in
       record {
         bound = omega arith;
-        reads = turn-on (lineConditions sort deck) n (s .reads) t here q;
-        kind-is = ab .0 ∙ k ∙ ap kindOf e;
-        id-is = ab .1 ∙ i ∙ ap idOf e;
-        chemicals-are = c′ ∙ count-next C1 chemicals (s .chemicals-are);
-        receptors-are = d′ ∙ count-next R1 receptors (s .receptors-are);
-        few-c = subst (λ (m : ℕ). m ≤ 16) (sym c′) (few-chemicals sort kind (kindOf l) chemicals receptors (read .kind) (s .few-c));
-        few-r = subst (λ (m : ℕ). m ≤ maxReceptors sort) (sym d′) (few-receptors sort kind (kindOf l) chemicals receptors (read .kind) (s .few-r));
+        reads = goes-on (λ k. lineConditions sort deck (k + 1)) n (s .reads) t here q;
+        told = rw add-one (v ∙ (λ j. seenWith (s .told j) (kindOf (line j)) (idOf (line j))));
+        few-c = subst (λ (x : Seen). x .chemicals ≤ maxChemicals) (sym v) (few-chemicals sort seen (kindOf l) (read .kind) (s .few-c));
+        few-r = subst (λ (x : Seen). x .receptors ≤ maxReceptors sort) (sym v) (few-receptors sort seen (kindOf l) (read .kind) (s .few-r));
       }
 
 -- ---- the end
@@ -132,26 +123,36 @@ ending : (b : Bool) (s : Status) → cond b Passed s ≡ cond (not b) s Passed
 ending true s = refl
 ending false s = refl
 
-module _ (sort : Sort) (deck : List ℕ) (n kind id chemicals receptors : ℕ) (s : Scanned sort deck n kind id chemicals receptors) (h : length deck / 81 ≤ n) where
+-- the last line is EN, told by what was seen or by the line itself
+pub end-seen : (deck : List ℕ) (n : ℕ) → isEnd (seenIn deck n .kind) ≡ isEnd (kindOf (lineOf deck n))
+unfolding seenIn seenWith lineOf within kindOf kindIn
+end-seen deck zero = refl
+end-seen deck (suc n) = refl
+
+module _ (sort : Sort) (deck : List ℕ) (n : ℕ) (seen : Seen) (s : Scanned sort deck n seen) (h : length deck / deckLineWidth ≤ n) where
   pub all : n ≡ linesOf deck
   unfolding linesOf
   all = le-antisymm (s .bound) h
 
-  pub scan-end : (t : Status) → t ≡ cond (eqb kind EN) Passed (Stopped 21 (length deck / 81 + 1) 0)
+  pub all-told : seen ≡ seenIn deck (linesOf deck)
+  all-told = s .told ∙ ap (seenIn deck) all
+
+  pub scan-end : (t : Status) → t ≡ cond (isEnd (seen .kind)) Passed (Stopped 21 (length deck / deckLineWidth + 1) 0)
       → t ≡ first (upTo (lineConditions sort deck) (linesOf deck) ++ (at 21 (linesOf deck + 1) 0 (noEnd deck) ∷ []))
   unfolding linesOf first orElse noEnd
   scan-end t e =
+      let m = length deck / deckLineWidth in
       e
-      ∙ ap (λ (k : ℕ). cond (eqb k EN) Passed (Stopped 21 (length deck / 81 + 1) 0)) (s .kind-is ∙ ap (λ (m : ℕ). kindOf (lineOf deck m)) all)
-      ∙ ending (eqb (kindOf (lineOf deck (length deck / 81))) EN) (Stopped 21 (length deck / 81 + 1) 0)
+      ∙ ap (λ (b : Bool). cond b Passed (Stopped 21 (m + 1) 0)) (ap (λ (x : Seen). isEnd (x .kind)) all-told ∙ end-seen deck m)
+      ∙ ending (isEnd (kindOf (lineOf deck m))) (Stopped 21 (m + 1) 0)
       ∙ sym
-      (first-append (upTo (lineConditions sort deck) (length deck / 81)) (at 21 (length deck / 81 + 1) 0 (noEnd deck) ∷ [])
-      ∙ ap (λ (u : Status). orElse u (first (at 21 (length deck / 81 + 1) 0 (noEnd deck) ∷ [])))
-      (subst (λ (m : ℕ). first (upTo (lineConditions sort deck) m) ≡ Passed) all (s .reads)))
+      (first-append (upTo (lineConditions sort deck) m) (at 21 (m + 1) 0 (noEnd deck) ∷ [])
+      ∙ ap (λ (u : Status). orElse u (first (at 21 (m + 1) 0 (noEnd deck) ∷ [])))
+      (subst (λ (k : ℕ). first (upTo (lineConditions sort deck) k) ≡ Passed) all (s .reads)))
 
-  pub scan-counts : (c d : ℕ) → (c ≡ chemicals) × (d ≡ receptors) → (c ≡ countOf deck C1 (linesOf deck)) × (d ≡ countOf deck R1 (linesOf deck))
-  scan-counts c d e =
-      (e .0 ∙ s .chemicals-are ∙ ap (countOf deck C1) all, e .1 ∙ s .receptors-are ∙ ap (countOf deck R1) all)
+  pub scan-counts : (c d : ℕ) → (c ≡ seen .chemicals) × (d ≡ seen .receptors)
+      → (c ≡ seenIn deck (linesOf deck) .chemicals) × (d ≡ seenIn deck (linesOf deck) .receptors)
+  scan-counts c d e = (e .0 ∙ ap (λ (x : Seen). x .chemicals) all-told, e .1 ∙ ap (λ (x : Seen). x .receptors) all-told)
 
 -- ---- 11
 pub length-none : (sort : Sort) (deck : List ℕ) → length deck ≡ 0 → true ≡ badLength sort deck
@@ -163,29 +164,29 @@ module _ (sort : Sort) (deck : List ℕ) (h : length deck ≡ 0 → ⊥) (m : �
   unfolding badLength
   length-long k = simp (ne-eqb (length deck) 0 h, ap (λ (x : ℕ). ltb x (length deck)) (sym e) ∙ lt-ltb m (length deck) k)
 
-  pub length-rest : length deck ≤ m → not (eqb (length deck % 81) 0) ≡ badLength sort deck
+  pub length-rest : length deck ≤ m → not (eqb (length deck % deckLineWidth) 0) ≡ badLength sort deck
   unfolding badLength
   length-rest k = simp (ne-eqb (length deck) 0 h, ap (λ (x : ℕ). ltb x (length deck)) (sym e) ∙ le-ltb m (length deck) k)
 
-longest : (sort : Sort) → maxLength sort ≤ 8019
+longest : (sort : Sort) → maxLength sort ≤ maxLength Composite
 longest Ordinary = omega arith
 longest Composite = omega arith
 
-pub length-held : (sort : Sort) (deck : List ℕ) (b : Bool) → b ≡ badLength sort deck → b ≡ false → length deck ≤ 8019
+pub length-held : (sort : Sort) (deck : List ℕ) (b : Bool) → b ≡ badLength sort deck → b ≡ false → length deck ≤ maxLength Composite
 unfolding badLength
 length-held sort deck b e h =
-    let none = neither (eqb (length deck) 0 || ltb (maxLength sort) (length deck)) (not (eqb (length deck % 81) 0)) (sym e ∙ h) .0 in
+    let none = neither (eqb (length deck) 0 || ltb (maxLength sort) (length deck)) (not (eqb (length deck % deckLineWidth) 0)) (sym e ∙ h) .0 in
     let long = ltb-false (maxLength sort) (length deck) (neither (eqb (length deck) 0) (ltb (maxLength sort) (length deck)) none .1) in
     omega (arith, longest sort)
 
 -- a line that the deck has is not empty
-line-some : (deck : List ℕ) (n : ℕ) → n < length deck / 81 → (l : List ℕ) → l ≡ lineOf deck (n + 1) → length l ≡ 0 → ⊥
+line-some : (deck : List ℕ) (n : ℕ) → n < length deck / deckLineWidth → (l : List ℕ) → l ≡ lineOf deck (n + 1) → length l ≡ 0 → ⊥
 line-some deck n h l e z =
-    let k : 81 * (n + 1 - 1) + 81 ≤ length deck = omega arith in
-    let m : length (take 81 (drop (81 * (n + 1 - 1)) deck)) ≡ 81 =
-    length-take 81 (drop (81 * (n + 1 - 1)) deck) ∙ omega (arith, length-drop (81 * (n + 1 - 1)) deck) in
-    let q : length l ≡ 81 = ap length (e ∙ line-is deck (n + 1) (omega arith) (omega arith)) ∙ m in
+    let k : deckLineWidth * (n + 1 - 1) + deckLineWidth ≤ length deck = omega arith in
+    let m : length (take deckLineWidth (drop (deckLineWidth * (n + 1 - 1)) deck)) ≡ deckLineWidth =
+    length-take deckLineWidth (drop (deckLineWidth * (n + 1 - 1)) deck) ∙ omega (arith, length-drop (deckLineWidth * (n + 1 - 1)) deck) in
+    let q : length l ≡ deckLineWidth = ap length (e ∙ line-is deck (n + 1) (omega arith) (omega arith)) ∙ m in
     omega arith
 
-pub line-whole : (deck : List ℕ) (n : ℕ) → n < length deck / 81 → (l : List ℕ) → l ≡ lineOf deck (n + 1) → length l ≡ 81
+pub line-whole : (deck : List ℕ) (n : ℕ) → n < length deck / deckLineWidth → (l : List ℕ) → l ≡ lineOf deck (n + 1) → length l ≡ deckLineWidth
 line-whole deck n h l e = line-full deck (n + 1) l e (line-some deck n h l e)

@@ -9,7 +9,7 @@ use mathlib.Core.Path.{_≡_, refl, sym, ap, _∙_, subst}
 use mathlib.Core.Logic.{⊎-elim}
 use mathlib.Core.Bool.{Bool, true, false, cond, not, _&&_, _||_, false≢true}
 use mathlib.Core.List.{List, [], _∷_, _++_}
-use borrow.Author.Tests.{ne-eqb, eqb-true, eqb-false, le-leb}
+use borrow.Author.Tests.{ne-eqb, eqb-true, eqb-false, ltb-true, ltb-false, le-leb}
 use lib.Dec.{leb, ltb, eqb, lit≤, lit<}
 use lib.IntN.{ℤ}
 use lib.ListN.{length, getD, take, drop, set, replicate, length-append, length-drop, take-append-drop}
@@ -17,18 +17,23 @@ use lib.Seq.{length-take-le, take-at, drop-at, take-take, take-add, take-suc, dr
 use Rattle.slots.specs.Slots.{unused, guidanceYear, yearOf, table, same, isIn, placeIn, ownerOf, placeOf, ruleIn, ruleAt, lineRules}
 use Rattle.slots.specs.declared.Guidance.the-variants.{Of2005, Of2009}
 use Rattle.slots.specs.declared.Sort.{Sort}
-use Rattle.spelling.specs.Columns.{within, leading}
-use Rattle.deck.specs.Parts.{linesOf, lineOf, fieldIn, fieldOf}
+use Rattle.sizes.specs.Sizes.{fieldsPerLine, siteLines, recordLines, slotsPerRecord, maxChemicals, mostStages}
+use Rattle.spelling.specs.Columns.{within, leading, fieldWidth, idWidth}
+use Rattle.deck.specs.Parts.{kindWidth, fieldsStart, columns, deckLineWidth, linesOf, lineOf, fieldIn, fieldOf}
 use Rattle.spelling.specs.Spelling.{digitsOf, unspaced, signSpelled, exponentSpelled, endedOf, pointedOf, spelledOf, loneDash, wordOf, idIn}
-use Rattle.deck.specs.Kinds.{Follows, _after_, kindOf, start, S1, S2, C1, R1, EN, kindOrder, befores, among, kinds, rulesIn, rulesOf}
+use Rattle.deck.specs.Kinds.{kindIn, kindOf, isLine, isLast, isEnd, mayBegin, mayFollow, rulesOf}
+use Rattle.slots.specs.declared.Owner.the-variants.{Site, Chemical, Receptor}
+use Rattle.deck.specs.declared.kinds.Kind.{Kind}
+use Rattle.deck.specs.declared.kinds.Kind.the-variants.{Start, Line, End, Other}
+use Rattle.deck.specs.declared.lines.Seen.{Seen}
 use Rattle.powers.specs.Powers.{above, below}
 use Rattle.cases.specs.Ranges.{valueAtMost, valueAtLeast, withinBounds, isYearOf, isYear, inRange}
 use Rattle.cases.specs.Conditions.{Condition, at, first, upTo}
-use Rattle.deck.specs.DeckConditions.{misspelled, misplaced, outOfRange, fieldConditions, fieldAt, badBytes, badKind, idOf, wrongId, badId, lineConditionsAfter, countOf, lineConditions, maxLength, badLength, noEnd, conditions}
-use Rattle.lists.specs.Lists.{tabulate}
-use Rattle.deck.specs.DeckCase.{valueOf, slotSpelled, recordOf, recordsOf, caseWith, caseOf}
+use Rattle.deck.specs.DeckConditions.{misspelled, misplaced, outOfRange, fieldConditions, fieldAt, badBytes, badKind, idOf, wrongId, badId, lineConditionsAfter, seenWith, seenIn, lineConditions, maxLength, badLength, noEnd, conditions}
+use Rattle.lists.specs.Lists.{tabulate, chained}
+use Rattle.deck.specs.DeckCase.{chemicalsStart, valueOf, slotSpelled, recordOf, recordsOf, caseWith, caseOf}
 use Rattle.cases.specs.Cases.{noSlot, noRecord, valueAt, guidanceOf, clearYear, caseWithoutYear}
-use Rattle.deck.specs.Guidance.{yearWord, is2005, withoutYear}
+use Rattle.deck.specs.Guidance.{yearWord, is2005, yearColumn, yearStart, yearEnd, withoutYear}
 use Rattle.spelling.specs.declared.Word.{Word}
 use Rattle.spelling.specs.declared.Word.the-variants.{Blank, Dash, Number, Other}
 use Rattle.cases.specs.declared.Filled.{Filled}
@@ -42,10 +47,20 @@ use Rattle.spelling.proofs.WordLaws.{exponent-four}
 use Rattle.deck.proofs.PartLaws.{line-is}
 use Rattle.lists.proofs.Tabulated.{length-tabulate, filled-at, tabulate-same}
 use Rattle.deck.proofs.SpelledWords.{choose}
-use Rattle.cases.proofs.FirstMet.{orElse, first-append, upTo-each}
-use Rattle.deck.proofs.Scan.{line-read}
-use Rattle.deck.proofs.LinePlaces.{may-follow}
+use Rattle.cases.proofs.FirstMet.{orElse, first-append, chained-each}
+use Rattle.deck.proofs.Scan.{line-read, may-follow}
+use Rattle.deck.proofs.KindLaws.{is-line}
 use Rattle.lists.proofs.ListLaws.{drop-take}
+
+-- the year's line is the site's last, and its slot the last of those
+abbrev yearLine : Kind
+yearLine = Line Site (siteLines - 1)
+
+abbrev siteSlots : ℕ
+siteSlots = siteLines * fieldsPerLine
+
+abbrev yearSlot : ℕ
+yearSlot = siteSlots - 1
 
 module _ (n : ℕ) (s t : List ℕ) (e : take n s ≡ take n t) where
   same-front : (m : ℕ) → m ≤ n → take m s ≡ take m t
@@ -167,145 +182,150 @@ plain-2005 part h =
     h)
 
 -- ---- a line, and the same with its sixth field blanked out
--- 68 columns, the twelve of the field, and the line feed
+-- yearColumn columns, the twelve of the field, and the line feed
 record Blanked (l m : List ℕ) : Type 0 where
-  front : take 68 m ≡ take 68 l
-  field : take 12 (drop 68 m) ≡ replicate 12 32
-  end : drop 80 m ≡ drop 80 l
+  front : take yearColumn m ≡ take yearColumn l
+  field : take fieldWidth (drop yearColumn m) ≡ replicate fieldWidth 32
+  end : drop columns m ≡ drop columns l
 
-in-three : (l : List ℕ) → take 68 l ++ (take 12 (drop 68 l) ++ drop 80 l) ≡ l
+in-three : (l : List ℕ) → take yearColumn l ++ (take fieldWidth (drop yearColumn l) ++ drop columns l) ≡ l
 in-three l =
-    ap (λ (r : List ℕ). take 68 l ++ (take 12 (drop 68 l) ++ r)) (sym (drop-drop 12 68 l))
-    ∙ ap (λ (r : List ℕ). take 68 l ++ r) (take-append-drop 12 (drop 68 l))
-    ∙ take-append-drop 68 l
+    ap (λ (r : List ℕ). take yearColumn l ++ (take fieldWidth (drop yearColumn l) ++ r)) (sym (drop-drop fieldWidth yearColumn l))
+    ∙ ap (λ (r : List ℕ). take yearColumn l ++ r) (take-append-drop fieldWidth (drop yearColumn l))
+    ∙ take-append-drop yearColumn l
 
 module _ (l m : List ℕ) (b : Blanked l m) where
   kind-same : kindOf m ≡ kindOf l
   unfolding kindOf
   kind-same =
-      let p = same-byte 68 m l (b .front) 0 (lit≤ tt) in
-      let q = same-byte 68 m l (b .front) 1 (lit≤ tt) in
-      λ i. 256 * p i + q i
+      let p = same-byte yearColumn m l (b .front) 0 (lit≤ tt) in
+      let q = same-byte yearColumn m l (b .front) 1 (lit≤ tt) in
+      λ i. kindIn (p i) (q i)
 
   id-same : idOf m ≡ idOf l
   unfolding idOf
-  id-same = ap idIn (same-part 68 m l (b .front) 2 6 (lit≤ tt))
+  id-same = ap idIn (same-part yearColumn m l (b .front) kindWidth idWidth (lit≤ tt))
 
-  field-same : (f : ℕ) → f ≤ 5 → fieldIn m f ≡ fieldIn l f
+  field-same : (f : ℕ) → f < fieldsPerLine → fieldIn m f ≡ fieldIn l f
   unfolding fieldIn
-  field-same f h = ap (λ (r : List ℕ). cond (within 1 6 f) r []) (same-part 68 m l (b .front) (8 + 12 * (f - 1)) 12 (omega arith))
+  field-same f h = ap (λ (r : List ℕ). cond (within 1 fieldsPerLine f) r []) (same-part yearColumn m l (b .front) (fieldsStart + fieldWidth * (f - 1)) fieldWidth (omega arith))
 
-  sixth-blank : wordOf (fieldIn m 6) ≡ Blank
+  sixth-blank : wordOf (fieldIn m fieldsPerLine) ≡ Blank
   unfolding fieldIn within wordOf leading
   sixth-blank = ap wordOf (b .field)
 
   -- where the field's bytes were right, the line's are as right as before
-  bytes-same : length l ≡ 81 → Plain (fieldIn l 6) → badBytes m ≡ badBytes l
+  bytes-same : length l ≡ deckLineWidth → Plain (fieldIn l fieldsPerLine) → badBytes m ≡ badBytes l
   unfolding badBytes fieldIn within leading
   bytes-same long p =
-      let r = drop 80 l in
-      let w : length (take 12 (drop 68 l)) ≡ 12 = length-take-le 12 (drop 68 l) (omega (arith, length-drop 68 l)) in
-      let u : leading 32 126 (replicate 12 32 ++ r) ≡ leading 32 126 (take 12 (drop 68 l) ++ r) =
-      leads-append 32 126 (replicate 12 32) r refl ∙ omega (arith, leads-append 32 126 (take 12 (drop 68 l)) r p) in
-      let v : m ≡ take 68 l ++ (replicate 12 32 ++ r) = sym (in-three m) ∙ (λ i. b .front i ++ (b .field i ++ b .end i)) in
+      let r = drop columns l in
+      let w : length (take fieldWidth (drop yearColumn l)) ≡ fieldWidth = length-take-le fieldWidth (drop yearColumn l) (omega (arith, length-drop yearColumn l)) in
+      let u : leading 32 126 (replicate fieldWidth 32 ++ r) ≡ leading 32 126 (take fieldWidth (drop yearColumn l) ++ r) =
+      leads-append 32 126 (replicate fieldWidth 32) r refl ∙ omega (arith, leads-append 32 126 (take fieldWidth (drop yearColumn l)) r p) in
+      let v : m ≡ take yearColumn l ++ (replicate fieldWidth 32 ++ r) = sym (in-three m) ∙ (λ i. b .front i ++ (b .field i ++ b .end i)) in
       let c : leading 32 126 m ≡ leading 32 126 l =
-      ap (leading 32 126) v ∙ leads-same 32 126 (take 68 l) (replicate 12 32 ++ r) (take 12 (drop 68 l) ++ r) u ∙ ap (leading 32 126) (in-three l) in
-      let d : getD m 80 0 ≡ getD l 80 0 = sym (getD-drop 80 m 0 0) ∙ ap (λ (s : List ℕ). getD s 0 0) (b .end) ∙ getD-drop 80 l 0 0 in
-      λ i. not (eqb (c i) 80 && eqb (d i) 10)
+      ap (leading 32 126) v ∙ leads-same 32 126 (take yearColumn l) (replicate fieldWidth 32 ++ r) (take fieldWidth (drop yearColumn l) ++ r) u ∙ ap (leading 32 126) (in-three l) in
+      let d : getD m columns 0 ≡ getD l columns 0 = sym (getD-drop columns m 0 0) ∙ ap (λ (s : List ℕ). getD s 0 0) (b .end) ∙ getD-drop columns l 0 0 in
+      λ i. not (eqb (c i) columns && eqb (d i) 10)
 
--- ---- a fact of each line, shown for the second apart
-by-line : (P : ℕ → Type 0) → P 2 → ((n : ℕ) → (n ≡ 2 → ⊥) → P n) → (n : ℕ) → P n
-by-line P p q zero = q 0 (λ e. omega arith)
-by-line P p q (suc zero) = q 1 (λ e. omega arith)
-by-line P p q (suc (suc zero)) = p
-by-line P p q (suc (suc (suc n))) = q (suc (suc (suc n))) (λ e. omega arith)
+-- ---- a fact of each line, shown for the year's apart
+by-line : (P : ℕ → Type 0) → P siteLines → ((n : ℕ) → (n ≡ siteLines → ⊥) → P n) → (n : ℕ) → P n
+by-line P p q n = go (eqb n siteLines) refl
+  where
+    go : (t : Bool) → eqb n siteLines ≡ t → P n
+    go true e = subst P (sym (eqb-true n siteLines e)) p
+    go false e = q n (eqb-false n siteLines e)
 
 -- ---- the deck without its year
 -- a part of the second line
-part-of : (s : List ℕ) (k m : ℕ) → k + m ≤ 81 → take m (drop k (take 81 (drop 81 s))) ≡ take m (drop (81 + k) s)
+part-of : (s : List ℕ) (k m : ℕ) → k + m ≤ deckLineWidth → take m (drop k (take deckLineWidth (drop deckLineWidth s))) ≡ take m (drop (deckLineWidth + k) s)
 part-of s k m h =
-    sym (drop-take k m (take 81 (drop 81 s))) ∙ ap (drop k) (take-take (k + m) 81 (drop 81 s) h) ∙ drop-take k m (drop 81 s) ∙ ap (take m) (drop-drop k 81 s)
+    sym (drop-take k m (take deckLineWidth (drop deckLineWidth s))) ∙ ap (drop k) (take-take (k + m) deckLineWidth (drop deckLineWidth s) h) ∙ drop-take k m (drop deckLineWidth s) ∙ ap (take m) (drop-drop k deckLineWidth s)
 
-module _ (deck : List ℕ) (long : 162 ≤ length deck) where
-  taken : length (take 149 deck) ≡ 149
-  taken = length-take-le 149 deck (omega arith)
+module _ (deck : List ℕ) (long : deckLineWidth * siteLines ≤ length deck) where
+  taken : length (take yearStart deck) ≡ yearStart
+  taken = length-take-le yearStart deck (omega arith)
 
-  before-same : take 149 (withoutYear deck) ≡ take 149 deck
+  before-same : take yearStart (withoutYear deck) ≡ take yearStart deck
   unfolding withoutYear
-  before-same = take-at (take 149 deck) (replicate 12 32 ++ drop 161 deck) 149 taken
+  before-same = take-at (take yearStart deck) (replicate fieldWidth 32 ++ drop yearEnd deck) yearStart taken
 
-  from-year : drop 149 (withoutYear deck) ≡ replicate 12 32 ++ drop 161 deck
+  from-year : drop yearStart (withoutYear deck) ≡ replicate fieldWidth 32 ++ drop yearEnd deck
   unfolding withoutYear
-  from-year = drop-at (take 149 deck) (replicate 12 32 ++ drop 161 deck) 149 taken
+  from-year = drop-at (take yearStart deck) (replicate fieldWidth 32 ++ drop yearEnd deck) yearStart taken
 
-  after-same : drop 161 (withoutYear deck) ≡ drop 161 deck
-  after-same = sym (drop-drop 12 149 (withoutYear deck)) ∙ ap (drop 12) from-year
+  after-same : drop yearEnd (withoutYear deck) ≡ drop yearEnd deck
+  after-same = sym (drop-drop fieldWidth yearStart (withoutYear deck)) ∙ ap (drop fieldWidth) from-year
 
   length-same : length (withoutYear deck) ≡ length deck
   unfolding withoutYear
-  length-same = length-append (take 149 deck) (replicate 12 32 ++ drop 161 deck) ∙ omega (arith, taken, length-drop 161 deck)
+  length-same = length-append (take yearStart deck) (replicate fieldWidth 32 ++ drop yearEnd deck) ∙ omega (arith, taken, length-drop yearEnd deck)
 
   lines-same : linesOf (withoutYear deck) ≡ linesOf deck
   unfolding linesOf
-  lines-same = ap (λ (n : ℕ). n / 81) length-same
+  lines-same = ap (λ (n : ℕ). n / deckLineWidth) length-same
 
-  later-same : (k : ℕ) → 161 ≤ k → drop k (withoutYear deck) ≡ drop k deck
+  later-same : (k : ℕ) → yearEnd ≤ k → drop k (withoutYear deck) ≡ drop k deck
   later-same k h =
-      let e : 161 + (k - 161) ≡ k = omega arith in
+      let e : yearEnd + (k - yearEnd) ≡ k = omega arith in
       subst (λ (n : ℕ). drop n (withoutYear deck) ≡ drop n deck) e
-      (sym (drop-drop (k - 161) 161 (withoutYear deck)) ∙ ap (drop (k - 161)) after-same ∙ drop-drop (k - 161) 161 deck)
+      (sym (drop-drop (k - yearEnd) yearEnd (withoutYear deck)) ∙ ap (drop (k - yearEnd)) after-same ∙ drop-drop (k - yearEnd) yearEnd deck)
 
-  columns-same : (n : ℕ) → (n ≡ 2 → ⊥) → take 81 (drop (81 * (n - 1)) (withoutYear deck)) ≡ take 81 (drop (81 * (n - 1)) deck)
-  columns-same zero h = same-front 149 (withoutYear deck) deck before-same 81 (lit≤ tt)
-  columns-same (suc zero) h = same-front 149 (withoutYear deck) deck before-same 81 (lit≤ tt)
-  columns-same (suc (suc zero)) h = absurd (h refl)
-  columns-same (suc (suc (suc n))) h = ap (take 81) (later-same (81 * (suc (suc (suc n)) - 1)) (omega arith))
+  columns-same : (n : ℕ) → (n ≡ siteLines → ⊥)
+      → take deckLineWidth (drop (deckLineWidth * (n - 1)) (withoutYear deck)) ≡ take deckLineWidth (drop (deckLineWidth * (n - 1)) deck)
+  columns-same n h = go (ltb n siteLines) refl
+    where
+      go : (t : Bool) → ltb n siteLines ≡ t
+          → take deckLineWidth (drop (deckLineWidth * (n - 1)) (withoutYear deck)) ≡ take deckLineWidth (drop (deckLineWidth * (n - 1)) deck)
+      go true e = same-part yearStart (withoutYear deck) deck before-same (deckLineWidth * (n - 1)) deckLineWidth (omega (arith, ltb-true n siteLines e))
+      go false e = ap (take deckLineWidth) (later-same (deckLineWidth * (n - 1)) (omega (arith, ltb-false n siteLines e)))
 
   -- every line but the second
-  line-same : (n : ℕ) → (n ≡ 2 → ⊥) → lineOf (withoutYear deck) n ≡ lineOf deck n
+  line-same : (n : ℕ) → (n ≡ siteLines → ⊥) → lineOf (withoutYear deck) n ≡ lineOf deck n
   unfolding lineOf
   line-same n h = let c = columns-same n h in λ i. cond (within 1 (lines-same i) n) (c i) []
 
-  second-is : lineOf deck 2 ≡ take 81 (drop 81 deck)
-  second-is = line-is deck 2 (lit≤ tt) (omega arith)
+  second-is : lineOf deck siteLines ≡ take deckLineWidth (drop deckLineWidth deck)
+  second-is = line-is deck siteLines (lit≤ tt) (omega arith)
 
-  second-without : lineOf (withoutYear deck) 2 ≡ take 81 (drop 81 (withoutYear deck))
-  second-without = line-is (withoutYear deck) 2 (lit≤ tt) (omega (arith, length-same))
+  second-without : lineOf (withoutYear deck) siteLines ≡ take deckLineWidth (drop deckLineWidth (withoutYear deck))
+  second-without = line-is (withoutYear deck) siteLines (lit≤ tt) (omega (arith, length-same))
 
-  second-length : length (lineOf deck 2) ≡ 81
-  second-length = ap length second-is ∙ length-take-le 81 (drop 81 deck) (omega (arith, length-drop 81 deck))
+  second-length : length (lineOf deck siteLines) ≡ deckLineWidth
+  second-length = ap length second-is ∙ length-take-le deckLineWidth (drop deckLineWidth deck) (omega (arith, length-drop deckLineWidth deck))
 
-  second-blanked : Blanked (lineOf deck 2) (lineOf (withoutYear deck) 2)
+  second-blanked : Blanked (lineOf deck siteLines) (lineOf (withoutYear deck) siteLines)
   second-blanked = record {
     front = rw (second-is, second-without)
-        (part-of (withoutYear deck) 0 68 (lit≤ tt)
-        ∙ same-part 149 (withoutYear deck) deck before-same 81 68 (lit≤ tt)
-        ∙ sym (part-of deck 0 68 (lit≤ tt)));
-    field = rw second-without (part-of (withoutYear deck) 68 12 (lit≤ tt) ∙ ap (take 12) from-year);
+        (part-of (withoutYear deck) 0 yearColumn (lit≤ tt)
+        ∙ same-part yearStart (withoutYear deck) deck before-same deckLineWidth yearColumn (lit≤ tt)
+        ∙ sym (part-of deck 0 yearColumn (lit≤ tt)));
+    field = rw second-without (part-of (withoutYear deck) yearColumn fieldWidth (lit≤ tt) ∙ ap (take fieldWidth) from-year);
     end = rw (second-is, second-without)
-        (drop-take 80 1 (drop 81 (withoutYear deck))
-        ∙ ap (take 1) (drop-drop 80 81 (withoutYear deck) ∙ after-same ∙ sym (drop-drop 80 81 deck))
-        ∙ sym (drop-take 80 1 (drop 81 deck)));
+        (drop-take columns 1 (drop deckLineWidth (withoutYear deck))
+        ∙ ap (take 1) (drop-drop columns deckLineWidth (withoutYear deck) ∙ after-same ∙ sym (drop-drop columns deckLineWidth deck))
+        ∙ sym (drop-take columns 1 (drop deckLineWidth deck)));
   }
 
-  -- each line's kind and id, and so the counts
+  -- each line's kind and id, and so what is seen
   kinds-same : (n : ℕ) → kindOf (lineOf (withoutYear deck) n) ≡ kindOf (lineOf deck n)
   kinds-same =
       by-line (λ n. kindOf (lineOf (withoutYear deck) n) ≡ kindOf (lineOf deck n))
-      (kind-same (lineOf deck 2) (lineOf (withoutYear deck) 2) second-blanked) (λ n h. ap kindOf (line-same n h))
+      (kind-same (lineOf deck siteLines) (lineOf (withoutYear deck) siteLines) second-blanked) (λ n h. ap kindOf (line-same n h))
 
   ids-same : (n : ℕ) → idOf (lineOf (withoutYear deck) n) ≡ idOf (lineOf deck n)
   ids-same =
       by-line (λ n. idOf (lineOf (withoutYear deck) n) ≡ idOf (lineOf deck n))
-      (id-same (lineOf deck 2) (lineOf (withoutYear deck) 2) second-blanked) (λ n h. ap idOf (line-same n h))
+      (id-same (lineOf deck siteLines) (lineOf (withoutYear deck) siteLines) second-blanked) (λ n h. ap idOf (line-same n h))
 
-  counts-same : (kind n : ℕ) → countOf (withoutYear deck) kind n ≡ countOf deck kind n
-  unfolding countOf
-  counts-same kind zero = refl
-  counts-same kind (suc n) =
+  seen-same : (n : ℕ) → seenIn (withoutYear deck) n ≡ seenIn deck n
+  unfolding seenIn
+  seen-same zero = refl
+  seen-same (suc n) =
+      let s = seen-same n in
       let k = kinds-same (suc n) in
-      let c = counts-same kind n in
-      λ i. cond (eqb (k i) kind) (suc (c i)) (c i)
+      let d = ids-same (suc n) in
+      λ i. seenWith (s i) (k i) (d i)
 
 module _ {A : Type 0} (f : ℕ → A) (n : ℕ) (rest : List A) where
   tabulate-last : tabulate (suc n) f ++ rest ≡ tabulate n f ++ (f n ∷ rest)
@@ -315,61 +335,57 @@ module _ {A : Type 0} (f : ℕ → A) (n : ℕ) (rest : List A) where
   tabulate-set : (a : A) → set (tabulate (suc n) f ++ rest) n a ≡ tabulate n f ++ (a ∷ rest)
   tabulate-set a = ap (λ (l : List A). set l n a) tabulate-last ∙ set-at (tabulate n f) (f n) rest a n (length-tabulate f a 0 n)
 
-module _ (deck : List ℕ) (long : 162 ≤ length deck) where
-  slot-same : (n k : ℕ) → (n + k / 6 ≡ 2 → k % 6 + 1 ≤ 5) → slotSpelled (withoutYear deck) n k ≡ slotSpelled deck n k
+module _ (deck : List ℕ) (long : deckLineWidth * siteLines ≤ length deck) where
+  slot-same : (n k : ℕ) → (n + k / fieldsPerLine ≡ siteLines → k % fieldsPerLine + 1 < fieldsPerLine) → slotSpelled (withoutYear deck) n k ≡ slotSpelled deck n k
   unfolding slotSpelled fieldOf
   slot-same n k =
-      let f = k % 6 + 1 in
+      let f = k % fieldsPerLine + 1 in
       by-line
-      (λ m. (m ≡ 2 → f ≤ 5) → _≡_ {A = Filled} (record { value = valueOf (wordOf (fieldIn (lineOf (withoutYear deck) m) f)) }) (record { value = valueOf (wordOf (fieldIn (lineOf deck m) f)) }))
-      (λ h i. record { value = valueOf (wordOf (field-same (lineOf deck 2) (lineOf (withoutYear deck) 2) (second-blanked deck long) f (h refl) i)) })
+      (λ m. (m ≡ siteLines → f < fieldsPerLine) → _≡_ {A = Filled} (record { value = valueOf (wordOf (fieldIn (lineOf (withoutYear deck) m) f)) }) (record { value = valueOf (wordOf (fieldIn (lineOf deck m) f)) }))
+      (λ h i. record { value = valueOf (wordOf (field-same (lineOf deck siteLines) (lineOf (withoutYear deck) siteLines) (second-blanked deck long) f (h refl) i)) })
       (λ m q h i. record { value = valueOf (wordOf (fieldIn (line-same deck long m q i) f)) })
-      (n + k / 6)
+      (n + k / fieldsPerLine)
 
-  year-cleared : slotSpelled (withoutYear deck) 1 11 ≡ noSlot
+  year-cleared : slotSpelled (withoutYear deck) 1 yearSlot ≡ noSlot
   unfolding slotSpelled fieldOf valueOf
-  year-cleared = λ i. record { value = valueOf (sixth-blank (lineOf deck 2) (lineOf (withoutYear deck) 2) (second-blanked deck long) i) }
+  year-cleared = λ i. record { value = valueOf (sixth-blank (lineOf deck siteLines) (lineOf (withoutYear deck) siteLines) (second-blanked deck long) i) }
 
-  site-cleared : recordOf (withoutYear deck) 1 2 ≡ clearYear (recordOf deck 1 2)
+  site-cleared : recordOf (withoutYear deck) 1 siteLines ≡ clearYear (recordOf deck 1 siteLines)
   unfolding recordOf clearYear placeOf ownerOf isIn placeIn same table
   site-cleared =
-      let none = replicate 12 noSlot in
+      let none = replicate (slotsPerRecord - siteSlots) noSlot in
       let e = ids-same deck long 1 in
-      let t = tabulate-same (slotSpelled (withoutYear deck) 1) (slotSpelled deck 1) 11 (λ k h. slot-same 1 k (λ q. omega arith)) in
-      let s : tabulate 12 (slotSpelled (withoutYear deck) 1) ++ none ≡ set (tabulate 12 (slotSpelled deck 1) ++ none) 11 noSlot =
-      tabulate-last (slotSpelled (withoutYear deck) 1) 11 none ∙ (λ i. t i ++ (year-cleared i ∷ none)) ∙ sym (tabulate-set (slotSpelled deck 1) 11 none noSlot) in
+      let t = tabulate-same (slotSpelled (withoutYear deck) 1) (slotSpelled deck 1) yearSlot (λ k h. slot-same 1 k (λ q. omega arith)) in
+      let s : tabulate siteSlots (slotSpelled (withoutYear deck) 1) ++ none ≡ set (tabulate siteSlots (slotSpelled deck 1) ++ none) yearSlot noSlot =
+      tabulate-last (slotSpelled (withoutYear deck) 1) yearSlot none ∙ (λ i. t i ++ (year-cleared i ∷ none)) ∙ sym (tabulate-set (slotSpelled deck 1) yearSlot none noSlot) in
       λ i. record { id = e i; slots = s i }
 
-  record-same : (n : ℕ) → 3 ≤ n → recordOf (withoutYear deck) n 4 ≡ recordOf deck n 4
+  record-same : (n : ℕ) → chemicalsStart ≤ n → recordOf (withoutYear deck) n recordLines ≡ recordOf deck n recordLines
   unfolding recordOf
   record-same n h =
       let e = ids-same deck long n in
-      let s = tabulate-same (slotSpelled (withoutYear deck) n) (slotSpelled deck n) 24 (λ k l. slot-same n k (λ q. absurd (omega arith))) in
-      λ i. record { id = e i; slots = s i ++ replicate 0 noSlot }
+      let s = tabulate-same (slotSpelled (withoutYear deck) n) (slotSpelled deck n) (recordLines * fieldsPerLine) (λ k l. slot-same n k (λ q. absurd (omega arith))) in
+      λ i. record { id = e i; slots = s i ++ replicate (slotsPerRecord - recordLines * fieldsPerLine) noSlot }
 
-  records-same : (n count room : ℕ) → 3 ≤ n → recordsOf (withoutYear deck) n count room ≡ recordsOf deck n count room
+  records-same : (n count room : ℕ) → chemicalsStart ≤ n → recordsOf (withoutYear deck) n count room ≡ recordsOf deck n count room
   unfolding recordsOf
   records-same n count room h =
-      let s = tabulate-same (λ j. recordOf (withoutYear deck) (n + 4 * j) 4) (λ j. recordOf deck (n + 4 * j) 4) count (λ j l. record-same (n + 4 * j) (omega arith)) in
+      let s = tabulate-same (λ j. recordOf (withoutYear deck) (n + recordLines * j) recordLines) (λ j. recordOf deck (n + recordLines * j) recordLines) count (λ j l. record-same (n + recordLines * j) (omega arith)) in
       ap (λ (l : List Record). l ++ replicate (room - count) noRecord) s
 
   case-with : (c r : ℕ) → caseWith (withoutYear deck) c r ≡ caseWithoutYear (caseWith deck c r)
   unfolding caseWith caseWithoutYear
   case-with c r =
-      let cs = records-same 3 c 16 (lit≤ tt) in
-      let rs = records-same (3 + 4 * c) r 8 (omega arith) in
+      let cs = records-same chemicalsStart c maxChemicals (lit≤ tt) in
+      let rs = records-same (chemicalsStart + recordLines * c) r mostStages (omega arith) in
       λ i. record { site = site-cleared i; chemicals = record { count = c; records = cs i }; receptors = record { count = r; records = rs i } }
 
-  all-counted : (kind : ℕ) → countOf (withoutYear deck) kind (linesOf (withoutYear deck)) ≡ countOf deck kind (linesOf deck)
-  all-counted kind = ap (countOf (withoutYear deck) kind) (lines-same deck long) ∙ counts-same deck long kind (linesOf deck)
-
 -- the case of a deck without its year is the deck's case without its year
-pub case-without : (deck : List ℕ) → 162 ≤ length deck → caseOf (withoutYear deck) ≡ caseWithoutYear (caseOf deck)
+pub case-without : (deck : List ℕ) → deckLineWidth * siteLines ≤ length deck → caseOf (withoutYear deck) ≡ caseWithoutYear (caseOf deck)
 unfolding caseOf
 case-without deck long =
-    let c = all-counted deck long C1 in
-    let r = all-counted deck long R1 in
-    (λ i. caseWith (withoutYear deck) (c i) (r i)) ∙ case-with deck long (countOf deck C1 (linesOf deck)) (countOf deck R1 (linesOf deck))
+    let s = ap (seenIn (withoutYear deck)) (lines-same deck long) ∙ seen-same deck long (linesOf deck) in
+    (λ i. caseWith (withoutYear deck) (s i .chemicals) (s i .receptors)) ∙ case-with deck long (seenIn deck (linesOf deck) .chemicals) (seenIn deck (linesOf deck) .receptors)
 
 -- ---- the first condition of two lists, where those before it agree
 same-next : (s t u : Status) → (s ≡ Passed → t ≡ u) → orElse s t ≡ orElse s u
@@ -377,49 +393,44 @@ unfolding orElse
 same-next Passed t u h = h refl
 same-next (Stopped number line field) t u h = refl
 
-same-upTo : (f g : ℕ → List Condition) (m : ℕ) → ((k : ℕ) → k < m → first (upTo g k) ≡ Passed → first (f (suc k)) ≡ first (g (suc k)))
-    → first (upTo f m) ≡ first (upTo g m)
-unfolding upTo
-same-upTo f g zero h = refl
-same-upTo f g (suc m) h =
-    first-append (upTo f m) (f (suc m))
-    ∙ ap (λ (s : Status). orElse s (first (f (suc m)))) (same-upTo f g m (λ k l. h k (omega arith)))
-    ∙ same-next (first (upTo g m)) (first (f (suc m))) (first (g (suc m))) (h m (omega arith))
-    ∙ sym (first-append (upTo g m) (g (suc m)))
+same-chained : (f g : ℕ → List Condition) (m : ℕ) → ((k : ℕ) → k < m → first (chained g k) ≡ Passed → first (f k) ≡ first (g k))
+    → first (chained f m) ≡ first (chained g m)
+unfolding chained
+same-chained f g zero h = refl
+same-chained f g (suc m) h =
+    first-append (chained f m) (f m)
+    ∙ ap (λ (s : Status). orElse s (first (f m))) (same-chained f g m (λ k l. h k (omega arith)))
+    ∙ same-next (first (chained g m)) (first (f m)) (first (g m)) (h m (omega arith))
+    ∙ sym (first-append (chained g m) (g m))
 
 same-else : (b : Bool) (s t u : Status) → (b ≡ false → t ≡ u) → cond b s t ≡ cond b s u
 same-else true s t u h = refl
 same-else false s t u h = h refl
 
--- ---- the one kind that may follow another: in every row that names a, the kind is k
-only : ℕ → ℕ → List Follows → Bool
-only a k [] = true
-only a k ((j after js) ∷ rest) = cond (among a js) (eqb j k) true && only a k rest
+-- ---- the one kind that may follow the start, and the site's first line
+after-start : (k : Kind) → mayFollow Start k ≡ true → k ≡ Line Site 0
+unfolding mayFollow mayBegin isLast isLine
+after-start (Line Site zero) h = refl
+after-start (Line Chemical zero) h = absurd (false≢true h)
+after-start (Line Receptor zero) h = absurd (false≢true h)
+after-start (Line o (suc n)) h = absurd (false≢true h)
+after-start Start h = absurd (false≢true h)
+after-start End h = absurd (false≢true h)
+after-start Other h = absurd (false≢true h)
 
-only-row : (a k c j : ℕ) (js ks : List ℕ) (t u : Bool) → eqb c j ≡ t → among a js ≡ u → cond u (eqb j k) true ≡ true → (among a ks ≡ true → c ≡ k)
-    → among a (cond t js ks) ≡ true → c ≡ k
-only-row a k c j js ks true true e f g q h = eqb-true c j e ∙ eqb-true j k g
-only-row a k c j js ks true false e f g q h = absurd (false≢true (sym f ∙ h))
-only-row a k c j js ks false u e f g q h = q h
-
-only-kind : (a k c : ℕ) (rows : List Follows) → only a k rows ≡ true → among a (befores rows c) ≡ true → c ≡ k
-unfolding only befores among
-only-kind a k c [] o h = absurd (false≢true h)
-only-kind a k c ((j after js) ∷ rest) o h =
-    let p = both (cond (among a js) (eqb j k) true) (only a k rest) o in
-    only-row a k c j js (befores rest c) (eqb c j) (among a js) refl refl (p .0) (only-kind a k c rest (p .1)) h
-
-after-start : (c : ℕ) → among start (befores kindOrder c) ≡ true → c ≡ S1
-unfolding only kindOrder among
-after-start c h = only-kind start S1 c kindOrder refl h
-
-after-first : (c : ℕ) → among S1 (befores kindOrder c) ≡ true → c ≡ S2
-unfolding only kindOrder among
-after-first c h = only-kind S1 S2 c kindOrder refl h
+after-first : (k : Kind) → mayFollow (Line Site 0) k ≡ true → k ≡ yearLine
+unfolding mayFollow mayBegin isLast isLine
+after-first (Line Site zero) h = absurd (false≢true h)
+after-first (Line Chemical zero) h = absurd (false≢true h)
+after-first (Line Receptor zero) h = absurd (false≢true h)
+after-first (Line o (suc n)) h = let e = is-line o n (Line Site 0) h in cc
+after-first Start h = absurd (false≢true h)
+after-first End h = absurd (false≢true h)
+after-first Other h = absurd (false≢true h)
 
 -- ---- no condition of the year's field holds
-year-rule : (sort : Sort) → getD (rulesOf sort S2) 5 unused ≡ guidanceYear
-unfolding rulesOf rulesIn kinds lineRules ruleAt ruleIn table
+year-rule : (sort : Sort) → getD (rulesOf sort yearLine) (fieldsPerLine - 1) unused ≡ guidanceYear
+unfolding lineRules ruleAt ruleIn table
 year-rule sort = refl
 
 module _ (digits : ℕ) (z : ℤ) (e : digits * 10 ^ above z ≡ 2005 * 10 ^ below z) where
@@ -454,51 +465,51 @@ year-read Dash n f h = absurd (false≢true h)
 year-read (Number digits power) n f h = simp (year-in digits power h)
 year-read Other n f h = absurd (false≢true h)
 
--- ---- the second line, after a line of kind S1: past 21 it is of kind S2, so it is no EN and its sixth field is the year's
-module _ (sort : Sort) (idBefore chemicals receptors : ℕ) (l m : List ℕ) (b : Blanked l m) (y : is2005 (wordOf (fieldIn l 6)) ≡ true) where
-  sixth-read : (s : List ℕ) → is2005 (wordOf (fieldIn s 6)) ≡ true → first (fieldAt sort S2 s 2 6) ≡ Passed
+-- ---- the second line, after the site's first: past 21 it is the site's second, so it is no EN and its sixth field is the year's
+module _ (sort : Sort) (seen : Seen) (l m : List ℕ) (b : Blanked l m) (y : is2005 (wordOf (fieldIn l fieldsPerLine)) ≡ true) where
+  sixth-read : (s : List ℕ) → is2005 (wordOf (fieldIn s fieldsPerLine)) ≡ true → first (fieldAt sort yearLine s siteLines fieldsPerLine) ≡ Passed
   unfolding fieldAt
-  sixth-read s h = rw (year-rule sort) (year-read (wordOf (fieldIn s 6)) 2 6 h)
+  sixth-read s h = rw (year-rule sort) (year-read (wordOf (fieldIn s fieldsPerLine)) siteLines fieldsPerLine h)
 
-  field-agrees : (k : ℕ) → k < 6 → first (fieldAt sort S2 m 2 (suc k)) ≡ first (fieldAt sort S2 l 2 (suc k))
+  field-agrees : (k : ℕ) → k < fieldsPerLine → first (fieldAt sort yearLine m siteLines (k + 1)) ≡ first (fieldAt sort yearLine l siteLines (k + 1))
   unfolding fieldAt is2005
   field-agrees k h =
       ⊎-elim
       (λ q.
-      subst (λ (n : ℕ). first (fieldAt sort S2 m 2 (suc n)) ≡ first (fieldAt sort S2 l 2 (suc n))) (sym q)
+      subst (λ (n : ℕ). first (fieldAt sort yearLine m siteLines (n + 1)) ≡ first (fieldAt sort yearLine l siteLines (n + 1))) (sym q)
       (sixth-read m (ap is2005 (sixth-blank l m b)) ∙ sym (sixth-read l y)))
-      (λ g. ap (λ (s : List ℕ). first (fieldConditions (getD (rulesOf sort S2) (suc k - 1) unused) (wordOf s) 2 (suc k))) (field-same l m b (suc k) g))
+      (λ (g : k < fieldsPerLine - 1). ap (λ (s : List ℕ). first (fieldConditions (getD (rulesOf sort yearLine) (k + 1 - 1) unused) (wordOf s) siteLines (k + 1))) (field-same l m b (k + 1) (omega arith)))
       (eq-or-lt-of-le (le-of-suc-le-suc h))
 
-  id-agrees : badId S1 idBefore S2 m ≡ badId S1 idBefore S2 l
+  id-agrees : badId seen yearLine m ≡ badId seen yearLine l
   unfolding badId
-  id-agrees = ap (wrongId S1 idBefore S2) (id-same l m b)
+  id-agrees = ap (wrongId seen yearLine) (id-same l m b)
 
-  kind-agrees : (k : ℕ) → k ≡ S2
-      → cond (badId S1 idBefore k m) (Stopped 22 2 0) (first (upTo (fieldAt sort k m 2) 6))
-      ≡ cond (badId S1 idBefore k l) (Stopped 22 2 0) (first (upTo (fieldAt sort k l 2) 6))
+  kind-agrees : (k : Kind) → k ≡ yearLine
+      → cond (badId seen k m) (Stopped 22 siteLines 0) (first (upTo (fieldAt sort k m siteLines) fieldsPerLine))
+      ≡ cond (badId seen k l) (Stopped 22 siteLines 0) (first (upTo (fieldAt sort k l siteLines) fieldsPerLine))
   kind-agrees k e =
-      let f = same-upTo (fieldAt sort S2 m 2) (fieldAt sort S2 l 2) 6 (λ j h r. field-agrees j h) in
+      let f = same-chained (λ k. fieldAt sort yearLine m siteLines (k + 1)) (λ k. fieldAt sort yearLine l siteLines (k + 1)) fieldsPerLine (λ j h r. field-agrees j h) in
       subst
-      (λ (n : ℕ).
-      cond (badId S1 idBefore n m) (Stopped 22 2 0) (first (upTo (fieldAt sort n m 2) 6))
-      ≡ cond (badId S1 idBefore n l) (Stopped 22 2 0) (first (upTo (fieldAt sort n l 2) 6)))
-      (sym e) (λ i. cond (id-agrees i) (Stopped 22 2 0) (f i))
+      (λ (n : Kind).
+      cond (badId seen n m) (Stopped 22 siteLines 0) (first (upTo (fieldAt sort n m siteLines) fieldsPerLine))
+      ≡ cond (badId seen n l) (Stopped 22 siteLines 0) (first (upTo (fieldAt sort n l siteLines) fieldsPerLine)))
+      (sym e) (λ i. cond (id-agrees i) (Stopped 22 siteLines 0) (f i))
 
-  second-agrees : length l ≡ 81
-      → first (lineConditionsAfter sort S1 idBefore chemicals receptors m 2) ≡ first (lineConditionsAfter sort S1 idBefore chemicals receptors l 2)
+  second-agrees : length l ≡ deckLineWidth → seen .kind ≡ Line Site 0
+      → first (lineConditionsAfter sort seen m siteLines) ≡ first (lineConditionsAfter sort seen l siteLines)
   unfolding first lineConditionsAfter
-  second-agrees long =
-      let p = bytes-same l m b long (plain-2005 (fieldIn l 6) y) in
+  second-agrees long before =
+      let p = bytes-same l m b long (plain-2005 (fieldIn l fieldsPerLine) y) in
       let k = kind-same l m b in
       (λ i.
-      cond (p i) (Stopped 12 2 0)
-      (cond (badKind sort S1 (k i) chemicals receptors) (Stopped 21 2 0)
-      (cond (badId S1 idBefore (k i) m) (Stopped 22 2 0) (first (upTo (fieldAt sort (k i) m 2) 6)))))
-      ∙ same-else (badBytes l) (Stopped 12 2 0) _ _
+      cond (p i) (Stopped 12 siteLines 0)
+      (cond (badKind sort seen (k i)) (Stopped 21 siteLines 0)
+      (cond (badId seen (k i) m) (Stopped 22 siteLines 0) (first (upTo (fieldAt sort (k i) m siteLines) fieldsPerLine)))))
+      ∙ same-else (badBytes l) (Stopped 12 siteLines 0) _ _
       (λ u.
-      same-else (badKind sort S1 (kindOf l) chemicals receptors) (Stopped 21 2 0) _ _
-      (λ v. kind-agrees (kindOf l) (after-first (kindOf l) (may-follow sort S1 (kindOf l) chemicals receptors v))))
+      same-else (badKind sort seen (kindOf l)) (Stopped 21 siteLines 0) _ _
+      (λ v. kind-agrees (kindOf l) (after-first (kindOf l) (subst (λ (x : Kind). mayFollow x (kindOf l) ≡ true) before (may-follow sort seen (kindOf l) v)))))
 
 -- ---- the deck's conditions
 in-order : (sort : Sort) (s : List ℕ) → first (conditions sort s)
@@ -506,64 +517,46 @@ in-order : (sort : Sort) (s : List ℕ) → first (conditions sort s)
 unfolding first conditions
 in-order sort s = ap (λ (t : Status). cond (badLength sort s) (Stopped 11 0 0) t) (first-append (upTo (lineConditions sort s) (linesOf s)) (at 21 (linesOf s + 1) 0 (noEnd s) ∷ []))
 
-module _ (sort : Sort) (deck : List ℕ) (long : 162 ≤ length deck) (y : is2005 (yearWord deck) ≡ true) where
-  no-line : kindOf (lineOf deck 0) ≡ start
-  unfolding kindOf lineOf within
-  no-line = refl
-
-  first-kind : first (upTo (lineConditions sort deck) 1) ≡ Passed → kindOf (lineOf deck 1) ≡ S1
-  unfolding lineConditions
+module _ (sort : Sort) (deck : List ℕ) (long : deckLineWidth * siteLines ≤ length deck) (y : is2005 (yearWord deck) ≡ true) where
+  first-kind : first (upTo (lineConditions sort deck) 1) ≡ Passed → seenIn deck 1 .kind ≡ Line Site 0
+  unfolding lineConditions seenIn seenWith
   first-kind e =
-      let r = line-read sort (kindOf (lineOf deck 0)) (idOf (lineOf deck 0)) (countOf deck C1 0) (countOf deck R1 0) 1 (lineOf deck 1) (upTo-each (lineConditions sort deck) 1 e 0 (lit≤ tt)) in
-      after-start (kindOf (lineOf deck 1))
-      (subst (λ (k : ℕ). among k (befores kindOrder (kindOf (lineOf deck 1))) ≡ true) no-line (may-follow sort _ _ _ _ (r .kind)))
+      let r = line-read sort (seenIn deck 0) 1 (lineOf deck 1) (chained-each (λ k. lineConditions sort deck (k + 1)) 1 e 0 (lit≤ tt)) in
+      after-start (kindOf (lineOf deck 1)) (may-follow sort (seenIn deck 0) (kindOf (lineOf deck 1)) (r .kind))
 
-  sixth-2005 : is2005 (wordOf (fieldIn (lineOf deck 2) 6)) ≡ true
+  sixth-2005 : is2005 (wordOf (fieldIn (lineOf deck siteLines) fieldsPerLine)) ≡ true
   unfolding yearWord fieldOf
   sixth-2005 = y
 
   -- line n as it stands in the deck without its year, after the lines of the deck
-  carried : (n : ℕ) → lineConditions sort (withoutYear deck) n
-      ≡ lineConditionsAfter sort (kindOf (lineOf deck (n - 1))) (idOf (lineOf deck (n - 1))) (countOf deck C1 (n - 1)) (countOf deck R1 (n - 1)) (lineOf (withoutYear deck) n) n
+  carried : (n : ℕ) → lineConditions sort (withoutYear deck) n ≡ lineConditionsAfter sort (seenIn deck (n - 1)) (lineOf (withoutYear deck) n) n
   unfolding lineConditions
-  carried n =
-      let k = kinds-same deck long (n - 1) in
-      let d = ids-same deck long (n - 1) in
-      let c = counts-same deck long C1 (n - 1) in
-      let r = counts-same deck long R1 (n - 1) in
-      λ i. lineConditionsAfter sort (k i) (d i) (c i) (r i) (lineOf (withoutYear deck) n) n
+  carried n = ap (λ (s : Seen). lineConditionsAfter sort s (lineOf (withoutYear deck) n) n) (seen-same deck long (n - 1))
 
   line-agrees : (n : ℕ) → first (upTo (lineConditions sort deck) (n - 1)) ≡ Passed → first (lineConditions sort (withoutYear deck) n) ≡ first (lineConditions sort deck n)
   unfolding lineConditions
   line-agrees =
       by-line (λ n. first (upTo (lineConditions sort deck) (n - 1)) ≡ Passed → first (lineConditions sort (withoutYear deck) n) ≡ first (lineConditions sort deck n))
       (λ e.
-      ap first (carried 2)
-      ∙ subst
-      (λ (k : ℕ).
-      first (lineConditionsAfter sort k (idOf (lineOf deck 1)) (countOf deck C1 1) (countOf deck R1 1) (lineOf (withoutYear deck) 2) 2)
-      ≡ first (lineConditionsAfter sort k (idOf (lineOf deck 1)) (countOf deck C1 1) (countOf deck R1 1) (lineOf deck 2) 2))
-      (sym (first-kind e))
-      (second-agrees sort (idOf (lineOf deck 1)) (countOf deck C1 1) (countOf deck R1 1) (lineOf deck 2) (lineOf (withoutYear deck) 2) (second-blanked deck long) sixth-2005 (second-length deck long)))
-      (λ n h e.
-      ap first (carried n)
-      ∙ ap (λ (l : List ℕ). first (lineConditionsAfter sort (kindOf (lineOf deck (n - 1))) (idOf (lineOf deck (n - 1))) (countOf deck C1 (n - 1)) (countOf deck R1 (n - 1)) l n)) (line-same deck long n h))
+      ap first (carried siteLines)
+      ∙ second-agrees sort (seenIn deck 1) (lineOf deck siteLines) (lineOf (withoutYear deck) siteLines) (second-blanked deck long) sixth-2005 (second-length deck long) (first-kind e))
+      (λ n h e. ap first (carried n) ∙ ap (λ (l : List ℕ). first (lineConditionsAfter sort (seenIn deck (n - 1)) l n)) (line-same deck long n h))
 
   lines-agree : (m : ℕ) → first (upTo (lineConditions sort (withoutYear deck)) m) ≡ first (upTo (lineConditions sort deck) m)
   lines-agree m =
-      same-upTo (lineConditions sort (withoutYear deck)) (lineConditions sort deck) m
-      (λ k h e. line-agrees (suc k) (subst (λ (n : ℕ). first (upTo (lineConditions sort deck) n) ≡ Passed) (omega arith) e))
+      same-chained (λ k. lineConditions sort (withoutYear deck) (k + 1)) (λ k. lineConditions sort deck (k + 1)) m
+      (λ k h e. line-agrees (k + 1) (subst (λ (n : ℕ). first (upTo (lineConditions sort deck) n) ≡ Passed) (omega arith) e))
 
   end-agrees : noEnd (withoutYear deck) ≡ noEnd deck
   unfolding noEnd
-  end-agrees = ap (λ (k : ℕ). not (eqb k EN)) (ap (λ (n : ℕ). kindOf (lineOf (withoutYear deck) n)) (lines-same deck long) ∙ kinds-same deck long (linesOf deck))
+  end-agrees = ap (λ (k : Kind). not (isEnd k)) (ap (λ (n : ℕ). kindOf (lineOf (withoutYear deck) n)) (lines-same deck long) ∙ kinds-same deck long (linesOf deck))
 
   length-agrees : badLength sort (withoutYear deck) ≡ badLength sort deck
   unfolding badLength
-  length-agrees = ap (λ (n : ℕ). eqb n 0 || ltb (maxLength sort) n || not (eqb (n % 81) 0)) (length-same deck long)
+  length-agrees = ap (λ (n : ℕ). eqb n 0 || ltb (maxLength sort) n || not (eqb (n % deckLineWidth) 0)) (length-same deck long)
 
 -- blank in place of 2005 changes nothing of where a deck stops
-pub status-without : (sort : Sort) (deck : List ℕ) → 162 ≤ length deck → is2005 (yearWord deck) ≡ true
+pub status-without : (sort : Sort) (deck : List ℕ) → deckLineWidth * siteLines ≤ length deck → is2005 (yearWord deck) ≡ true
     → first (conditions sort (withoutYear deck)) ≡ first (conditions sort deck)
 status-without sort deck long y =
     let n = length-agrees sort deck long y in
@@ -577,7 +570,7 @@ status-without sort deck long y =
 -- ---- the guidance of such a deck
 pub year-printed : (deck : List ℕ) → valueAt (caseOf deck .site) (placeOf "year") ≡ valueOf (yearWord deck)
 unfolding valueAt caseOf caseWith recordOf yearWord slotSpelled placeOf placeIn ownerOf isIn same table
-year-printed deck = ap (λ (x : Filled). x .value) (filled-at (slotSpelled deck 1) noSlot 12 (replicate 12 noSlot) 11 (lit< tt))
+year-printed deck = ap (λ (x : Filled). x .value) (filled-at (slotSpelled deck 1) noSlot siteSlots (replicate (slotsPerRecord - siteSlots) noSlot) yearSlot (lit< tt))
 
 one-year : (digits : ℕ) (z : ℤ) → isYearOf Of2005 digits z ≡ true → isYearOf Of2009 digits z ≡ false
 unfolding isYearOf yearOf

@@ -5,10 +5,9 @@ use mathlib.Core.List.{List, _++_}
 use lib.ListN.{replicate}
 use Rattle.deck.specs.Parts.{linesOf, lineOf, fieldOf}
 use Rattle.spelling.specs.Spelling.{wordOf}
-use Rattle.deck.specs.Kinds.{C1, R1}
 use Rattle.sizes.specs.Sizes.{maxChemicals, mostStages, siteLines, recordLines, fieldsPerLine, slotsPerRecord}
 use Rattle.cases.specs.Conditions.{first}
-use Rattle.deck.specs.DeckConditions.{conditions, countOf, idOf}
+use Rattle.deck.specs.DeckConditions.{conditions, seenIn, idOf}
 use Rattle.slots.specs.declared.Sort.{Sort}
 use Rattle.spelling.specs.declared.Word.{Word}
 use Rattle.spelling.specs.declared.Word.the-variants.{Blank, Dash, Number, Other}
@@ -42,7 +41,7 @@ recordOf deck n lines =
       slots = tabulate (lines * fieldsPerLine) (slotSpelled deck n) ++ replicate (slotsPerRecord - lines * fieldsPerLine) noSlot;
     }
 
--- count records of four lines from line n on, in room for so many
+-- count records from line n on, in room for so many
 unfoldable pub recordsOf : List ℕ → ℕ → ℕ → ℕ → List Record
 recordsOf deck n count room = tabulate count (λ i. recordOf deck (n + recordLines * i) recordLines) ++ replicate (room - count) noRecord
 
@@ -60,7 +59,7 @@ caseWith deck chemicals receptors =
 
 -- chemicals and receptors are counted by their first lines
 unfoldable pub caseOf : List ℕ → Case
-caseOf deck = caseWith deck (countOf deck C1 (linesOf deck)) (countOf deck R1 (linesOf deck))
+caseOf deck = caseWith deck (seenIn deck (linesOf deck) .chemicals) (seenIn deck (linesOf deck) .receptors)
 
 -- ---- the reading
 unfoldable pub caseFor : Status → List ℕ → Case

@@ -1,21 +1,26 @@
 -- Where a deck stops (document 01): the conditions 11 to 33 as one ordered list, for a deck of either sort. A deck is read exactly where none
 -- holds. Later stages append their own conditions to this list.
 -- Assumes nothing.
-use Prim.Native.Nat.{ℕ, zero, suc, _+_, _*_, _-_, _/_, _%_}
+use Prim.Native.Nat.{ℕ, zero, suc, _+_, _*_, _-_, _%_}
 use mathlib.Core.Bool.{Bool, true, false, cond, not, _&&_, _||_}
 use mathlib.Core.List.{List, [], _∷_, _++_}
 use lib.Dec.{leb, ltb, eqb}
 use lib.ListN.{length, getD, take, drop}
-use Rattle.deck.specs.Parts.{deckLineWidth, linesOf, lineOf, fieldIn}
-use Rattle.spelling.specs.Columns.{leading}
+use Rattle.deck.specs.Parts.{deckLineWidth, columns, kindWidth, linesOf, lineOf, fieldIn}
+use Rattle.spelling.specs.Columns.{idWidth, leading}
 use Rattle.spelling.specs.Spelling.{idIn, wordOf}
-use Rattle.deck.specs.Kinds.{kindOf, S1, C1, R1, EN, kindOrder, befores, among, rulesOf}
+use Rattle.deck.specs.Kinds.{kindOf, isLine, isEnd, begins, letterOf, mayFollow, rulesOf}
 use Rattle.sizes.specs.Sizes.{maxChemicals, siteLines, recordLines, fieldsPerLine}
 use Rattle.cases.specs.Cases.{maxReceptors}
 use Rattle.cases.specs.Ranges.{inRange}
 use Rattle.slots.specs.Slots.{unused}
+use Rattle.slots.specs.declared.Owner.{Owner}
+use Rattle.slots.specs.declared.Owner.the-variants.{Chemical, Receptor}
 use Rattle.slots.specs.declared.Rule.{Rule}
 use Rattle.slots.specs.declared.Sort.{Sort}
+use Rattle.deck.specs.declared.kinds.Kind.{Kind}
+use Rattle.deck.specs.declared.kinds.Kind.the-variants.{Start}
+use Rattle.deck.specs.declared.lines.Seen.{Seen}
 use Rattle.spelling.specs.declared.Word.{Word}
 use Rattle.spelling.specs.declared.Word.the-variants.{Blank, Dash, Number, Other}
 use Rattle.cases.specs.Conditions.{Condition, at, upTo}
@@ -44,63 +49,75 @@ unfoldable pub fieldConditions : Rule → Word → ℕ → ℕ → List Conditio
 fieldConditions rule word n f = at 31 n f (misspelled word) ∷ at 32 n f (misplaced rule word) ∷ at 33 n f (outOfRange rule word) ∷ []
 
 -- field f of line n, which is of this kind
-unfoldable pub fieldAt : Sort → ℕ → List ℕ → ℕ → ℕ → List Condition
+unfoldable pub fieldAt : Sort → Kind → List ℕ → ℕ → ℕ → List Condition
 fieldAt sort kind line n f = fieldConditions (getD (rulesOf sort kind) (f - 1) unused) (wordOf (fieldIn line f)) n f
 
 -- ---- a line: 12, 21, 22, then its fields from the left
 -- byte 81 no line feed, or another byte outside 32-126
 unfoldable pub badBytes : List ℕ → Bool
-badBytes line = not (eqb (leading 32 126 line) 80 && eqb (getD line 80 0) 10)
+badBytes line = not (eqb (leading 32 126 line) columns && eqb (getD line columns 0) 10)
 
--- a kind that cannot come next; chemicals and receptors are those that began before
-unfoldable pub badKind : Sort → ℕ → ℕ → ℕ → ℕ → Bool
-badKind sort before kind chemicals receptors =
-    not (among before (befores kindOrder kind))
-    || eqb kind C1 && leb maxChemicals chemicals
-    || eqb kind R1 && leb (maxReceptors sort) receptors
-
--- the first line of a record
-unfoldable pub begins : ℕ → Bool
-begins kind = among kind (S1 ∷ C1 ∷ R1 ∷ [])
+-- a kind that cannot come next; seen is what the lines before tell
+unfoldable pub badKind : Sort → Seen → Kind → Bool
+badKind sort seen kind =
+    not (mayFollow (seen .kind) kind)
+    || isLine Chemical 0 kind && leb maxChemicals (seen .chemicals)
+    || isLine Receptor 0 kind && leb (maxReceptors sort) (seen .receptors)
 
 -- columns 3-8
 unfoldable pub idOf : List ℕ → ℕ
-idOf line = idIn (take 6 (drop 2 line))
+idOf line = idIn (take idWidth (drop kindWidth line))
 
 -- two kinds have one letter
-unfoldable pub sameLetter : ℕ → ℕ → Bool
-sameLetter a b = eqb (a / 256) (b / 256)
+unfoldable pub sameLetter : Kind → Kind → Bool
+sameLetter a b = eqb (letterOf a) (letterOf b)
 
 -- an id misspelled, unlike its record's, or not above the one before
-unfoldable pub wrongId : ℕ → ℕ → ℕ → ℕ → Bool
-wrongId before idBefore kind id = eqb id 0 || cond (begins kind) (sameLetter before kind && leb id idBefore) (not (eqb id idBefore))
+unfoldable pub wrongId : Seen → Kind → ℕ → Bool
+wrongId seen kind id = eqb id 0 || cond (begins kind) (sameLetter (seen .kind) kind && leb id (seen .id)) (not (eqb id (seen .id)))
 
 -- a wrong id, or EN not blank
-unfoldable pub badId : ℕ → ℕ → ℕ → List ℕ → Bool
-badId before idBefore kind line = cond (eqb kind EN) (not (eqb (leading 32 32 (drop 2 line)) 78)) (wrongId before idBefore kind (idOf line))
+unfoldable pub badId : Seen → Kind → List ℕ → Bool
+badId seen kind line = cond (isEnd kind) (not (eqb (leading 32 32 (drop kindWidth line)) (columns - kindWidth))) (wrongId seen kind (idOf line))
 
--- line n, after a line of kind before with id idBefore
-unfoldable pub lineConditionsAfter : Sort → ℕ → ℕ → ℕ → ℕ → List ℕ → ℕ → List Condition
-lineConditionsAfter sort before idBefore chemicals receptors line n =
+-- line n, after lines that tell this
+unfoldable pub lineConditionsAfter : Sort → Seen → List ℕ → ℕ → List Condition
+lineConditionsAfter sort seen line n =
     at 12 n 0 (badBytes line)
-    ∷ at 21 n 0 (badKind sort before (kindOf line) chemicals receptors)
-    ∷ at 22 n 0 (badId before idBefore (kindOf line) line)
+    ∷ at 21 n 0 (badKind sort seen (kindOf line))
+    ∷ at 22 n 0 (badId seen (kindOf line) line)
     ∷ upTo (fieldAt sort (kindOf line) line n) fieldsPerLine
 
 -- ---- the deck
--- how many of the lines 1 to n have this kind
-unfoldable pub countOf : List ℕ → ℕ → ℕ → ℕ
-countOf deck kind zero = 0
-countOf deck kind (suc n) = cond (eqb (kindOf (lineOf deck (suc n))) kind) (suc (countOf deck kind n)) (countOf deck kind n)
+-- one more where this kind begins a record of the owner
+unfoldable pub begunWith : Owner → Kind → ℕ → ℕ
+begunWith o kind n = cond (isLine o 0 kind) (suc n) n
+
+-- with a line of this kind and id more
+unfoldable pub seenWith : Seen → Kind → ℕ → Seen
+seenWith seen kind id =
+    record {
+      kind = kind;
+      id = id;
+      chemicals = begunWith Chemical kind (seen .chemicals);
+      receptors = begunWith Receptor kind (seen .receptors);
+    }
+
+-- what the lines 1 to n tell: the kind and id of the last, and how many chemicals and receptors began
+unfoldable pub seenIn : List ℕ → ℕ → Seen
+seenIn deck zero = record { kind = Start; id = 0; chemicals = 0; receptors = 0 }
+seenIn deck (suc n) = seenWith (seenIn deck n) (kindOf (lineOf deck (suc n))) (idOf (lineOf deck (suc n)))
 
 unfoldable pub lineConditions : Sort → List ℕ → ℕ → List Condition
-lineConditions sort deck n =
-    lineConditionsAfter sort (kindOf (lineOf deck (n - 1))) (idOf (lineOf deck (n - 1))) (countOf deck C1 (n - 1)) (countOf deck R1 (n - 1))
-    (lineOf deck n) n
+lineConditions sort deck n = lineConditionsAfter sort (seenIn deck (n - 1)) (lineOf deck n) n
 
--- the site, all chemicals and receptors, and EN: 6,723 bytes, or a composite's 8,019
+-- the lines of the site, all chemicals and receptors, and EN
+abbrev pub maxLines : Sort → ℕ
+maxLines sort = siteLines + recordLines * (maxChemicals + maxReceptors sort) + 1
+
+-- 6,723 bytes, or a composite's 8,019
 abbrev pub maxLength : Sort → ℕ
-maxLength sort = deckLineWidth * (siteLines + recordLines * (maxChemicals + maxReceptors sort) + 1)
+maxLength sort = deckLineWidth * maxLines sort
 
 -- length 0, above the most, or no multiple of 81
 unfoldable pub badLength : Sort → List ℕ → Bool
@@ -108,7 +125,7 @@ badLength sort deck = eqb (length deck) 0 || ltb (maxLength sort) (length deck) 
 
 -- no EN at the deck's end, told as the line past the last
 unfoldable pub noEnd : List ℕ → Bool
-noEnd deck = not (eqb (kindOf (lineOf deck (linesOf deck))) EN)
+noEnd deck = not (isEnd (kindOf (lineOf deck (linesOf deck))))
 
 unfoldable pub conditions : Sort → List ℕ → List Condition
 conditions sort deck =

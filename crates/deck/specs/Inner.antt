@@ -10,7 +10,9 @@ use lib.IntN.{ℤ, subℕ}
 use Rattle.spelling.specs.Columns.{leading}
 use Rattle.deck.specs.Parts.{fieldIn, fieldOf}
 use Rattle.spelling.specs.Spelling.{wordOf}
-use Rattle.sizes.specs.Sizes.{maxChemicals, mostStages, siteLines, recordLines, fieldsPerLine}
+use Rattle.deck.specs.DeckConditions.{maxLines}
+use Rattle.sizes.specs.Sizes.{fieldsPerLine}
+use Rattle.slots.specs.declared.Sort.the-variants.{Composite}
 use Rattle.powers.specs.Powers.{above, below}
 use Rattle.cases.specs.Ranged.{Spelled}
 use Rattle.lists.specs.Lists.{tabulate}
@@ -32,9 +34,15 @@ Small Dash = Unit {0}
 Small (Number digits power) = Spelled digits power
 Small Other = Unit {0}
 
--- 256 × the digits + 128 + the power, which lies from -111 to 99
+-- room for a power, which lies from -111 to 99, and what is added to it so that it is not below 0
+abbrev pub powers : ℕ
+powers = 256
+
+abbrev pub noPower : ℕ
+noPower = 128
+
 abbrev pub packedNumber : ℕ → ℤ → ℕ
-packedNumber digits power = 256 * digits + (128 + above power - below power)
+packedNumber digits power = powers * digits + (noPower + above power - below power)
 
 -- 0 where there is no value
 unfoldable pub packedOf : Word → ℕ
@@ -44,7 +52,7 @@ packedOf (Number digits power) = packedNumber digits power
 packedOf Other = 0
 
 unfoldable pub unpackedOf : ℕ → Value
-unpackedOf v = cond (eqb v 0) Absent (Given (subℕ (v % 256) 128) (v / 256))
+unpackedOf v = cond (eqb v 0) Absent (Given (subℕ (v % powers) noPower) (v / powers))
 
 -- field f, from 0, of a line
 unfoldable pub packedIn : List ℕ → ℕ → ℕ
@@ -56,7 +64,7 @@ packedAt deck i = packedOf (wordOf (fieldOf deck (i / fieldsPerLine + 1) (i % fi
 
 -- the fields of the longest deck
 abbrev pub maxFields : ℕ
-maxFields = fieldsPerLine * (siteLines + recordLines * (maxChemicals + mostStages) + 1)
+maxFields = fieldsPerLine * maxLines Composite
 
 -- all of a deck's; those that it lacks have no value
 unfoldable pub packedFields : List ℕ → List ℕ

@@ -1,114 +1,115 @@
--- The kinds of lines, which kind may follow which, and which line of whose record each is (document 01, "Deck").
+-- The kinds of lines (document 01, "Deck"): each is a line of an owner's record, spelled by the owner's letter and the line's digit, or EN; and
+-- which kind may follow which.
 -- Assumes nothing.
-use Prim.Native.Nat.{ℕ, _+_, _*_}
-use mathlib.Core.Bool.{Bool, true, false, cond}
-use mathlib.Core.List.{List, [], _∷_}
-use lib.Dec.{eqb}
-use lib.ListN.{getD}
+use Prim.Native.Nat.{ℕ, zero, suc, _+_, _-_}
+use mathlib.Core.Bool.{Bool, true, false, cond, _&&_, _||_}
+use mathlib.Core.List.{List}
+use lib.Dec.{eqb, leb, ltb}
+use lib.ListN.{getD, replicate}
+use Rattle.sizes.specs.Sizes.{siteLines, recordLines, fieldsPerLine}
 use Rattle.slots.specs.Slots.{unused, lineRules}
 use Rattle.slots.specs.declared.Owner.{Owner}
 use Rattle.slots.specs.declared.Owner.the-variants.{Site, Chemical, Receptor}
 use Rattle.slots.specs.declared.Rule.{Rule}
 use Rattle.slots.specs.declared.Sort.{Sort}
+use Rattle.deck.specs.declared.kinds.Kind.{Kind}
+use Rattle.deck.specs.declared.kinds.Kind.the-variants.{Start, Line, End, Other}
 
--- A kind is columns 1-2 as one number: 256 × the first byte + the second.
-unfoldable pub kindOf : List ℕ → ℕ
-kindOf line = 256 * getD line 0 0 + getD line 1 0
+-- ---- how a kind is spelled: S1, S2, C1 .., R1 .., EN
+-- the letter of an owner's lines
+abbrev pub letter : Owner → ℕ
+letter Site = 83
+letter Chemical = 67
+letter Receptor = 82
 
--- no line: what stands before line 1
-abbrev pub start : ℕ
-start = 0
+-- how many lines an owner's record has
+abbrev pub ownerLines : Owner → ℕ
+ownerLines Site = siteLines
+ownerLines Chemical = recordLines
+ownerLines Receptor = recordLines
 
-abbrev pub S1 : ℕ
-S1 = 256 * 83 + 49
+-- the digit of a record's first line, 1, and that of line n, from 0
+abbrev pub firstDigit : ℕ
+firstDigit = 49
 
-abbrev pub S2 : ℕ
-S2 = 256 * 83 + 50
+abbrev pub lineDigit : ℕ → ℕ
+lineDigit n = firstDigit + n
 
-abbrev pub C1 : ℕ
-C1 = 256 * 67 + 49
+-- the line of an owner's record with this digit
+unfoldable pub numbered : Owner → ℕ → Kind
+numbered o digit = cond (leb firstDigit digit && ltb (digit - firstDigit) (ownerLines o)) (Line o (digit - firstDigit)) Other
 
-abbrev pub C2 : ℕ
-C2 = 256 * 67 + 50
+abbrev pub spellsEnd : ℕ → ℕ → Bool
+spellsEnd a b = eqb a 69 && eqb b 78
 
-abbrev pub C3 : ℕ
-C3 = 256 * 67 + 51
+-- the kind that two bytes spell
+unfoldable pub kindIn : ℕ → ℕ → Kind
+kindIn a b =
+    cond (eqb a (letter Site)) (numbered Site b)
+    (cond (eqb a (letter Chemical)) (numbered Chemical b)
+    (cond (eqb a (letter Receptor)) (numbered Receptor b)
+    (cond (spellsEnd a b) End Other)))
 
-abbrev pub C4 : ℕ
-C4 = 256 * 67 + 52
+-- columns 1-2
+unfoldable pub kindOf : List ℕ → Kind
+kindOf line = kindIn (getD line 0 0) (getD line 1 0)
 
-abbrev pub R1 : ℕ
-R1 = 256 * 82 + 49
+-- ---- what a kind is
+-- line n of an owner's record
+unfoldable pub isLine : Owner → ℕ → Kind → Bool
+isLine o n (Line p m) = eqb (letter o) (letter p) && eqb n m
+isLine o n Start = false
+isLine o n End = false
+isLine o n Other = false
 
-abbrev pub R2 : ℕ
-R2 = 256 * 82 + 50
+unfoldable pub isLast : Owner → Kind → Bool
+isLast o kind = isLine o (ownerLines o - 1) kind
 
-abbrev pub R3 : ℕ
-R3 = 256 * 82 + 51
+-- what stands before line 1
+abbrev pub isStart : Kind → Bool
+isStart (Line o n) = false
+isStart Start = true
+isStart End = false
+isStart Other = false
 
-abbrev pub R4 : ℕ
-R4 = 256 * 82 + 52
+abbrev pub isEnd : Kind → Bool
+isEnd (Line o n) = false
+isEnd Start = false
+isEnd End = true
+isEnd Other = false
 
-abbrev pub EN : ℕ
-EN = 256 * 69 + 78
+-- the first line of a record
+abbrev pub begins : Kind → Bool
+begins (Line o n) = eqb n 0
+begins Start = false
+begins End = false
+begins Other = false
 
-infix 95 _after_
-pub data Follows : Type 0 where
-  _after_ : ℕ → List ℕ → Follows
+-- the letter of a record's line; 0 where it is none
+abbrev pub letterOf : Kind → ℕ
+letterOf (Line o n) = letter o
+letterOf Start = 0
+letterOf End = 0
+letterOf Other = 0
 
--- each kind, and the kinds of which one must stand on the line before it
-unfoldable pub kindOrder : List Follows
-kindOrder =
-    S1 after (start ∷ [])
-    ∷ S2 after (S1 ∷ [])
-    ∷ C1 after (S2 ∷ C4 ∷ [])
-    ∷ C2 after (C1 ∷ [])
-    ∷ C3 after (C2 ∷ [])
-    ∷ C4 after (C3 ∷ [])
-    ∷ R1 after (C4 ∷ R4 ∷ [])
-    ∷ R2 after (R1 ∷ [])
-    ∷ R3 after (R2 ∷ [])
-    ∷ R4 after (R3 ∷ [])
-    ∷ EN after (R4 ∷ [])
-    ∷ []
+-- ---- which kind may follow which
+-- what may stand before a record: the site comes first, chemicals follow it and one another, and receptors follow those and one another
+unfoldable pub mayBegin : Kind → Owner → Bool
+mayBegin before Site = isStart before
+mayBegin before Chemical = isLast Site before || isLast Chemical before
+mayBegin before Receptor = isLast Chemical before || isLast Receptor before
 
--- the kinds that may stand before this one; none where it is no kind
-unfoldable pub befores : List Follows → ℕ → List ℕ
-befores [] kind = []
-befores ((k after ks) ∷ rest) kind = cond (eqb kind k) ks (befores rest kind)
+-- each line of a record follows the one before it; EN follows a receptor
+unfoldable pub mayFollow : Kind → Kind → Bool
+mayFollow before (Line o zero) = mayBegin before o
+mayFollow before (Line o (suc n)) = isLine o n before
+mayFollow before Start = false
+mayFollow before End = isLast Receptor before
+mayFollow before Other = false
 
-unfoldable pub among : ℕ → List ℕ → Bool
-among k [] = false
-among k (x ∷ xs) = cond (eqb k x) true (among k xs)
-
--- a line of a record, counted from 0
-infix 97 _of_
-pub data RecordLine : Type 0 where
-  _of_ : ℕ → Owner → RecordLine
-
-infix 95 _isLine_
-pub data Belongs : Type 0 where
-  _isLine_ : ℕ → RecordLine → Belongs
-
--- each kind but EN, and which line of whose record it is
-unfoldable pub kinds : List Belongs
-kinds =
-    S1 isLine 0 of Site
-    ∷ S2 isLine 1 of Site
-    ∷ C1 isLine 0 of Chemical
-    ∷ C2 isLine 1 of Chemical
-    ∷ C3 isLine 2 of Chemical
-    ∷ C4 isLine 3 of Chemical
-    ∷ R1 isLine 0 of Receptor
-    ∷ R2 isLine 1 of Receptor
-    ∷ R3 isLine 2 of Receptor
-    ∷ R4 isLine 3 of Receptor
-    ∷ []
-
--- the rules of a line's fields, by its kind; a kind of no record, as EN, has later slots alone
-unfoldable pub rulesIn : Sort → List Belongs → ℕ → List Rule
-rulesIn sort [] kind = unused ∷ unused ∷ unused ∷ unused ∷ unused ∷ unused ∷ []
-rulesIn sort ((k isLine n of owner) ∷ rest) kind = cond (eqb kind k) (lineRules sort owner n) (rulesIn sort rest kind)
-
-unfoldable pub rulesOf : Sort → ℕ → List Rule
-rulesOf sort kind = rulesIn sort kinds kind
+-- ---- the rules of a line's fields; a line of no record, as EN, has later slots alone
+abbrev pub rulesOf : Sort → Kind → List Rule
+rulesOf sort (Line o n) = lineRules sort o n
+rulesOf sort Start = replicate fieldsPerLine unused
+rulesOf sort End = replicate fieldsPerLine unused
+rulesOf sort Other = replicate fieldsPerLine unused

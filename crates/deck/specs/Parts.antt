@@ -5,15 +5,23 @@ use mathlib.Core.Bool.{cond}
 use mathlib.Core.List.{List, []}
 use lib.ListN.{length, take, drop}
 use Rattle.sizes.specs.Sizes.{fieldsPerLine}
-use Rattle.spelling.specs.Columns.{within, fieldWidth}
+use Rattle.spelling.specs.Columns.{within, idWidth, fieldWidth}
 
--- 80 bytes and a line feed
-abbrev pub deckLineWidth : ℕ
-deckLineWidth = 81
+-- the columns of a line's kind
+abbrev pub kindWidth : ℕ
+kindWidth = 2
 
--- the columns before the first field: kind and id
+-- those before the first field: kind and id
 abbrev pub fieldsStart : ℕ
-fieldsStart = 8
+fieldsStart = kindWidth + idWidth
+
+-- all of them: 80
+abbrev pub columns : ℕ
+columns = fieldsStart + fieldWidth * fieldsPerLine
+
+-- and a line feed
+abbrev pub deckLineWidth : ℕ
+deckLineWidth = columns + 1
 
 -- how many full lines the deck has
 unfoldable pub linesOf : List ℕ → ℕ

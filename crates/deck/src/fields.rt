@@ -3,7 +3,7 @@ ghost use mathlib.Core.Path.{_≡_};
 ghost use mathlib.Core.Bool.{cond};
 ghost use Prim.Native.Nat.{_+_, _*_, _-_};
 ghost use lib.ListN.{length};
-ghost use Rattle.deck.specs.Parts.{fieldIn};
+ghost use Rattle.deck.specs.Parts.{deckLineWidth, fieldIn};
 ghost use Rattle.deck.specs.Kinds.{rulesOf};
 ghost use Rattle.cases.specs.Ranges.{inRange};
 ghost use Rattle.sizes.specs.Sizes.{fieldsPerLine};
@@ -12,21 +12,11 @@ ghost use Rattle.deck.specs.DeckConditions.{fieldConditions, fieldAt};
 ghost use Rattle.lists.specs.Lists.{tabulate};
 ghost use Rattle.deck.specs.Inner.{packedIn};
 use crate::FIELDS_START;
-use crate::lines::C1;
-use crate::lines::C2;
-use crate::lines::C3;
-use crate::lines::C4;
-use crate::lines::R1;
-use crate::lines::R2;
-use crate::lines::R3;
-use crate::lines::R4;
-use crate::lines::S1;
-use crate::lines::S2;
+use crate::kinds::Kind;
 use crate::packing::packed;
 use cases::Status;
 use cases::in_range;
 use sizes::FIELDS;
-use slots::Owner;
 use slots::Rule;
 use slots::Sort;
 use slots::UNUSED;
@@ -35,27 +25,20 @@ use spelling::Word;
 use spelling::number;
 
 // The rules of the six fields of a line, by its kind.
-fn rules(sort: Sort, kind: u32) -> [Rule; FIELDS]
+fn rules(sort: Sort, kind: Kind) -> [Rule; FIELDS]
     ensures { λ r. ⌜ r ≡ rulesOf sort kind ⌝ }
 {
     match kind {
-        S1 => slots::rules(sort, Owner::Site, 0),
-        S2 => slots::rules(sort, Owner::Site, 1),
-        C1 => slots::rules(sort, Owner::Chemical, 0),
-        C2 => slots::rules(sort, Owner::Chemical, 1),
-        C3 => slots::rules(sort, Owner::Chemical, 2),
-        C4 => slots::rules(sort, Owner::Chemical, 3),
-        R1 => slots::rules(sort, Owner::Receptor, 0),
-        R2 => slots::rules(sort, Owner::Receptor, 1),
-        R3 => slots::rules(sort, Owner::Receptor, 2),
-        R4 => slots::rules(sort, Owner::Receptor, 3),
-        _ => [UNUSED, UNUSED, UNUSED, UNUSED, UNUSED, UNUSED],
+        Kind::Start => [UNUSED; FIELDS],
+        Kind::Line { owner, line } => slots::rules(sort, owner, line),
+        Kind::End => [UNUSED; FIELDS],
+        Kind::Other => [UNUSED; FIELDS],
     }
 }
 
 // Field f of a full line.
 pub(crate) fn field_part(line: &[u8], f: usize) -> &[u8]
-    requires { ⌜ length (now line) ≡ 81 ⌝ }
+    requires { ⌜ length (now line) ≡ deckLineWidth ⌝ }
     ensures { λ r. ⌜ now r ≡ fieldIn (now (line .entry)) f ⌝ }
 {
     if f == 0 {
@@ -111,11 +94,11 @@ fn range_status(rule: Rule, digits: u64, power: i32, n: usize, f: usize) -> Stat
 pub(crate) fn fields_status(
     sort: Sort,
     line: &[u8],
-    kind: u32,
+    kind: Kind,
     n: usize,
     values: &mut [u64],
 ) -> Status
-    requires { ⌜ (length (now line) ≡ 81) × (length (now values) ≡ 6) ⌝ }
+    requires { ⌜ (length (now line) ≡ deckLineWidth) × (length (now values) ≡ fieldsPerLine) ⌝ }
     ensures { λ r. ⌜ r ≡ first (upTo (fieldAt sort kind (now (line .entry)) n) fieldsPerLine) ⌝ }
     ensures { λ r. ⌜ (r ≡ Status.Passed → now (values .exit) ≡ tabulate fieldsPerLine (packedIn (now (line .entry)))) ⌝ }
 {

@@ -1,6 +1,7 @@
 // A deck, as document 01 calls the input: lines of 80 bytes and a line feed that hold one site, chemicals and receptors.
 // `read` answers the case that a deck spells, or the first condition that stops it.
 mod fields;
+mod kinds;
 mod lines;
 mod packing;
 mod records;
@@ -19,6 +20,8 @@ use sizes::MAX_STAGES;
 use sizes::RECORD_LINES;
 use sizes::SITE_LINES;
 use slots::Sort;
+use spelling::FIELD_WIDTH;
+use spelling::ID_WIDTH;
 ghost use mathlib.Core.Path.{_≡_};
 ghost use Rattle.deck.specs.Parts.{lineOf, fieldOf};
 ghost use Rattle.cases.specs.Conditions.{first, toldOf};
@@ -26,10 +29,15 @@ ghost use Rattle.deck.specs.DeckConditions.{conditions};
 ghost use Rattle.cases.specs.Cases.{noCase};
 ghost use Rattle.deck.specs.DeckCase.{readOf};
 
-// A line: 80 bytes and a line feed. Its fields start after the kind and the id.
-pub const LINE_WIDTH: usize = 81;
+// The columns of a line's kind; those before its first field, kind and id; and all of them.
+const KIND_WIDTH: usize = 2;
 
-pub const FIELDS_START: usize = 8;
+pub const FIELDS_START: usize = KIND_WIDTH + ID_WIDTH;
+
+const COLUMNS: usize = FIELDS_START + FIELD_WIDTH * FIELDS;
+
+// A line: its columns and a line feed.
+pub const LINE_WIDTH: usize = COLUMNS + 1;
 
 // The site, all chemicals and receptors, and EN.
 pub const MAX_LENGTH: usize = LINE_WIDTH

@@ -3,7 +3,7 @@ ghost use mathlib.Core.Path.{_≡_};
 ghost use Prim.Native.Nat.{_%_};
 ghost use lib.IntN.{subℕ};
 ghost use Rattle.cases.specs.Ranged.{Spelled};
-ghost use Rattle.deck.specs.Inner.{Small, packedNumber, packedOf, unpackedOf};
+ghost use Rattle.deck.specs.Inner.{Small, powers, noPower, packedNumber, packedOf, unpackedOf};
 use cases::Value;
 use powers::lowered;
 use powers::raised;
@@ -37,7 +37,7 @@ fn packed_number(digits: u64, power: i32) -> u64
 
 // A packed value's power of ten.
 fn power_in(v: u64) -> i32
-    ensures { λ r. ⌜ r ≡ subℕ (v % 256) 128 ⌝ }
+    ensures { λ r. ⌜ r ≡ subℕ (v % powers) noPower ⌝ }
 {
     (v % POWERS) as i32 - NO_POWER as i32
 }

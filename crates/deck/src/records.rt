@@ -1,9 +1,9 @@
 // The case that a deck spells, from the values of its fields by position.
 ghost use mathlib.Core.Path.{_≡_};
-ghost use Prim.Native.Nat.{_≤_};
+ghost use Prim.Native.Nat.{_+_, _*_, _≤_};
 ghost use Rattle.deck.specs.Parts.{lineOf};
-ghost use Rattle.sizes.specs.Sizes.{maxChemicals, mostStages};
-ghost use Rattle.deck.specs.DeckConditions.{idOf};
+ghost use Rattle.sizes.specs.Sizes.{recordLines, maxChemicals, mostStages};
+ghost use Rattle.deck.specs.DeckConditions.{idOf, maxLines};
 ghost use Rattle.deck.specs.Inner.{packedFields};
 ghost use Rattle.deck.specs.DeckCase.{recordOf, recordsOf, caseWith, chemicalsStart};
 ghost use Rattle.cases.specs.Cases.{noRecord};
@@ -22,6 +22,7 @@ use sizes::MAX_STAGES;
 use sizes::RECORD_LINES;
 use sizes::SITE_LINES;
 use sizes::SLOTS;
+use slots::Sort;
 
 // The line after the site's.
 const CHEMICALS_START: usize = SITE_LINES + 1;
@@ -39,7 +40,7 @@ fn id_at(deck: &[u8], n: usize) -> u32
 // The record that begins at line n and has so many lines.
 fn record_at(deck: &[u8], values: &[u64], n: usize, lines: usize) -> Record
     requires { ⌜ now values ≡ packedFields (now deck) ⌝ }
-    requires { ⌜ ((1 ≤ n) × (n ≤ 96)) × (lines ≤ 4) ⌝ }
+    requires { ⌜ ((1 ≤ n) × (n + lines ≤ maxLines Sort.Composite)) × (lines ≤ recordLines) ⌝ }
     ensures { λ r. ⌜ r ≡ recordOf (now (deck .entry)) n lines ⌝ }
 {
     let mut slots = [Filled {
@@ -68,7 +69,7 @@ fn no_record() -> Record
 
 fn chemicals(deck: &[u8], values: &[u64], count: usize) -> [Record; MAX_CHEMICALS]
     requires { ⌜ now values ≡ packedFields (now deck) ⌝ }
-    requires { ⌜ count ≤ 16 ⌝ }
+    requires { ⌜ count ≤ maxChemicals ⌝ }
     ensures { λ r. ⌜ r ≡ recordsOf (now (deck .entry)) chemicalsStart count maxChemicals ⌝ }
 {
     let none = no_record();
@@ -88,7 +89,7 @@ fn chemicals(deck: &[u8], values: &[u64], count: usize) -> [Record; MAX_CHEMICAL
 
 fn receptors(deck: &[u8], values: &[u64], n: usize, count: usize) -> [Record; MAX_STAGES]
     requires { ⌜ now values ≡ packedFields (now deck) ⌝ }
-    requires { ⌜ ((1 ≤ n) × (n ≤ 67)) × (count ≤ 8) ⌝ }
+    requires { ⌜ ((1 ≤ n) × (n ≤ chemicalsStart + recordLines * maxChemicals)) × (count ≤ mostStages) ⌝ }
     ensures { λ r. ⌜ r ≡ recordsOf (now (deck .entry)) n count mostStages ⌝ }
 {
     let none = no_record();
@@ -109,7 +110,7 @@ pub(crate) fn case_with(
     receptor_count: usize,
 ) -> Case
     requires { ⌜ now values ≡ packedFields (now deck) ⌝ }
-    requires { ⌜ («chemical_count» ≤ 16) × («receptor_count» ≤ 8) ⌝ }
+    requires { ⌜ («chemical_count» ≤ maxChemicals) × («receptor_count» ≤ mostStages) ⌝ }
     ensures { λ r. ⌜ r ≡ caseWith (now (deck .entry)) «chemical_count» «receptor_count» ⌝ }
 {
     let site = record_at(deck, values, 1, SITE_LINES);

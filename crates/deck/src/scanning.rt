@@ -1,24 +1,24 @@
 // The conditions of a deck's lines in turn.
 ghost use mathlib.Core.Path.{_≡_};
 ghost use mathlib.Core.Bool.{cond};
-ghost use lib.Dec.{eqb};
 ghost use mathlib.Core.List.{[], _∷_, _++_};
-ghost use Prim.Native.Nat.{_+_, _≤_, _<_};
+ghost use Prim.Native.Nat.{_+_, _≤_};
 ghost use Rattle.deck.specs.Parts.{linesOf};
-ghost use Rattle.deck.specs.Kinds.{C1, R1, EN};
+ghost use Rattle.deck.specs.Kinds.{isEnd};
+ghost use Rattle.sizes.specs.Sizes.{maxChemicals, mostStages};
 ghost use Rattle.cases.specs.Conditions.{at, first, upTo};
-ghost use Rattle.deck.specs.DeckConditions.{lineConditions, noEnd, countOf, maxLength, badLength};
+ghost use Rattle.deck.specs.DeckConditions.{lineConditions, noEnd, seenIn, maxLines, maxLength, badLength};
 ghost use lib.ListN.{length, replicate};
 ghost use Rattle.deck.specs.Inner.{maxFields, packedFields};
 use crate::LINE_WIDTH;
 use crate::MAX_COMPOSITE_LENGTH;
 use crate::MAX_LENGTH;
+use crate::kinds::Kind;
+use crate::kinds::is_end;
+use crate::kinds::kind_of;
 use crate::line;
-use crate::lines::EN;
-use crate::lines::START;
 use crate::lines::Seen;
 use crate::lines::id_of;
-use crate::lines::kind_of;
 use crate::lines::line_status;
 use cases::Status;
 use sizes::FIELDS;
@@ -54,7 +54,7 @@ pub(crate) fn bad_length(deck: &[u8], sort: Sort) -> bool
 
 // Where the lines are read, the values of their fields are kept, so that each field is read once.
 pub(crate) fn scan_lines(deck: &[u8], sort: Sort, values: &mut [u64]) -> Scan
-    requires { ⌜ (length (now deck) ≤ 8019) × (now values ≡ replicate maxFields 0) ⌝ }
+    requires { ⌜ (length (now deck) ≤ maxLength Sort.Composite) × (now values ≡ replicate maxFields 0) ⌝ }
     ensures { λ r. ⌜
         r .status
         ≡ first
@@ -63,15 +63,15 @@ pub(crate) fn scan_lines(deck: &[u8], sort: Sort, values: &mut [u64]) -> Scan
         ⌝ }
     ensures { λ r. ⌜
         (r .status ≡ Status.Passed
-        → (r .chemicals ≡ countOf (now (deck .entry)) C1 (linesOf (now (deck .entry))))
-        × (r .receptors ≡ countOf (now (deck .entry)) R1 (linesOf (now (deck .entry)))))
+        → (r .chemicals ≡ seenIn (now (deck .entry)) (linesOf (now (deck .entry))) .chemicals)
+        × (r .receptors ≡ seenIn (now (deck .entry)) (linesOf (now (deck .entry))) .receptors))
         ⌝ }
-    ensures { λ r. ⌜ (r .chemicals ≤ 16) × (r .receptors ≤ 8) ⌝ }
+    ensures { λ r. ⌜ (r .chemicals ≤ maxChemicals) × (r .receptors ≤ mostStages) ⌝ }
     ensures { λ r. ⌜ (r .status ≡ Status.Passed → now (values .exit) ≡ packedFields (now (deck .entry))) ⌝ }
 {
     let lines = deck.len() / LINE_WIDTH;
     let mut seen = Seen {
-        kind: START,
+        kind: Kind::Start,
         id: 0,
         chemicals: 0,
         receptors: 0,
@@ -98,11 +98,12 @@ pub(crate) fn scan_lines(deck: &[u8], sort: Sort, values: &mut [u64]) -> Scan
 
 // No EN at the end is told as the line past the last.
 fn ended(seen: Seen, lines: usize) -> Scan
-    requires { ⌜ (lines < 1000000000000000000) × ((seen .chemicals ≤ 16) × (seen .receptors ≤ 8)) ⌝ }
-    ensures { λ r. ⌜ r .status ≡ cond (eqb (seen .kind) EN) Status.Passed (Status.Stopped 21 (lines + 1) 0) ⌝ }
+    requires { ⌜ (lines ≤ maxLines Sort.Composite) × ((seen .chemicals ≤ maxChemicals) × (seen .receptors ≤ mostStages)) ⌝ }
+    ensures { λ r. ⌜ r .status ≡ cond (isEnd (seen .kind)) Status.Passed (Status.Stopped 21 (lines + 1) 0) ⌝ }
     ensures { λ r. ⌜ (r .chemicals ≡ seen .chemicals) × (r .receptors ≡ seen .receptors) ⌝ }
 {
-    if seen.kind == EN {
+    let last = seen.kind;
+    if is_end(last) {
         return Scan {
             status: Status::Passed,
             chemicals: seen.chemicals,

@@ -7,6 +7,7 @@ use native.Mathlib.Omega.{arith}
 use mathlib.Core.Path.{ap, sym, _∙_}
 use lib.ListN.{take, drop}
 use denote.Ref.{now}
+use Rattle.deck.specs.Parts.{deckLineWidth}
 use Rattle.deck.proofs.PartLaws.{line-zero, line-past, line-is}
 use Rattle.deck.proofs.line.Statement.{statement}
 use Rattle.deck.proofs.line.Tie as tie
@@ -44,8 +45,8 @@ part-result-end c = search needs
 returns-3 : tie.Need-returns-3
 returns-3 c =
     let a = c .before .before .before .args in
-    let at = 81 * (a .n - 1) in
-    ap (λ (k : ℕ). take k (drop at (now (a .deck)))) (add-sub-cancel-left at 81)
+    let at = deckLineWidth * (a .n - 1) in
+    ap (λ (k : ℕ). take k (drop at (now (a .deck)))) (add-sub-cancel-left at deckLineWidth)
     ∙ sym (line-is (now (a .deck)) (a .n) (omega (arith, c .before .before .if1 .left)) (omega (arith, c .before .if2 .left)))
 
 pub line-spec : {M : Type 1} → statement M

@@ -7,6 +7,8 @@ use mathlib.Core.Path.{ap, sym, _∙_}
 use native.Mathlib.Nat.{add-sub-cancel-left}
 use lib.ListN.{take, drop}
 use denote.Ref.{now}
+use Rattle.spelling.specs.Columns.{fieldWidth}
+use Rattle.deck.specs.Parts.{fieldsStart}
 use Rattle.deck.proofs.PartLaws.{field-zero, field-past, field-is}
 use Rattle.deck.proofs.fields.field_part.Statement.{statement}
 use Rattle.deck.proofs.fields.field_part.Tie as tie
@@ -47,8 +49,8 @@ part-result-end c = search needs
 returns-3 : tie.Need-returns-3
 returns-3 c =
     let a = c .before .before .before .args in
-    let at = 8 + 12 * (a .f - 1) in
-    ap (λ (k : ℕ). take k (drop at (now (a .line)))) (add-sub-cancel-left at 12)
+    let at = fieldsStart + fieldWidth * (a .f - 1) in
+    ap (λ (k : ℕ). take k (drop at (now (a .line)))) (add-sub-cancel-left at fieldWidth)
     ∙ sym (field-is (now (a .line)) (a .f) (omega (arith, c .before .before .if1 .left)) (c .before .if2 .left))
 
 pub field-part-spec : {M : Type 1} → statement M

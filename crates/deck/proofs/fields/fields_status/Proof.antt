@@ -1,18 +1,19 @@
 -- `deck::fields::fields_status` meets its contract. The invariant: no condition of the fields passed holds, and their values are kept.
 -- Assumes nothing.
-use Prim.Native.Nat.{ℕ, _-_, _≤_}
+use Prim.Native.Nat.{ℕ, _+_, _-_, _≤_}
 use native.Mathlib.Nat.{le-antisymm}
 use native.Mathlib.Omega.{arith}
 use borrow.Author.Needs.{needs}
 use mathlib.Core.Path.{_≡_, refl, sym, ap, _∙_, subst}
 use lib.ListN.{length, take, length-set}
 use denote.Ref.{now}
+use Rattle.sizes.specs.Sizes.{fieldsPerLine}
 use Rattle.spelling.specs.Spelling.{wordOf}
 use Rattle.cases.specs.Conditions.{first, upTo}
-use Rattle.lists.specs.Lists.{tabulate}
+use Rattle.lists.specs.Lists.{tabulate, chained}
 use Rattle.deck.specs.Inner.{Small, packedIn}
 use Rattle.cases.specs.declared.Status.the-variants.{Passed}
-use Rattle.cases.proofs.FirstMet.{turn-on, turn-out, never}
+use Rattle.cases.proofs.FirstMet.{goes-on, stops, never}
 use Rattle.deck.proofs.FieldLaws.{fieldBy, field-turn, fields-by}
 use Rattle.deck.proofs.SpelledWords.{field-small}
 use Rattle.deck.proofs.Packed.{fields-more, fields-all}
@@ -20,17 +21,17 @@ use Rattle.deck.proofs.fields.fields_status.Statement.{statement}
 use Rattle.deck.proofs.fields.fields_status.Tie as tie
 
 abbrev Inv-loop : tie.InvT-loop
-Inv-loop line kind n values₀ rules f₀ values f =
-    (f ≤ 6) × (first (upTo (fieldBy rules line n) f) ≡ Passed) × (length values ≡ length values₀) × (take f values ≡ tabulate f (packedIn line))
+Inv-loop line n values₀ rules f₀ values f =
+    (f ≤ fieldsPerLine) × (first (upTo (fieldBy rules line n) f) ≡ Passed) × (length values ≡ length values₀) × (take f values ≡ tabulate f (packedIn line))
 
 abbrev μ-loop : tie.MeasureT-loop
-μ-loop line kind n values₀ rules f₀ values f = 6 - f
+μ-loop line n values₀ rules f₀ values f = fieldsPerLine - f
 
 rules-requires : tie.Need-rules-requires Inv-loop μ-loop
 rules-requires c κs = search needs
 
 loop-holds : tie.Need-loop-holds Inv-loop μ-loop
-unfolding first upTo tabulate
+unfolding first chained tabulate
 loop-holds c = (search needs, refl, refl, refl)
 
 mul-rule : tie.Need-mul-rule Inv-loop μ-loop
@@ -67,8 +68,8 @@ returns c =
     let rules = c .before .before .before .before .before .before .before .before .rules in
     let w = c .before .before .before .number .ensures .0 ∙ ap wordOf (c .before .before .before .before .field-part .ensures) in
     let turn = field-turn (a .n) (l .f) (now (a .line)) _ (rules .result) _ _ (omega arith) w (c .before .before .field-status .ensures) in (
-      turn-out (fieldBy (rules .result) (now (a .line)) (a .n)) (l .f) 6 (c .before .before .before .before .before .before .loop-test .taken) (l .inv .1) _ turn _ _ _ (c .enum-told2 .given .1)
-          ∙ fields-by (a .sort) (a .kind) (a .n) (now (a .line)) _ (rules .ensures) 6,
+      stops (λ k. fieldBy (rules .result) (now (a .line)) (a .n) (k + 1)) (l .f) (l .inv .1) _ turn fieldsPerLine (c .before .before .before .before .before .before .loop-test .taken) _ _ _ (c .enum-told2 .given .1)
+          ∙ fields-by (a .sort) (a .kind) (a .n) (now (a .line)) _ (rules .ensures) fieldsPerLine,
       λ q. absurd (never _ _ _ _ (c .enum-told2 .given .1) q),
     )
 
@@ -93,7 +94,7 @@ loop-again c =
     let w = c .before .before .before .before .number .ensures .0 ∙ ap wordOf (c .before .before .before .before .before .field-part .ensures) in
     let turn = field-turn (a .n) (l .f) (now (a .line)) _ (rules .result) _ _ (omega arith) w (c .before .before .before .field-status .ensures) in (
       omega arith,
-      turn-on (fieldBy (rules .result) (now (a .line)) (a .n)) (l .f) (l .inv .1) _ turn (c .before .enum-told .given .1),
+      goes-on (λ k. fieldBy (rules .result) (now (a .line)) (a .n) (k + 1)) (l .f) (l .inv .1) _ turn (c .before .enum-told .given .1),
       length-set (l .values) (l .f) _ ∙ l .inv .2,
       fields-more (now (a .line)) (l .values) (l .f) _ _ (omega (arith, c .before .before .before .before .before .before .before .before .before .before .before .before .pre .1)) (c .packed .ensures) w (l .inv .3),
     )
@@ -107,7 +108,7 @@ returns-2 c =
     let l = c .before .loop in
     let rules = c .before .before .rules in (
       sym (subst (λ (k : ℕ). first (upTo (fieldBy (rules .result) (now (a .line)) (a .n)) k) ≡ Passed) (le-antisymm (l .inv .0) (c .loop-test .left)) (l .inv .1))
-          ∙ fields-by (a .sort) (a .kind) (a .n) (now (a .line)) _ (rules .ensures) 6,
+          ∙ fields-by (a .sort) (a .kind) (a .n) (now (a .line)) _ (rules .ensures) fieldsPerLine,
       λ q. fields-all (now (a .line)) (l .values) (l .f) (l .inv .2 ∙ c .before .before .before .before .before .pre .1) (l .inv .0) (c .loop-test .left) (l .inv .3),
     )
 

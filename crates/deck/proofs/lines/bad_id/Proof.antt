@@ -6,6 +6,9 @@ use denote.Ref.{now}
 use Rattle.deck.proofs.lines.bad_id.Statement.{statement}
 use Rattle.deck.proofs.lines.bad_id.Tie as tie
 
+is-end-requires : tie.Need-is-end-requires
+is-end-requires c κs = search needs
+
 sub-leading-bytes : tie.Need-sub-leading-bytes
 sub-leading-bytes c = search needs
 
@@ -19,18 +22,23 @@ leading-bytes-requires : tie.Need-leading-bytes-requires
 leading-bytes-requires c κs = search needs
 
 returns : tie.Need-returns
-returns c = end-blank (c .before .before .before .before .args .seen .kind) (c .before .before .before .before .args .seen .id) (c .before .before .before .before .args .kind) (now (c .before .before .before .before .args .line)) (c .before .before .if1 .taken) _ (c .leading-bytes .ensures)
+returns c =
+    let a = c .before .before .before .before .before .args in
+    end-blank (a .seen) (a .kind) (now (a .line)) _ (c .before .before .before .is-end .ensures) (c .before .before .if1 .taken) _ (c .leading-bytes .ensures)
 
 wrong-id-requires : tie.Need-wrong-id-requires
 wrong-id-requires c κs = search needs
 
 returns-2 : tie.Need-returns-2
-returns-2 c = other-id (c .before .before .before .args .seen .kind) (c .before .before .before .args .seen .id) (c .before .before .before .args .kind) (now (c .before .before .before .args .line)) (c .before .if1 .left) _ (c .before .before .before .pre .0) _ (c .wrong-id .ensures)
+returns-2 c =
+    let a = c .before .before .before .before .args in
+    other-id (a .seen) (a .kind) (now (a .line)) _ (c .before .before .is-end .ensures) (c .before .if1 .left) _ (c .before .before .before .before .pre .0) _ (c .wrong-id .ensures)
 
 pub bad-id-spec : {M : Type 1} → statement M
 bad-id-spec =
     tie.close
     (tie.spec
+    is-end-requires
     sub-leading-bytes
     part-leading-bytes-start
     part-leading-bytes-end

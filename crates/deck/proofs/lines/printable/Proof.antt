@@ -6,15 +6,16 @@ use borrow.Author.Needs.{needs}
 use mathlib.Core.Path.{_≡_}
 use denote.Ref.{now}
 use Rattle.deck.specs.Inner.{Printable}
+use Rattle.deck.specs.Parts.{columns}
 use Rattle.deck.proofs.LineConditionLaws.{printable-none, printable-more}
 use Rattle.deck.proofs.lines.printable.Statement.{statement}
 use Rattle.deck.proofs.lines.printable.Tie as tie
 
 abbrev Inv-loop : tie.InvT-loop
-Inv-loop line count₀ i₀ count i = (i ≤ 80) × Printable line i count
+Inv-loop line count₀ i₀ count i = (i ≤ columns) × Printable line i count
 
 abbrev μ-loop : tie.MeasureT-loop
-μ-loop line count₀ i₀ count i = 80 - i
+μ-loop line count₀ i₀ count i = columns - i
 
 loop-holds : tie.Need-loop-holds Inv-loop μ-loop
 loop-holds c = (omega arith, printable-none _)
@@ -43,7 +44,7 @@ loop-again c = (omega arith, next c)
 returns : tie.Need-returns Inv-loop μ-loop
 returns c =
     let l = c .before .loop in
-    let end : l .i ≡ 80 = omega (arith, c .loop-test .left) in
+    let end : l .i ≡ columns = omega (arith, c .loop-test .left) in
     rw end at (l .inv .1)
 
 pub printable-spec : {M : Type 1} → statement M

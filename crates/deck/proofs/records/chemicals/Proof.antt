@@ -1,6 +1,7 @@
 -- `deck::records::chemicals` meets its contract. The invariant: the records so far, then empty ones.
 -- Assumes nothing.
 use Rattle.lists.proofs.Tabulated.{filled-start, filled-more}
+use Rattle.sizes.specs.Sizes.{recordLines, maxChemicals}
 use Rattle.deck.proofs.DeckCaseLaws.{records-are}
 use denote.Ref.{now}
 use native.Mathlib.Omega.{arith}
@@ -10,14 +11,14 @@ use Prim.Native.Nat.{_-_, _≤_, _+_, _*_}
 use mathlib.Core.List.{_++_}
 use lib.ListN.{replicate}
 use Rattle.lists.specs.Lists.{tabulate}
-use Rattle.deck.specs.DeckCase.{recordOf}
+use Rattle.deck.specs.DeckCase.{chemicalsStart, recordOf}
 use Rattle.cases.specs.Cases.{noRecord}
 use Rattle.deck.proofs.records.chemicals.Statement.{statement}
 use Rattle.deck.proofs.records.chemicals.Tie as tie
 
 abbrev Inv-loop : tie.InvT-loop
 Inv-loop deck values count records₀ i₀ records i =
-    (i ≤ count) × (records ≡ tabulate i (λ j. recordOf deck (3 + 4 * j) 4) ++ replicate (16 - i) noRecord)
+    (i ≤ count) × (records ≡ tabulate i (λ j. recordOf deck (chemicalsStart + recordLines * j) recordLines) ++ replicate (maxChemicals - i) noRecord)
 
 abbrev μ-loop : tie.MeasureT-loop
 μ-loop deck values count records₀ i₀ records i = count - i
@@ -26,7 +27,7 @@ no-record-requires : tie.Need-no-record-requires Inv-loop μ-loop
 no-record-requires c κs = search needs
 
 loop-holds : tie.Need-loop-holds Inv-loop μ-loop
-loop-holds c = (search needs, ap (replicate 16) (c .no-record .ensures) ∙ filled-start (λ j. recordOf (now (c .before .before .before .args .deck)) (3 + 4 * j) 4) noRecord 16)
+loop-holds c = (search needs, ap (replicate maxChemicals) (c .no-record .ensures) ∙ filled-start (λ j. recordOf (now (c .before .before .before .args .deck)) (chemicalsStart + recordLines * j) recordLines) noRecord maxChemicals)
 
 mul-record-at : tie.Need-mul-record-at Inv-loop μ-loop
 mul-record-at c = omega (arith, c .before .before .before .before .before .pre)
@@ -51,10 +52,10 @@ loop-less c = omega arith
 
 loop-again : tie.Need-loop-again Inv-loop μ-loop
 loop-again c =
-    (omega arith, filled-more (λ j. recordOf (now (c .before .before .before .before .before .before .args .deck)) (3 + 4 * j) 4) noRecord 16 (c .before .before .loop .i) (omega (arith, c .before .before .before .before .before .before .pre)) _ (c .before .before .loop .inv .1) _ (c .record-at .ensures))
+    (omega arith, filled-more (λ j. recordOf (now (c .before .before .before .before .before .before .args .deck)) (chemicalsStart + recordLines * j) recordLines) noRecord maxChemicals (c .before .before .loop .i) (omega (arith, c .before .before .before .before .before .before .pre)) _ (c .before .before .loop .inv .1) _ (c .record-at .ensures))
 
 returns : tie.Need-returns Inv-loop μ-loop
-returns c = records-are (now (c .before .before .before .before .before .args .deck)) 3 (c .before .before .before .before .before .args .count) 16 (c .before .loop .i) _ (c .before .loop .inv .0) (c .loop-test .left) (c .before .loop .inv .1)
+returns c = records-are (now (c .before .before .before .before .before .args .deck)) chemicalsStart (c .before .before .before .before .before .args .count) maxChemicals (c .before .loop .i) _ (c .before .loop .inv .0) (c .loop-test .left) (c .before .loop .inv .1)
 
 pub chemicals-spec : {M : Type 1} → statement M
 chemicals-spec =

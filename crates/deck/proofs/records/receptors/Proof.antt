@@ -1,6 +1,7 @@
 -- `deck::records::receptors` meets its contract. The invariant: the records so far, then empty ones.
 -- Assumes nothing.
 use Rattle.lists.proofs.Tabulated.{filled-start, filled-more}
+use Rattle.sizes.specs.Sizes.{recordLines, mostStages}
 use Rattle.deck.proofs.DeckCaseLaws.{records-are}
 use denote.Ref.{now}
 use native.Mathlib.Omega.{arith}
@@ -17,7 +18,7 @@ use Rattle.deck.proofs.records.receptors.Tie as tie
 
 abbrev Inv-loop : tie.InvT-loop
 Inv-loop deck values n count records₀ i₀ records i =
-    (i ≤ count) × (records ≡ tabulate i (λ j. recordOf deck (n + 4 * j) 4) ++ replicate (8 - i) noRecord)
+    (i ≤ count) × (records ≡ tabulate i (λ j. recordOf deck (n + recordLines * j) recordLines) ++ replicate (mostStages - i) noRecord)
 
 abbrev μ-loop : tie.MeasureT-loop
 μ-loop deck values n count records₀ i₀ records i = count - i
@@ -26,7 +27,7 @@ no-record-requires : tie.Need-no-record-requires Inv-loop μ-loop
 no-record-requires c κs = search needs
 
 loop-holds : tie.Need-loop-holds Inv-loop μ-loop
-loop-holds c = (search needs, ap (replicate 8) (c .no-record .ensures) ∙ filled-start (λ j. recordOf (now (c .before .before .before .args .deck)) ((c .before .before .before .args .n) + 4 * j) 4) noRecord 8)
+loop-holds c = (search needs, ap (replicate mostStages) (c .no-record .ensures) ∙ filled-start (λ j. recordOf (now (c .before .before .before .args .deck)) ((c .before .before .before .args .n) + recordLines * j) recordLines) noRecord mostStages)
 
 mul-record-at : tie.Need-mul-record-at Inv-loop μ-loop
 mul-record-at c = omega (arith, c .before .before .before .before .before .pre)
@@ -51,10 +52,10 @@ loop-less c = omega arith
 
 loop-again : tie.Need-loop-again Inv-loop μ-loop
 loop-again c =
-    (omega arith, filled-more (λ j. recordOf (now (c .before .before .before .before .before .before .args .deck)) ((c .before .before .before .before .before .before .args .n) + 4 * j) 4) noRecord 8 (c .before .before .loop .i) (omega (arith, c .before .before .before .before .before .before .pre)) _ (c .before .before .loop .inv .1) _ (c .record-at .ensures))
+    (omega arith, filled-more (λ j. recordOf (now (c .before .before .before .before .before .before .args .deck)) ((c .before .before .before .before .before .before .args .n) + recordLines * j) recordLines) noRecord mostStages (c .before .before .loop .i) (omega (arith, c .before .before .before .before .before .before .pre)) _ (c .before .before .loop .inv .1) _ (c .record-at .ensures))
 
 returns : tie.Need-returns Inv-loop μ-loop
-returns c = records-are (now (c .before .before .before .before .before .args .deck)) (c .before .before .before .before .before .args .n) (c .before .before .before .before .before .args .count) 8 (c .before .loop .i) _ (c .before .loop .inv .0) (c .loop-test .left) (c .before .loop .inv .1)
+returns c = records-are (now (c .before .before .before .before .before .args .deck)) (c .before .before .before .before .before .args .n) (c .before .before .before .before .before .args .count) mostStages (c .before .loop .i) _ (c .before .loop .inv .0) (c .loop-test .left) (c .before .loop .inv .1)
 
 pub receptors-spec : {M : Type 1} → statement M
 receptors-spec =

@@ -1,5 +1,6 @@
 -- `deck::records::record_at` meets its contract. The invariant: the slots so far, then empty ones.
 -- Assumes nothing.
+use Rattle.sizes.specs.Sizes.{fieldsPerLine, slotsPerRecord}
 use Rattle.deck.proofs.Packed.{kept-length, slot-kept}
 use Rattle.lists.proofs.Tabulated.{filled-start, filled-more}
 use Rattle.deck.proofs.DeckCaseLaws.{record-is}
@@ -18,10 +19,10 @@ use Rattle.deck.proofs.records.record_at.Tie as tie
 
 abbrev Inv-loop : tie.InvT-loop
 Inv-loop deck values n lines slots₀ at count k₀ slots k =
-    (k ≤ lines * 6) × (slots ≡ tabulate k (slotSpelled deck n) ++ replicate (24 - k) noSlot)
+    (k ≤ lines * fieldsPerLine) × (slots ≡ tabulate k (slotSpelled deck n) ++ replicate (slotsPerRecord - k) noSlot)
 
 abbrev μ-loop : tie.MeasureT-loop
-μ-loop deck values n lines slots₀ at count k₀ slots k = lines * 6 - k
+μ-loop deck values n lines slots₀ at count k₀ slots k = lines * fieldsPerLine - k
 
 sub-at : tie.Need-sub-at Inv-loop μ-loop
 sub-at c = omega (arith, c .before .before .pre)
@@ -33,7 +34,7 @@ mul-count : tie.Need-mul-count Inv-loop μ-loop
 mul-count c = omega (arith, c .before .before .pre)
 
 loop-holds : tie.Need-loop-holds Inv-loop μ-loop
-loop-holds c = (search needs, filled-start (slotSpelled (now (c .before .before .args .deck)) (c .before .before .args .n)) noSlot 24)
+loop-holds c = (search needs, filled-start (slotSpelled (now (c .before .before .args .deck)) (c .before .before .args .n)) noSlot slotsPerRecord)
 
 add-unpacked : tie.Need-add-unpacked Inv-loop μ-loop
 add-unpacked c = omega arith
@@ -64,9 +65,9 @@ loop-again c =
     let a = c .before .before .before .before .before .before .args in
     let p = c .before .before .before .before .before .before .pre in
     let l = c .before .before .before .loop in
-    let few : l .k < 24 = omega (arith, c .before .before .loop-test .taken, p) in
-    let slot = slot-kept (now (a .deck)) (now (a .values)) (a .n) (l .k) (p .0) (p .1 .0 .0) (p .1 .0 .1) few _ (c .unpacked .ensures) in
-    (omega arith, filled-more (slotSpelled (now (a .deck)) (a .n)) noSlot 24 (l .k) few _ (l .inv .1) _ slot)
+    let few : l .k < slotsPerRecord = omega (arith, c .before .before .loop-test .taken, p) in
+    let slot = slot-kept (now (a .deck)) (now (a .values)) (a .n) (a .lines) (l .k) (p .0) (p .1 .0 .0) (p .1 .0 .1) (c .before .before .loop-test .taken) _ (c .unpacked .ensures) in
+    (omega arith, filled-more (slotSpelled (now (a .deck)) (a .n)) noSlot slotsPerRecord (l .k) few _ (l .inv .1) _ slot)
 
 id-at-requires : tie.Need-id-at-requires Inv-loop μ-loop
 id-at-requires c κs = search needs

@@ -10,15 +10,17 @@ use borrow.Rule.Slice.PartMut.{mid-len, same-len-mid}
 use borrow.Author.Needs.{needs}
 use Prim.Native.Nat.{_+_, _*_, _-_, _/_, _≤_}
 use lib.ListN.{length}
+use Rattle.sizes.specs.Sizes.{fieldsPerLine}
+use Rattle.deck.specs.Parts.{deckLineWidth}
 use Rattle.deck.proofs.scanning.scan_lines.Statement.{statement}
 use Rattle.deck.proofs.scanning.scan_lines.Tie as tie
 
 abbrev Inv-loop : tie.InvT-loop
 Inv-loop deck sort values₀ lines seen₀ n₀ values seen n =
-    Scanned sort deck n (seen .kind) (seen .id) (seen .chemicals) (seen .receptors) × Kept deck n values
+    Scanned sort deck n seen × Kept deck n values
 
 abbrev μ-loop : tie.MeasureT-loop
-μ-loop deck sort values₀ lines seen₀ n₀ values seen n = length deck / 81 - n
+μ-loop deck sort values₀ lines seen₀ n₀ values seen n = length deck / deckLineWidth - n
 
 loop-holds : tie.Need-loop-holds Inv-loop μ-loop
 loop-holds c = (scanned-start (c .before .before .args .sort) (now (c .before .before .args .deck)), kept-none (now (c .before .before .args .deck)) _ (c .before .before .pre .1))
@@ -61,9 +63,9 @@ line-status-requires : tie.Need-line-status-requires Inv-loop μ-loop
 line-status-requires c κs =
     let l = c .before .before .before .before .before .loop in
     let all = kept-room (now (c .before .before .before .before .before .before .before .before .args .deck)) (c .before .before .before .before .before .loop .n) _ (omega (arith, c .before .before .before .before .loop-test .taken, c .before .before .before .before .before .before .before .before .pre .0)) (c .before .before .before .before .before .loop .inv .1) in
-    let past : 6 * l .n + 6 ≤ length (l .values) = omega (arith, c .before .before .before .before .loop-test .taken, c .before .before .before .before .before .before .before .before .pre .0) in
-    let cut : 6 * l .n + 6 - 6 * l .n ≡ 6 = omega arith in
-    ((line-whole (now (c .before .before .before .before .before .before .before .before .args .deck)) _ (c .before .before .before .before .loop-test .taken) _ (c .before .before .before .line .ensures), mid-len (6 * l .n) (6 * l .n + 6) (l .values) past ∙ cut), (c .before .before .kind-of .ensures, c .before .id-of .ensures))
+    let past : fieldsPerLine * l .n + fieldsPerLine ≤ length (l .values) = omega (arith, c .before .before .before .before .loop-test .taken, c .before .before .before .before .before .before .before .before .pre .0) in
+    let cut : fieldsPerLine * l .n + fieldsPerLine - fieldsPerLine * l .n ≡ fieldsPerLine = omega arith in
+    ((line-whole (now (c .before .before .before .before .before .before .before .before .args .deck)) _ (c .before .before .before .before .loop-test .taken) _ (c .before .before .before .line .ensures), mid-len (fieldsPerLine * l .n) (fieldsPerLine * l .n + fieldsPerLine) (l .values) past ∙ cut), (c .before .before .kind-of .ensures, c .before .id-of .ensures))
 
 enum-told : tie.Need-enum-told Inv-loop μ-loop
 enum-told c = search needs
@@ -75,7 +77,7 @@ same-length : tie.Need-same-length Inv-loop μ-loop
 same-length c =
     let l = c .before .before .before .before .before .before .before .before .before .before .loop in
     let row = c .before .before .before .before .line-status in
-    same-len-mid (6 * l .n) (6 * l .n + 6 - 6 * l .n) (l .values) (row .last .1 .1 .1 .1 .1 .1 .0) (row .kept .1 .1 .1 .1 .1 .1 .0)
+    same-len-mid (fieldsPerLine * l .n) (fieldsPerLine * l .n + fieldsPerLine - fieldsPerLine * l .n) (l .values) (row .last .1 .1 .1 .1 .1 .1 .0) (row .kept .1 .1 .1 .1 .1 .1 .0)
     ∙ kept-room (now (c .before .before .before .before .before .before .before .before .before .before .before .before .before .args .deck)) (c .before .before .before .before .before .before .before .before .before .before .loop .n) _ (omega (arith, c .before .before .before .before .before .before .before .before .before .loop-test .taken, c .before .before .before .before .before .before .before .before .before .before .before .before .before .pre .0)) (c .before .before .before .before .before .before .before .before .before .before .loop .inv .1)
     ∙ sym (ap length (c .before .before .before .before .before .before .before .before .before .before .before .before .before .pre .1))
 
@@ -83,7 +85,7 @@ returns : tie.Need-returns Inv-loop μ-loop
 returns c =
     let a = c .before .before .before .before .before .before .before .before .before .before .before .before .before .args in
     let l = c .before .before .before .before .before .before .before .before .before .before .loop in (
-      scan-out (a .sort) (now (a .deck)) _ (l .n) _ _ _ _ (l .inv .0) (c .before .before .before .before .before .before .before .before .line .ensures) _ (c .before .before .before .before .line-status .ensures .0) (c .before .before .before .before .before .before .before .before .before .loop-test .taken) _ _ _ (c .enum-told2 .given .1) _,
+      scan-out (a .sort) (now (a .deck)) _ (l .n) _ (l .inv .0) (c .before .before .before .before .before .before .before .before .line .ensures) _ (c .before .before .before .before .line-status .ensures .0) (c .before .before .before .before .before .before .before .before .before .loop-test .taken) _ _ _ (c .enum-told2 .given .1) _,
       ((λ q. absurd (never _ _ _ _ (c .enum-told2 .given .1) q)), ((search needs, search needs), (λ q. absurd (never _ _ _ _ (c .enum-told2 .given .1) q)))),
     )
 
@@ -100,7 +102,7 @@ loop-again : tie.Need-loop-again Inv-loop μ-loop
 loop-again c =
     let a = c .before .before .before .before .before .before .before .before .before .before .before .before .before .before .args in
     let l = c .before .before .before .before .before .before .before .before .before .before .before .loop in (
-      scan-on (a .sort) (now (a .deck)) _ (l .n) _ _ _ _ (l .inv .0) (c .before .before .before .before .before .before .before .before .before .line .ensures) _ (c .before .before .before .before .before .line-status .ensures .0) (c .before .before .before .before .before .before .before .before .before .before .loop-test .taken) (c .before .enum-told .given .1) _ _ _ _ _ _ (c .before .before .before .before .before .before .before .before .kind-of .ensures) (c .before .before .before .before .before .before .before .id-of .ensures) (c .after .ensures .0) (c .after .ensures .1 .0) (c .after .ensures .1 .1),
+      scan-on (a .sort) (now (a .deck)) _ (l .n) _ (l .inv .0) (c .before .before .before .before .before .before .before .before .before .line .ensures) _ (c .before .before .before .before .before .line-status .ensures .0) (c .before .before .before .before .before .before .before .before .before .before .loop-test .taken) (c .before .enum-told .given .1) _ _ _ (c .before .before .before .before .before .before .before .before .kind-of .ensures) (c .before .before .before .before .before .before .before .id-of .ensures) (c .after .ensures),
       kept-more (now (a .deck)) (l .n) _ (l .values) _ (omega (arith, c .before .before .before .before .before .before .before .before .before .before .loop-test .taken, c .before .before .before .before .before .before .before .before .before .before .before .before .before .before .pre .0)) (c .before .before .before .before .before .before .before .before .before .line .ensures) (c .before .before .before .before .before .line-status .ensures .1 (c .before .enum-told .given .1)) (l .inv .1),
     )
 
@@ -115,12 +117,12 @@ returns-2 c =
     let a = c .before .before .before .before .before .args in
     let l = c .before .before .loop in
     let end = c .before .loop-test .left in (
-      scan-end (a .sort) (now (a .deck)) _ _ _ _ _ (l .inv .0) end _ (c .ended .ensures .0),
+      scan-end (a .sort) (now (a .deck)) _ _ (l .inv .0) end _ (c .ended .ensures .0),
       (
-        (λ q. scan-counts (a .sort) (now (a .deck)) _ _ _ _ _ (l .inv .0) end _ _ (c .ended .ensures .1)),
+        (λ q. scan-counts (a .sort) (now (a .deck)) _ _ (l .inv .0) end _ _ (c .ended .ensures .1)),
         (
           omega (arith, c .ended .ensures .1 .0, c .ended .ensures .1 .1, l .inv .0 .few-c, l .inv .0 .few-r, in-room (a .sort)),
-          (λ q. kept-all (now (a .deck)) (l .n) _ (omega (arith, l .inv .0 .bound, c .before .before .before .before .before .pre .0)) (all (a .sort) (now (a .deck)) _ _ _ _ _ (l .inv .0) end) (l .inv .1)),
+          (λ q. kept-all (now (a .deck)) (l .n) _ (omega (arith, l .inv .0 .bound, c .before .before .before .before .before .pre .0)) (all (a .sort) (now (a .deck)) _ _ (l .inv .0) end) (l .inv .1)),
         ),
       ),
     )
