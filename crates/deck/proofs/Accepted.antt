@@ -9,17 +9,17 @@ use mathlib.Core.List.{List, [], _∷_}
 use borrow.Author.Tests.{not-false}
 use lib.Dec.{lit<}
 use lib.ListN.{getD, replicate}
-use Rattle.deck.specs.Parts.{linesOf, lineOf, fieldIn, fieldOf}
+use Rattle.deck.specs.Parts.{linesOf, lineOf, fieldIn, fieldOf, kindOf}
 use Rattle.spelling.specs.Spelling.{wordOf}
-use Rattle.deck.specs.Kinds.{ownerLines, kindOf, rulesOf}
+use Rattle.kinds.specs.Kinds.{ownerLines, rulesOf}
 use Rattle.cases.specs.Ranges.{inRange}
 use Rattle.sizes.specs.Sizes.{fieldsPerLine, recordLines, slotsPerRecord, maxChemicals, mostStages}
 use Rattle.slots.specs.Slots.{unused, ruleAt, ruleFor, ownerOf, placeOf}
 use Rattle.slots.specs.declared.Owner.{Owner}
 use Rattle.slots.specs.declared.Owner.the-variants.{Site, Chemical, Receptor}
 use Rattle.slots.specs.declared.Sort.{Sort}
-use Rattle.deck.specs.declared.kinds.Kind.{Kind}
-use Rattle.deck.specs.declared.kinds.Kind.the-variants.{Line}
+use Rattle.kinds.specs.declared.Kind.{Kind}
+use Rattle.kinds.specs.declared.Kind.the-variants.{Line}
 use Rattle.slots.proofs.SlotLaws.{places, place-rule, inside}
 use Rattle.cases.specs.Conditions.{at, first, upTo}
 use Rattle.deck.specs.DeckConditions.{fieldConditions, fieldAt, misspelled, misplaced, outOfRange, seenIn, conditions}

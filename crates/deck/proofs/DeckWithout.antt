@@ -5,7 +5,7 @@ use native.Mathlib.Omega.{arith}
 use mathlib.Core.List.{List}
 use Rattle.deck.specs.Parts.{linesOf}
 use Rattle.cases.specs.Conditions.{Without, upTo}
-use Rattle.deck.specs.declared.kinds.Kind.{Kind}
+use Rattle.kinds.specs.declared.Kind.{Kind}
 use Rattle.deck.specs.DeckConditions.{fieldConditions, fieldAt, lineConditionsAfter, lineConditions, conditions}
 use Rattle.sizes.specs.Sizes.{fieldsPerLine}
 use Rattle.slots.specs.declared.Sort.{Sort}

@@ -10,8 +10,8 @@ use lib.ListN.{length, getD}
 use lib.Seq.{drop-cons}
 use Rattle.deck.specs.Parts.{fieldIn}
 use Rattle.spelling.specs.Spelling.{wordOf}
-use Rattle.deck.specs.declared.kinds.Kind.{Kind}
-use Rattle.deck.specs.Kinds.{rulesOf}
+use Rattle.kinds.specs.declared.Kind.{Kind}
+use Rattle.kinds.specs.Kinds.{rulesOf}
 use Rattle.cases.specs.Ranges.{withinBounds, inRange}
 use Rattle.slots.specs.Slots.{unused}
 use Rattle.cases.specs.Conditions.{Condition, first, upTo}

@@ -8,7 +8,6 @@ pub mod DeckCaseLaws
 pub mod DeckWithout
 pub mod FieldLaws
 pub mod FieldWidths
-pub mod KindLaws
 pub mod LineConditionLaws
 pub mod LinePlaces
 pub mod PartLaws

@@ -11,13 +11,13 @@ use borrow.Author.Tests.{eq-eqb, ne-eqb, eqb-true, not-true, not-false}
 use lib.Dec.{leb, eqb}
 use lib.ListN.{length, getD, take, drop}
 use Rattle.spelling.specs.Columns.{within, leading}
-use Rattle.deck.specs.Parts.{kindWidth, columns, deckLineWidth}
-use Rattle.deck.specs.Kinds.{kindOf, isLine, isEnd, begins, letterOf, mayFollow}
+use Rattle.deck.specs.Parts.{kindWidth, columns, deckLineWidth, kindOf}
+use Rattle.kinds.specs.Kinds.{isLine, isEnd, begins, letterOf, mayFollow}
 use Rattle.cases.specs.Cases.{maxReceptors}
 use Rattle.sizes.specs.Sizes.{fieldsPerLine, maxChemicals}
 use Rattle.slots.specs.declared.Owner.the-variants.{Chemical, Receptor}
 use Rattle.slots.specs.declared.Sort.{Sort}
-use Rattle.deck.specs.declared.kinds.Kind.{Kind}
+use Rattle.kinds.specs.declared.Kind.{Kind}
 use Rattle.deck.specs.declared.lines.Seen.{Seen}
 use Rattle.cases.specs.Conditions.{first, upTo}
 use Rattle.deck.specs.DeckConditions.{fieldAt, badBytes, badKind, idOf, sameLetter, wrongId, badId, lineConditionsAfter}
@@ -27,7 +27,7 @@ use Rattle.cases.specs.declared.Status.the-variants.{Stopped}
 use Rattle.lists.proofs.Booleans.{and-false}
 use Rattle.spelling.proofs.Leading.{within-low, leads-on, leads-off}
 use Rattle.lists.proofs.ListLaws.{tail-part}
-use Rattle.deck.proofs.KindLaws.{is-line}
+use Rattle.kinds.proofs.KindLaws.{is-line}
 
 -- ---- 12
 module _ (line : List ℕ) where

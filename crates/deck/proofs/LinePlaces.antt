@@ -9,15 +9,16 @@ use mathlib.Core.Bool.{Bool, true, false, _||_, false≢true}
 use mathlib.Core.List.{List, [], _∷_, _++_}
 use borrow.Author.Tests.{not-false}
 use lib.Dec.{eqb·zero-suc}
+use lib.ListN.{getD}
 use Rattle.sizes.specs.Sizes.{siteLines, recordLines, maxChemicals}
 use Rattle.slots.specs.declared.Owner.{Owner}
 use Rattle.slots.specs.declared.Owner.the-variants.{Site, Chemical, Receptor}
 use Rattle.slots.specs.declared.Sort.{Sort}
-use Rattle.deck.specs.declared.kinds.Kind.{Kind}
-use Rattle.deck.specs.declared.kinds.Kind.the-variants.{Start, Line, End, Other}
+use Rattle.kinds.specs.declared.Kind.{Kind}
+use Rattle.kinds.specs.declared.Kind.the-variants.{Start, Line, End, Other}
 use Rattle.deck.specs.declared.lines.Seen.{Seen}
-use Rattle.deck.specs.Parts.{linesOf, lineOf}
-use Rattle.deck.specs.Kinds.{ownerLines, kindOf, isLine, isLast, isEnd, mayBegin, mayFollow}
+use Rattle.deck.specs.Parts.{linesOf, lineOf, kindOf}
+use Rattle.kinds.specs.Kinds.{ownerLines, isLine, isLast, isEnd, mayBegin, mayFollow}
 use Rattle.cases.specs.Cases.{maxReceptors}
 use Rattle.cases.specs.Conditions.{at, first, upTo}
 use Rattle.deck.specs.DeckConditions.{badLength, noEnd, lineConditionsAfter, begunWith, seenWith, seenIn, lineConditions, conditions}
@@ -25,8 +26,13 @@ use Rattle.deck.specs.DeckCase.{chemicalsStart}
 use Rattle.cases.specs.declared.Status.the-variants.{Passed}
 use Rattle.lists.proofs.Booleans.{and-false}
 use Rattle.cases.proofs.FirstMet.{first-read, append-read, chained-each}
-use Rattle.deck.proofs.KindLaws.{Within, kind-within, is-line, is-start, is-end}
+use Rattle.kinds.proofs.KindLaws.{Within, kind-within, is-line, is-start, is-end}
 use Rattle.deck.proofs.Scan.{LineRead, line-read, end-seen, may-follow, few-chemicals, few-receptors}
+
+-- a line's kind is a line that its record has
+line-within : (line : List ℕ) → Within (kindOf line)
+unfolding kindOf
+line-within line = kind-within (getD line 0 0) (getD line 1 0)
 
 -- a later line of a record begins none
 not-begun : (o p : Owner) (m c : ℕ) → begunWith o (Line p (suc m)) c ≡ c
@@ -165,7 +171,7 @@ module _ (sort : Sort) (deck : List ℕ) (e : first (conditions sort deck) ≡ P
       let k = kindOf (lineOf deck (suc n)) in
       let b = line-facts n h .kind in
       let few = all-few (maxReceptors sort) n (x .kind) (x .chemicals) (x .receptors) s in
-      step (maxReceptors sort) n (x .kind) (x .chemicals) (x .receptors) s k (follows n h) (kind-within (lineOf deck (suc n)))
+      step (maxReceptors sort) n (x .kind) (x .chemicals) (x .receptors) s k (follows n h) (line-within (lineOf deck (suc n)))
       (few-chemicals sort x k b (few .0)) (few-receptors sort x k b (few .1))
 
   end-stands : Stands (maxReceptors sort) (linesOf deck) End (seenIn deck (linesOf deck) .chemicals) (seenIn deck (linesOf deck) .receptors)

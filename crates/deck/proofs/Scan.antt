@@ -11,14 +11,14 @@ use borrow.Author.Tests.{not-false, eq-eqb, ne-eqb, lt-ltb, le-ltb, leb-false, l
 use lib.Dec.{leb, ltb, eqb}
 use lib.ListN.{length, take, drop, length-take, length-drop}
 use Rattle.spelling.specs.Columns.{within}
-use Rattle.deck.specs.Parts.{deckLineWidth, linesOf, lineOf}
-use Rattle.deck.specs.Kinds.{kindOf, kindIn, isLine, isEnd, mayFollow}
+use Rattle.deck.specs.Parts.{deckLineWidth, linesOf, lineOf, kindOf}
+use Rattle.kinds.specs.Kinds.{kindIn, isLine, isEnd, mayFollow}
 use Rattle.cases.specs.Cases.{maxReceptors}
 use Rattle.sizes.specs.Sizes.{fieldsPerLine, maxChemicals, mostStages}
 use Rattle.slots.specs.declared.Owner.the-variants.{Chemical, Receptor}
 use Rattle.slots.specs.declared.Sort.{Sort}
-use Rattle.deck.specs.declared.kinds.Kind.{Kind}
-use Rattle.deck.specs.declared.kinds.Kind.the-variants.{Start}
+use Rattle.kinds.specs.declared.Kind.{Kind}
+use Rattle.kinds.specs.declared.Kind.the-variants.{Start}
 use Rattle.deck.specs.declared.lines.Seen.{Seen}
 use Rattle.slots.specs.declared.Sort.the-variants.{Ordinary, Composite}
 use Rattle.lists.specs.Lists.{chained}

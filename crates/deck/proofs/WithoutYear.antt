@@ -19,12 +19,12 @@ use Rattle.slots.specs.declared.Guidance.the-variants.{Of2005, Of2009}
 use Rattle.slots.specs.declared.Sort.{Sort}
 use Rattle.sizes.specs.Sizes.{fieldsPerLine, siteLines, recordLines, slotsPerRecord, maxChemicals, mostStages}
 use Rattle.spelling.specs.Columns.{within, leading, fieldWidth, idWidth}
-use Rattle.deck.specs.Parts.{kindWidth, fieldsStart, columns, deckLineWidth, linesOf, lineOf, fieldIn, fieldOf}
+use Rattle.deck.specs.Parts.{kindWidth, fieldsStart, columns, deckLineWidth, linesOf, lineOf, fieldIn, fieldOf, kindOf}
 use Rattle.spelling.specs.Spelling.{digitsOf, unspaced, signSpelled, exponentSpelled, endedOf, pointedOf, spelledOf, loneDash, wordOf, idIn}
-use Rattle.deck.specs.Kinds.{kindIn, kindOf, isLine, isLast, isEnd, mayBegin, mayFollow, rulesOf}
+use Rattle.kinds.specs.Kinds.{kindIn, isLine, isLast, isEnd, mayBegin, mayFollow, rulesOf}
 use Rattle.slots.specs.declared.Owner.the-variants.{Site, Chemical, Receptor}
-use Rattle.deck.specs.declared.kinds.Kind.{Kind}
-use Rattle.deck.specs.declared.kinds.Kind.the-variants.{Start, Line, End, Other}
+use Rattle.kinds.specs.declared.Kind.{Kind}
+use Rattle.kinds.specs.declared.Kind.the-variants.{Start, Line, End, Other}
 use Rattle.deck.specs.declared.lines.Seen.{Seen}
 use Rattle.powers.specs.Powers.{above, below}
 use Rattle.cases.specs.Ranges.{valueAtMost, valueAtLeast, withinBounds, isYearOf, isYear, inRange}
@@ -49,7 +49,7 @@ use Rattle.lists.proofs.Tabulated.{length-tabulate, filled-at, tabulate-same}
 use Rattle.deck.proofs.SpelledWords.{choose}
 use Rattle.cases.proofs.FirstMet.{orElse, first-append, chained-each}
 use Rattle.deck.proofs.Scan.{line-read, may-follow}
-use Rattle.deck.proofs.KindLaws.{is-line}
+use Rattle.kinds.proofs.KindLaws.{is-line}
 use Rattle.lists.proofs.ListLaws.{drop-take}
 
 -- the year's line is the site's last, and its slot the last of those

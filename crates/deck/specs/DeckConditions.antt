@@ -6,10 +6,10 @@ use mathlib.Core.Bool.{Bool, true, false, cond, not, _&&_, _||_}
 use mathlib.Core.List.{List, [], _∷_, _++_}
 use lib.Dec.{leb, ltb, eqb}
 use lib.ListN.{length, getD, take, drop}
-use Rattle.deck.specs.Parts.{deckLineWidth, columns, kindWidth, linesOf, lineOf, fieldIn}
+use Rattle.deck.specs.Parts.{deckLineWidth, columns, kindWidth, linesOf, lineOf, fieldIn, kindOf}
 use Rattle.spelling.specs.Columns.{idWidth, leading}
 use Rattle.spelling.specs.Spelling.{idIn, wordOf}
-use Rattle.deck.specs.Kinds.{kindOf, isLine, isEnd, begins, letterOf, mayFollow, rulesOf}
+use Rattle.kinds.specs.Kinds.{isLine, isEnd, begins, letterOf, mayFollow, rulesOf}
 use Rattle.sizes.specs.Sizes.{maxChemicals, siteLines, recordLines, fieldsPerLine}
 use Rattle.cases.specs.Cases.{maxReceptors}
 use Rattle.cases.specs.Ranges.{inRange}
@@ -18,8 +18,8 @@ use Rattle.slots.specs.declared.Owner.{Owner}
 use Rattle.slots.specs.declared.Owner.the-variants.{Chemical, Receptor}
 use Rattle.slots.specs.declared.Rule.{Rule}
 use Rattle.slots.specs.declared.Sort.{Sort}
-use Rattle.deck.specs.declared.kinds.Kind.{Kind}
-use Rattle.deck.specs.declared.kinds.Kind.the-variants.{Start}
+use Rattle.kinds.specs.declared.Kind.{Kind}
+use Rattle.kinds.specs.declared.Kind.the-variants.{Start}
 use Rattle.deck.specs.declared.lines.Seen.{Seen}
 use Rattle.spelling.specs.declared.Word.{Word}
 use Rattle.spelling.specs.declared.Word.the-variants.{Blank, Dash, Number, Other}

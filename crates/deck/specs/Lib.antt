@@ -1,5 +1,4 @@
 pub mod Parts
-pub mod Kinds
 pub mod Guidance
 pub mod Inner
 pub mod DeckCase

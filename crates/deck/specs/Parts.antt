@@ -3,9 +3,11 @@
 use Prim.Native.Nat.{ℕ, _+_, _*_, _-_, _/_}
 use mathlib.Core.Bool.{cond}
 use mathlib.Core.List.{List, []}
-use lib.ListN.{length, take, drop}
+use lib.ListN.{length, getD, take, drop}
 use Rattle.sizes.specs.Sizes.{fieldsPerLine}
 use Rattle.spelling.specs.Columns.{within, idWidth, fieldWidth}
+use Rattle.kinds.specs.declared.Kind.{Kind}
+use Rattle.kinds.specs.Kinds.{kindIn}
 
 -- the columns of a line's kind
 abbrev pub kindWidth : ℕ
@@ -38,3 +40,7 @@ fieldIn line f = cond (within 1 fieldsPerLine f) (take fieldWidth (drop (fieldsS
 -- field f of line n; empty where the deck lacks it
 unfoldable pub fieldOf : List ℕ → ℕ → ℕ → List ℕ
 fieldOf deck n f = fieldIn (lineOf deck n) f
+
+-- the kind of a line: columns 1-2
+unfoldable pub kindOf : List ℕ → Kind
+kindOf line = kindIn (getD line 0 0) (getD line 1 0)

@@ -1,7 +1,6 @@
 // A deck, as document 01 calls the input: lines of 80 bytes and a line feed that hold one site, chemicals and receptors.
 // `read` answers the case that a deck spells, or the first condition that stops it.
 mod fields;
-mod kinds;
 mod lines;
 mod packing;
 mod records;

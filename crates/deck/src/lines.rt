@@ -4,8 +4,7 @@ ghost use mathlib.Core.Bool.{cond};
 ghost use Prim.Native.Nat.{_≤_};
 ghost use lib.ListN.{length};
 ghost use Rattle.spelling.specs.Columns.{within};
-ghost use Rattle.deck.specs.Parts.{deckLineWidth, columns};
-ghost use Rattle.deck.specs.Kinds.{kindOf};
+ghost use Rattle.deck.specs.Parts.{deckLineWidth, columns, kindOf};
 ghost use Rattle.cases.specs.Cases.{maxReceptors};
 ghost use Rattle.cases.specs.Conditions.{first};
 ghost use Rattle.deck.specs.DeckConditions.{badBytes, badKind, idOf, wrongId, badId, lineConditionsAfter, maxLines, begunWith, seenWith};
@@ -16,13 +15,14 @@ use crate::COLUMNS;
 use crate::FIELDS_START;
 use crate::KIND_WIDTH;
 use crate::fields::fields_status;
-use crate::kinds::Kind;
-use crate::kinds::begins_record;
-use crate::kinds::is_end;
-use crate::kinds::is_line;
-use crate::kinds::letter_of;
-use crate::kinds::may_follow;
 use cases::Status;
+use kinds::Kind;
+use kinds::begins_record;
+use kinds::is_end;
+use kinds::is_line;
+use kinds::kind_in;
+use kinds::letter_of;
+use kinds::may_follow;
 use sizes::MAX_CHEMICALS;
 use sizes::MAX_RECEPTORS;
 use sizes::MAX_STAGES;
@@ -40,6 +40,14 @@ pub(crate) struct Seen {
     pub(crate) id: u32,
     pub(crate) chemicals: usize,
     pub(crate) receptors: usize,
+}
+
+// Columns 1-2.
+pub(crate) fn kind_of(line: &[u8]) -> Kind
+    requires { ⌜ length (now line) ≡ deckLineWidth ⌝ }
+    ensures { λ r. ⌜ r ≡ kindOf (now (line .entry)) ⌝ }
+{
+    kind_in(line[0], line[1])
 }
 
 // Columns 3-8, or 0 where they are no id.

@@ -28,9 +28,9 @@ use Rattle.pathway.specs.Lines.{workedFor, factorOf}
 use Rattle.cases.specs.declared.Status.{Status}
 use Rattle.cases.specs.declared.Status.the-variants.{Passed}
 use Rattle.spelling.specs.Columns.{within, leading, digitsValue, digits, decimal, justified, number}
-use Rattle.deck.specs.Parts.{linesOf, lineOf, fieldIn, fieldOf}
+use Rattle.deck.specs.Parts.{linesOf, lineOf, fieldIn, fieldOf, kindOf}
 use Rattle.spelling.specs.Spelling.{idSpelled, idIn, signSpelled, exponentSpelled, powerOf, digitsRead, endedOf, pointedOf, spelledOf, loneDash, wordOf}
-use Rattle.deck.specs.Kinds.{numbered, kindIn, kindOf, isLine, isLast, mayBegin, mayFollow}
+use Rattle.kinds.specs.Kinds.{numbered, kindIn, isLine, isLast, mayBegin, mayFollow}
 use Rattle.powers.specs.Powers.{above, below}
 use Rattle.cases.specs.Ranges.{valueAtMost, valueAtLeast, withinBounds, isYearOf, isYear, inRange}
 use Rattle.cases.specs.Conditions.{first}

@@ -1,11 +1,11 @@
--- `deck::kinds::kind_in` meets its contract: an owner by its letter, or EN, or neither.
+-- `kinds::kind_in` meets its contract: an owner by its letter, or EN, or neither.
 -- Assumes nothing.
 use borrow.Author.Needs.{needs}
 use mathlib.Core.Path.{sym, _∙_}
 use Rattle.slots.specs.declared.Owner.the-variants.{Site, Chemical, Receptor}
-use Rattle.deck.proofs.KindLaws.{of-owner, of-none}
-use Rattle.deck.proofs.kinds.kind_in.Statement.{statement}
-use Rattle.deck.proofs.kinds.kind_in.Tie as tie
+use Rattle.kinds.proofs.KindLaws.{of-owner, of-none}
+use Rattle.kinds.proofs.kind_in.Statement.{statement}
+use Rattle.kinds.proofs.kind_in.Tie as tie
 
 letter-requires : tie.Need-letter-requires
 letter-requires c κs = search needs

@@ -1,11 +1,11 @@
--- `deck::kinds::may_follow` meets its contract: a record's first line, a later one, or EN.
+-- `kinds::may_follow` meets its contract: a record's first line, a later one, or EN.
 -- Assumes nothing.
 use borrow.Author.Needs.{needs}
 use mathlib.Core.Path.{refl}
-use Rattle.deck.specs.Kinds.{mayFollow}
-use Rattle.deck.proofs.KindLaws.{follow-first, follow-next}
-use Rattle.deck.proofs.kinds.may_follow.Statement.{statement}
-use Rattle.deck.proofs.kinds.may_follow.Tie as tie
+use Rattle.kinds.specs.Kinds.{mayFollow}
+use Rattle.kinds.proofs.KindLaws.{follow-first, follow-next}
+use Rattle.kinds.proofs.may_follow.Statement.{statement}
+use Rattle.kinds.proofs.may_follow.Tie as tie
 
 enum-told : tie.Need-enum-told
 enum-told c = search needs

@@ -1,9 +1,9 @@
--- `deck::kinds::numbered` meets its contract: a digit too low, of a line, or too high.
+-- `kinds::numbered` meets its contract: a digit too low, of a line, or too high.
 -- Assumes nothing.
 use borrow.Author.Needs.{needs}
-use Rattle.deck.proofs.KindLaws.{digit-low, digit-in, digit-high}
-use Rattle.deck.proofs.kinds.numbered.Statement.{statement}
-use Rattle.deck.proofs.kinds.numbered.Tie as tie
+use Rattle.kinds.proofs.KindLaws.{digit-low, digit-in, digit-high}
+use Rattle.kinds.proofs.numbered.Statement.{statement}
+use Rattle.kinds.proofs.numbered.Tie as tie
 
 returns : tie.Need-returns
 returns c = digit-low (c .before .args .owner) (c .before .args .digit) (c .if1 .taken)

@@ -4,15 +4,13 @@ use Prim.Native.Nat.{ℕ, zero, suc, _+_, _-_, _≤_, _<_}
 use native.Mathlib.Omega.{arith}
 use mathlib.Core.Path.{_≡_, refl, sym, ap, _∙_}
 use mathlib.Core.Bool.{Bool, true, false, cond, _&&_, false≢true}
-use mathlib.Core.List.{List}
 use borrow.Author.Tests.{eq-eqb, ne-eqb, eqb-true, le-leb, lt-leb, lt-ltb, le-ltb, ltb-true}
 use lib.Dec.{leb, ltb, eqb}
-use lib.ListN.{getD}
 use Rattle.slots.specs.declared.Owner.{Owner}
 use Rattle.slots.specs.declared.Owner.the-variants.{Site, Chemical, Receptor}
-use Rattle.deck.specs.declared.kinds.Kind.{Kind}
-use Rattle.deck.specs.declared.kinds.Kind.the-variants.{Start, Line, End, Other}
-use Rattle.deck.specs.Kinds.{letter, ownerLines, firstDigit, lineDigit, numbered, spellsEnd, kindIn, kindOf, isLine, isStart, isEnd, mayBegin, mayFollow}
+use Rattle.kinds.specs.declared.Kind.{Kind}
+use Rattle.kinds.specs.declared.Kind.the-variants.{Start, Line, End, Other}
+use Rattle.kinds.specs.Kinds.{letter, ownerLines, firstDigit, lineDigit, numbered, spellsEnd, kindIn, isLine, isStart, isEnd, mayBegin, mayFollow}
 use Rattle.lists.proofs.Booleans.{both}
 
 -- ---- the bytes of a kind
@@ -123,11 +121,9 @@ within-numbered o digit =
     within-cond (leb firstDigit digit && ltb (digit - firstDigit) (ownerLines o)) (Line o (digit - firstDigit)) Other
     (λ t. ltb-true (digit - firstDigit) (ownerLines o) (both (leb firstDigit digit) _ t .1)) tt
 
-pub kind-within : (line : List ℕ) → Within (kindOf line)
-unfolding kindOf kindIn
-kind-within line =
-    let a = getD line 0 0 in
-    let b = getD line 1 0 in
+pub kind-within : (a b : ℕ) → Within (kindIn a b)
+unfolding kindIn
+kind-within a b =
     within-cond (eqb a (letter Site)) _ _ (λ t. within-numbered Site b)
     (within-cond (eqb a (letter Chemical)) _ _ (λ t. within-numbered Chemical b)
     (within-cond (eqb a (letter Receptor)) _ _ (λ t. within-numbered Receptor b) (within-cond (spellsEnd a b) End Other (λ t. tt) tt)))

@@ -1,10 +1,10 @@
--- `deck::kinds::may_begin` meets its contract: by the owner.
+-- `kinds::may_begin` meets its contract: by the owner.
 -- Assumes nothing.
 use borrow.Author.Needs.{needs}
 use mathlib.Core.Path.{sym, _∙_}
-use Rattle.deck.specs.Kinds.{mayBegin}
-use Rattle.deck.proofs.kinds.may_begin.Statement.{statement}
-use Rattle.deck.proofs.kinds.may_begin.Tie as tie
+use Rattle.kinds.specs.Kinds.{mayBegin}
+use Rattle.kinds.proofs.may_begin.Statement.{statement}
+use Rattle.kinds.proofs.may_begin.Tie as tie
 
 enum-told : tie.Need-enum-told
 enum-told c = search needs

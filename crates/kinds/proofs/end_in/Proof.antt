@@ -1,8 +1,8 @@
--- `deck::kinds::end_in` meets its contract: both bytes, or not.
+-- `kinds::end_in` meets its contract: both bytes, or not.
 -- Assumes nothing.
 use borrow.Author.Tests.{eq-eqb, ne-eqb}
-use Rattle.deck.proofs.kinds.end_in.Statement.{statement}
-use Rattle.deck.proofs.kinds.end_in.Tie as tie
+use Rattle.kinds.proofs.end_in.Statement.{statement}
+use Rattle.kinds.proofs.end_in.Tie as tie
 
 returns : tie.Need-returns
 returns c = simp (ne-eqb _ _ (c .if1 .taken))

@@ -1,13 +1,13 @@
--- `deck::kinds::is_last` meets its contract: an owner has a line at least.
+-- `kinds::is_last` meets its contract: an owner has a line at least.
 -- Assumes nothing.
 use borrow.Author.Needs.{needs}
 use Prim.Native.Nat.{ℕ, _-_}
 use native.Mathlib.Omega.{arith}
 use mathlib.Core.Path.{ap, _∙_}
-use Rattle.deck.specs.Kinds.{isLine, isLast}
-use Rattle.deck.proofs.KindLaws.{some-lines}
-use Rattle.deck.proofs.kinds.is_last.Statement.{statement}
-use Rattle.deck.proofs.kinds.is_last.Tie as tie
+use Rattle.kinds.specs.Kinds.{isLine, isLast}
+use Rattle.kinds.proofs.KindLaws.{some-lines}
+use Rattle.kinds.proofs.is_last.Statement.{statement}
+use Rattle.kinds.proofs.is_last.Tie as tie
 
 owner-lines-requires : tie.Need-owner-lines-requires
 owner-lines-requires c κs = search needs

@@ -1,9 +1,9 @@
--- `deck::kinds::kind_of` meets its contract: columns 1-2.
+-- `deck::lines::kind_of` meets its contract: columns 1-2.
 -- Assumes nothing.
 use borrow.Author.Needs.{needs}
-use Rattle.deck.specs.Kinds.{kindOf}
-use Rattle.deck.proofs.kinds.kind_of.Statement.{statement}
-use Rattle.deck.proofs.kinds.kind_of.Tie as tie
+use Rattle.deck.specs.Parts.{kindOf}
+use Rattle.deck.proofs.lines.kind_of.Statement.{statement}
+use Rattle.deck.proofs.lines.kind_of.Tie as tie
 
 shared-slice-read-kind-in : tie.Need-shared-slice-read-kind-in
 shared-slice-read-kind-in c = search needs

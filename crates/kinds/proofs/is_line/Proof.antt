@@ -1,11 +1,11 @@
--- `deck::kinds::is_line` meets its contract: the owner's letter, then the number.
+-- `kinds::is_line` meets its contract: the owner's letter, then the number.
 -- Assumes nothing.
 use borrow.Author.Needs.{needs}
 use mathlib.Core.Path.{refl, sym, _∙_}
-use Rattle.deck.specs.Kinds.{isLine}
-use Rattle.deck.proofs.KindLaws.{other-letter, same-letter}
-use Rattle.deck.proofs.kinds.is_line.Statement.{statement}
-use Rattle.deck.proofs.kinds.is_line.Tie as tie
+use Rattle.kinds.specs.Kinds.{isLine}
+use Rattle.kinds.proofs.KindLaws.{other-letter, same-letter}
+use Rattle.kinds.proofs.is_line.Statement.{statement}
+use Rattle.kinds.proofs.is_line.Tie as tie
 
 enum-told : tie.Need-enum-told
 enum-told c = search needs

@@ -1,15 +1,13 @@
-// The kinds of lines: which line of whose record two bytes spell, and which kind may follow which.
+//! The kinds of a deck's lines (document 01, "Deck"): which line of whose record two bytes spell, and which kind may follow which.
 ghost use mathlib.Core.Path.{_≡_};
 ghost use mathlib.Core.Bool.{cond};
-ghost use lib.ListN.{length};
-ghost use Rattle.deck.specs.Parts.{deckLineWidth};
-ghost use Rattle.deck.specs.Kinds.{letter, ownerLines, numbered, spellsEnd, kindIn, kindOf, isLine, isLast, isStart, isEnd, begins, letterOf, mayBegin, mayFollow};
+ghost use Rattle.kinds.specs.Kinds.{letter, ownerLines, numbered, spellsEnd, kindIn, isLine, isLast, isStart, isEnd, begins, letterOf, mayBegin, mayFollow};
 use sizes::RECORD_LINES;
 use sizes::SITE_LINES;
 use slots::Owner;
 
 // A line of an owner's record, counted from 0; EN; or no kind. Start stands before line 1.
-pub(crate) enum Kind {
+pub enum Kind {
     Start,
     Line { owner: Owner, line: usize },
     End,
@@ -20,7 +18,7 @@ pub(crate) enum Kind {
 const FIRST_DIGIT: u8 = b'1';
 
 // The letter of an owner's lines.
-fn letter(owner: Owner) -> u8
+pub fn letter(owner: Owner) -> u8
     ensures { λ r. ⌜ r ≡ letter owner ⌝ }
 {
     match owner {
@@ -31,7 +29,7 @@ fn letter(owner: Owner) -> u8
 }
 
 // How many lines an owner's record has.
-fn owner_lines(owner: Owner) -> usize
+pub fn owner_lines(owner: Owner) -> usize
     ensures { λ r. ⌜ r ≡ ownerLines owner ⌝ }
 {
     match owner {
@@ -75,7 +73,7 @@ fn end_in(first: u8, second: u8) -> Kind
 }
 
 // The kind that two bytes spell.
-fn kind_in(first: u8, second: u8) -> Kind
+pub fn kind_in(first: u8, second: u8) -> Kind
     ensures { λ r. ⌜ r ≡ kindIn first second ⌝ }
 {
     if first == letter(Owner::Site) {
@@ -90,16 +88,8 @@ fn kind_in(first: u8, second: u8) -> Kind
     end_in(first, second)
 }
 
-// Columns 1-2.
-pub(crate) fn kind_of(line: &[u8]) -> Kind
-    requires { ⌜ length (now line) ≡ deckLineWidth ⌝ }
-    ensures { λ r. ⌜ r ≡ kindOf (now (line .entry)) ⌝ }
-{
-    kind_in(line[0], line[1])
-}
-
 // Line n of an owner's record.
-pub(crate) fn is_line(owner: Owner, n: usize, kind: Kind) -> bool
+pub fn is_line(owner: Owner, n: usize, kind: Kind) -> bool
     ensures { λ r. ⌜ r ≡ isLine owner n kind ⌝ }
 {
     match kind {
@@ -132,7 +122,7 @@ fn is_start(kind: Kind) -> bool
     }
 }
 
-pub(crate) fn is_end(kind: Kind) -> bool
+pub fn is_end(kind: Kind) -> bool
     ensures { λ r. ⌜ r ≡ isEnd kind ⌝ }
 {
     match kind {
@@ -144,7 +134,7 @@ pub(crate) fn is_end(kind: Kind) -> bool
 }
 
 // The first line of a record.
-pub(crate) fn begins_record(kind: Kind) -> bool
+pub fn begins_record(kind: Kind) -> bool
     ensures { λ r. ⌜ r ≡ begins kind ⌝ }
 {
     match kind {
@@ -156,7 +146,7 @@ pub(crate) fn begins_record(kind: Kind) -> bool
 }
 
 // The letter of a record's line; 0 where it is none.
-pub(crate) fn letter_of(kind: Kind) -> u8
+pub fn letter_of(kind: Kind) -> u8
     ensures { λ r. ⌜ r ≡ letterOf kind ⌝ }
 {
     match kind {
@@ -189,7 +179,7 @@ fn may_begin(before: Kind, owner: Owner) -> bool
 }
 
 // The kind may stand after the kind before.
-pub(crate) fn may_follow(before: Kind, kind: Kind) -> bool
+pub fn may_follow(before: Kind, kind: Kind) -> bool
     ensures { λ r. ⌜ r ≡ mayFollow before kind ⌝ }
 {
     match kind {

@@ -1,9 +1,9 @@
--- `deck::kinds::begins_record` meets its contract: by the kind.
+-- `kinds::begins_record` meets its contract: by the kind.
 -- Assumes nothing.
 use borrow.Author.Needs.{needs}
 use mathlib.Core.Path.{refl}
-use Rattle.deck.proofs.kinds.begins_record.Statement.{statement}
-use Rattle.deck.proofs.kinds.begins_record.Tie as tie
+use Rattle.kinds.proofs.begins_record.Statement.{statement}
+use Rattle.kinds.proofs.begins_record.Tie as tie
 
 enum-told : tie.Need-enum-told
 enum-told c = search needs

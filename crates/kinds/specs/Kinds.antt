@@ -5,15 +5,15 @@ use Prim.Native.Nat.{ℕ, zero, suc, _+_, _-_}
 use mathlib.Core.Bool.{Bool, true, false, cond, _&&_, _||_}
 use mathlib.Core.List.{List}
 use lib.Dec.{eqb, leb, ltb}
-use lib.ListN.{getD, replicate}
+use lib.ListN.{replicate}
 use Rattle.sizes.specs.Sizes.{siteLines, recordLines, fieldsPerLine}
 use Rattle.slots.specs.Slots.{unused, lineRules}
 use Rattle.slots.specs.declared.Owner.{Owner}
 use Rattle.slots.specs.declared.Owner.the-variants.{Site, Chemical, Receptor}
 use Rattle.slots.specs.declared.Rule.{Rule}
 use Rattle.slots.specs.declared.Sort.{Sort}
-use Rattle.deck.specs.declared.kinds.Kind.{Kind}
-use Rattle.deck.specs.declared.kinds.Kind.the-variants.{Start, Line, End, Other}
+use Rattle.kinds.specs.declared.Kind.{Kind}
+use Rattle.kinds.specs.declared.Kind.the-variants.{Start, Line, End, Other}
 
 -- ---- how a kind is spelled: S1, S2, C1 .., R1 .., EN
 -- the letter of an owner's lines
@@ -49,10 +49,6 @@ kindIn a b =
     (cond (eqb a (letter Chemical)) (numbered Chemical b)
     (cond (eqb a (letter Receptor)) (numbered Receptor b)
     (cond (spellsEnd a b) End Other)))
-
--- columns 1-2
-unfoldable pub kindOf : List ℕ → Kind
-kindOf line = kindIn (getD line 0 0) (getD line 1 0)
 
 -- ---- what a kind is
 -- line n of an owner's record

@@ -1,0 +1,2 @@
+-- The crate's laws, which the crates above may count on. Assumes nothing.
+pub mod KindLaws

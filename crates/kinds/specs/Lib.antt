@@ -1,0 +1,2 @@
+-- What the crate `kinds` promises.
+pub mod Kinds
