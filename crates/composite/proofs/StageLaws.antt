@@ -14,7 +14,7 @@ use Rattle.times.specs.declared.Years.{Years}
 use Rattle.times.specs.Times.{together, asPair}
 use Rattle.slots.specs.Slots.{table, same, isIn, placeIn, ownerOf, placeOf}
 use Rattle.equations.specs.Formula.{pairs}
-use Rattle.equations.proofs.ValueLaws.{read-any}
+use Rattle.lists.proofs.ListLaws.{read-any}
 use Rattle.equations.specs.declared.Values.{Values}
 use Rattle.cases.specs.declared.Case.{Case}
 use Rattle.cases.specs.declared.Record.{Record}

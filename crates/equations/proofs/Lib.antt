@@ -18,6 +18,5 @@ mod FastLaws
 mod GrowthLaws
 pub mod LineLaws
 pub mod Rising
-pub mod ValueLaws
 pub mod PageRefusals
 pub mod SeriesFigures

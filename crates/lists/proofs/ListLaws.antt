@@ -54,3 +54,9 @@ pub blank-at : {A : Type 0} (l : List A) (k : ℕ) (d : A) → getD (set l k d) 
 blank-at [] k d = refl
 blank-at (x ∷ l) zero d = refl
 blank-at (x ∷ l) (suc k) d = blank-at l k d
+
+-- an element that a list has is read alike whatever stands for a missing one
+pub read-any : {A : Type 0} (xs : List A) (k : ℕ) → k < length xs → (d e : A) → getD xs k d ≡ getD xs k e
+read-any [] k h d e = absurd (not-suc-le-zero h)
+read-any (x ∷ xs) zero h d e = refl
+read-any (x ∷ xs) (suc k) h d e = read-any xs k (le-of-suc-le-suc h) d e

@@ -6,7 +6,7 @@ use native.Mathlib.Nat.{mul-suc, mul-le-mul-left}
 use native.Mathlib.Numerals.{add-one}
 use native.Mathlib.Omega.{arith}
 use lib.ListN.{length, getD, take, drop, length-append}
-use Rattle.equations.proofs.ValueLaws.{read-any}
+use Rattle.lists.proofs.ListLaws.{read-any}
 use Rattle.cases.specs.declared.Chemicals.{Chemicals}
 use Rattle.cases.specs.declared.Record.{Record}
 use Rattle.cases.specs.Cases.{noRecord}

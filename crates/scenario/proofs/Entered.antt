@@ -17,7 +17,7 @@ use Rattle.slots.specs.declared.Owner.the-variants.{Receptor}
 use Rattle.equations.specs.Readings.{valueIn, byOwner, inputs}
 use Rattle.equations.proofs.Profile.{Good}
 use Rattle.equations.proofs.LineLaws.{ofSlot, ofLater, printed-good}
-use Rattle.equations.proofs.ValueLaws.{read-any}
+use Rattle.lists.proofs.ListLaws.{read-any}
 use Rattle.cases.specs.declared.Case.{Case}
 use Rattle.cases.specs.declared.Record.{Record}
 use Rattle.cases.specs.declared.Value.the-variants.{Given}

@@ -9,7 +9,7 @@ use lib.ListN.{length, getD, replicate}
 use Rattle.pair.specs.declared.Pair.{Pair}
 use Rattle.pair.specs.Calls.{Outcome, is, refused}
 use Rattle.equations.specs.declared.Values.{Values}
-use Rattle.equations.proofs.ValueLaws.{read-any}
+use Rattle.lists.proofs.ListLaws.{read-any}
 use Rattle.media.specs.declared.Media.{Media}
 use Rattle.media.specs.declared.Ground.{Ground}
 use Rattle.media.specs.declared.Found.{Found}

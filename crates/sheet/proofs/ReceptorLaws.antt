@@ -11,7 +11,7 @@ use Rattle.sizes.specs.Sizes.{pathwaysPerChemical}
 use Rattle.equations.specs.declared.Effect.{Effect}
 use Rattle.equations.specs.declared.Pathway.{Pathway}
 use Rattle.equations.specs.declared.Values.{Values}
-use Rattle.equations.proofs.ValueLaws.{read-any}
+use Rattle.lists.proofs.ListLaws.{read-any}
 use Rattle.media.specs.declared.Media.{Media}
 use Rattle.media.specs.Media.{noMedia}
 use Rattle.pathway.specs.Lines.{Figured, Shared, habitsOf, figuresWith}

@@ -6,7 +6,7 @@ use lib.ListN.{length, List·getD-eq-default, length-map}
 use Rattle.pair.specs.Number.{one}
 use Rattle.pair.specs.Calls.{onePair}
 use Rattle.equations.specs.Readings.{valueIn}
-use Rattle.equations.proofs.ValueLaws.{read-any}
+use Rattle.lists.proofs.ListLaws.{read-any}
 use Rattle.equations.proofs.Values.value.Statement.{statement}
 use Rattle.equations.proofs.Values.value.Tie as tie
 
