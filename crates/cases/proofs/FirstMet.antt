@@ -28,7 +28,7 @@ first-append (c ∷ cs) ys =
     ap (λ (t : Status). cond (c .holds) (Stopped (c .number) (c .line) (c .field)) t) (first-append cs ys)
     ∙ orElse-cond (c .holds) (Stopped (c .number) (c .line) (c .field)) (first cs) (first ys) refl
 
--- ---- where nothing holds
+-- ---- where a list stops, and where none holds
 pub never : (s : Status) (number line field : ℕ) → s ≡ Stopped number line field → s ≡ Passed → ⊥
 never s number line field p q = let z : _≡_ {A = ℕ} 0 1 = cc in omega arith
 
@@ -40,7 +40,6 @@ pub first-read : (c : Condition) (cs : List Condition) → first (c ∷ cs) ≡ 
 unfolding first
 first-read c cs e = first-cond (c .holds) (c .number) (c .line) (c .field) (first cs) e
 
--- ---- where none holds
 orElse-read : (s t : Status) → orElse s t ≡ Passed → (s ≡ Passed) × (t ≡ Passed)
 unfolding orElse
 orElse-read Passed t e = (refl, e)

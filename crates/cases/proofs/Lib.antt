@@ -1,3 +1,4 @@
+-- The crate's laws, which the crates above may count on. Assumes nothing.
 pub mod FirstMet
 pub mod FitsLaws
 pub mod RangeLaws

@@ -39,7 +39,7 @@ noCase =
       receptors = record { count = 0; records = replicate mostStages noRecord };
     }
 
--- ---- what is printed, by name
+-- ---- its values, by name
 -- slot k of a record, from 0
 unfoldable pub valueAt : Record → ℕ → Value
 valueAt r k = getD (r .slots) k noSlot .value
@@ -70,7 +70,7 @@ unfoldable pub isOtherYear : Value → Bool
 isOtherYear Absent = false
 isOtherYear (Given power digits) = not (isYear digits power)
 
--- the case with no value in its slot
+-- a site's record and a case with no value in the year's slot
 unfoldable pub clearYear : Record → Record
 clearYear r = record { id = r .id; slots = set (r .slots) (placeOf "year") noSlot }
 

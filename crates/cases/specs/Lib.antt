@@ -1,3 +1,4 @@
+-- What the crate `cases` promises.
 pub mod Cases
 pub mod Conditions
 pub mod Ranged

@@ -1,5 +1,5 @@
 -- The crate's laws: every formula's pair reading is answered, holds the exact reading and is narrow. `LineLaws` is what the crates above
--- may count on, with `Profile`, by which inputs are judged, `Guided`, `Pathways`, `AheadLaws`, `Limits`, `Plain`, `Rising`, `Refusals` and `Tail`'s `term-is`. Assumes nothing.
+-- may count on, with `Profile`, by which inputs are judged, `Guided`, `Pathways`, `AheadLaws`, `Limits`, `Plain`, `Rising`, `PageRefusals` and `Tail`'s `term-is`. Assumes nothing.
 pub mod Nearness
 pub mod Profile
 mod FormulaLaws

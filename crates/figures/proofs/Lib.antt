@@ -1,2 +1,2 @@
--- The checked figures hold, jointly (`Figures`). Assumes nothing.
+-- The checked figures hold, jointly (`CheckedFigures`). Assumes nothing.
 pub mod CheckedFigures

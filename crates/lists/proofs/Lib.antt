@@ -1,3 +1,4 @@
+-- Laws of lists and of truth values. Assumes nothing.
 pub mod AnyOf
 pub mod Booleans
 pub mod Chained

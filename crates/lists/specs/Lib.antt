@@ -1,1 +1,2 @@
+-- Lists that the laws of this crate are of.
 pub mod Lists

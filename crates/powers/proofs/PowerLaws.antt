@@ -13,6 +13,5 @@ pub ten-to-most : (n : ℕ) → 19 ≤ n → tenTo n ≡ 10 ^ 19
 unfolding tenTo
 ten-to-most n h = ap (λ (i : ℕ). 10 ^ i) (min-eq-right h)
 
--- ---- digits before and after the point
 pub tens : (n k : ℕ) → n ≤ k → 10 ^ n ≤ 10 ^ k
 tens n k h = pow-le-pow-right (lit≤ tt) h

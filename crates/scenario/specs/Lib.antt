@@ -1,1 +1,2 @@
+-- What the crate `scenario` promises.
 pub mod Scenario

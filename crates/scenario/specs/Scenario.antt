@@ -51,7 +51,7 @@ valuesOf r = record { list = map (λ (s : Filled). pairOf (s .value)) (r .slots)
 unfoldable pub particlesOf : Record → Pair
 particlesOf r = restOf (valueAt r (placeOf "Fv"))
 
--- ---- a scenario: a site and chemicals as printed, and receptors made of pairs. Whether a receptor's values were printed or made of life stages,
+-- ---- a scenario: a site and chemicals as given, and receptors made of pairs. Whether a receptor's values were printed or made of life stages,
 -- nothing after this asks.
 pub record Scenario : Type 0 where
   pub site : Record

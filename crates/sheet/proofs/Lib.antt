@@ -1,5 +1,5 @@
--- The crate's laws: what is worked against what is defined, what cells hold, that 41 is not told (`WithoutLaws`), demand 3 of a case
--- (`DemandThree`), and that 2005 as the year is the same as none (`YearLaws`). Assumes nothing.
+-- The crate's laws: what is worked against what is defined, what cells hold, that 41 is not told (`SheetWithout`), demand 3 of a case
+-- (`SheetDemandThree`), and that 2005 as the year is the same as none (`YearLaws`). Assumes nothing.
 mod Clear
 mod SourceLaws
 mod ChemicalLaws

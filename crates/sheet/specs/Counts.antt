@@ -57,6 +57,8 @@ noMediaAt scenario i = at 53 (suc i) 0 (stopsAt (groundFor scenario i) (meanFor 
 unfoldable pub sheetConditions : Scenario → List Condition
 sheetConditions scenario = at 21 0 0 (tooMany scenario) ∷ at 33 0 0 (noGuidance scenario) ∷ chained (noMediaAt scenario) (scenario .chemicals .count) ++ largeLines scenario
 
+-- ---- cells: a receptor has six columns of as many cells as it may have lines, hazard's and cancer's: 1 for each line that has counts, the low and
+-- the high counts; all three are 0 for -, and where there is no line
 abbrev pub effectCells : ℕ
 effectCells = 3 * mostLines
 

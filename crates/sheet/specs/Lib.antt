@@ -1,4 +1,4 @@
--- What the crate `sheet` promises: the values of a scenario, its lines' counts and totals, its calls, and demand 3 of a case.
+-- What the crate `sheet` promises: a scenario's lines' counts and totals, its calls, and demand 3 of a case.
 pub mod Sheet
 pub mod Counts
 pub mod DemandThree

@@ -70,6 +70,7 @@ addedOver f (suc n) = addedOver f n added f n
 unfoldable pub totalAt : Effect → Scenario → ℕ → Columns
 totalAt e scenario j = addedOver (λ i. addedOver (λ p. columnsAt e scenario j i (pathwayAt p)) pathwaysPerChemical) (scenario .chemicals .count)
 
+-- ---- 42
 -- lines of one receptor, its total line included
 unfoldable pub linesPerReceptor : Scenario → ℕ
 linesPerReceptor scenario = scenario .chemicals .count * pathwaysPerChemical + 1

@@ -1,2 +1,3 @@
+-- What the crate `spelling` promises.
 pub mod Columns
 pub mod Spelling

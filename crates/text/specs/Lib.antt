@@ -1,2 +1,2 @@
--- What the crate `text` promises. `Inner` serves the contracts of inner functions only.
+-- What the crate `text` promises.
 pub mod Text

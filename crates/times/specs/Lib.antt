@@ -1,2 +1,2 @@
--- What the crate `years` promises.
+-- What the crate `times` promises.
 pub mod Times
