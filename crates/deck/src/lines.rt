@@ -186,11 +186,19 @@ fn begun_with(owner: Owner, kind: Kind, n: usize) -> usize
 }
 
 impl Seen {
-    // With one line more.
+    // With one line more. Most lines begin no record, and are asked once.
     pub(crate) fn after(self, kind: Kind, id: u32) -> Seen
         requires { ⌜ (self .chemicals ≤ maxChemicals) × (self .receptors ≤ mostStages) ⌝ }
         ensures { λ r. ⌜ r ≡ seenWith self kind id ⌝ }
     {
+        if !begins_record(kind) {
+            return Seen {
+                kind,
+                id,
+                chemicals: self.chemicals,
+                receptors: self.receptors,
+            };
+        }
         let chemicals = begun_with(Owner::Chemical, kind, self.chemicals);
         let receptors = begun_with(Owner::Receptor, kind, self.receptors);
         Seen {

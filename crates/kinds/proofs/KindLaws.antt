@@ -4,14 +4,14 @@ use Prim.Native.Nat.{ℕ, zero, suc, _+_, _-_, _≤_, _<_}
 use native.Mathlib.Omega.{arith}
 use mathlib.Core.Path.{_≡_, refl, sym, ap, _∙_}
 use mathlib.Core.Bool.{Bool, true, false, cond, _&&_, false≢true}
-use borrow.Author.Tests.{eq-eqb, ne-eqb, eqb-true, le-leb, lt-leb, lt-ltb, le-ltb, ltb-true}
+use borrow.Author.Tests.{eq-eqb, ne-eqb, eqb-true, eqb-false, le-leb, lt-leb, lt-ltb, le-ltb, ltb-true}
 use lib.Dec.{leb, ltb, eqb}
 use Rattle.slots.specs.declared.Owner.{Owner}
 use Rattle.slots.specs.declared.Owner.the-variants.{Site, Chemical, Receptor}
 use Rattle.kinds.specs.declared.Kind.{Kind}
 use Rattle.kinds.specs.declared.Kind.the-variants.{Start, Line, End, Other}
-use Rattle.kinds.specs.Kinds.{letter, ownerLines, firstDigit, lineDigit, numbered, spellsEnd, kindIn, isLine, isStart, isEnd, mayBegin, mayFollow}
-use Rattle.lists.proofs.Booleans.{both}
+use Rattle.kinds.specs.Kinds.{letter, ownerLines, firstDigit, lineDigit, numbered, spellsEnd, kindIn, isLine, isStart, isEnd, begins, mayBegin, mayFollow}
+use Rattle.lists.proofs.Booleans.{both, and-false}
 
 -- ---- the bytes of a kind
 module _ (o : Owner) (digit : ℕ) where
@@ -127,3 +127,11 @@ kind-within a b =
     within-cond (eqb a (letter Site)) _ _ (λ t. within-numbered Site b)
     (within-cond (eqb a (letter Chemical)) _ _ (λ t. within-numbered Chemical b)
     (within-cond (eqb a (letter Receptor)) _ _ (λ t. within-numbered Receptor b) (within-cond (spellsEnd a b) End Other (λ t. tt) tt)))
+
+-- no line but a record's first is its first line
+pub not-first : (o : Owner) (k : Kind) → begins k ≡ false → isLine o 0 k ≡ false
+unfolding isLine
+not-first o (Line p m) h = rw (ne-eqb 0 m (λ e. eqb-false m 0 h (sym e))) (and-false (eqb (letter o) (letter p)))
+not-first o Start h = refl
+not-first o End h = refl
+not-first o Other h = refl
