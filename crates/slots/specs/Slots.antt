@@ -124,6 +124,7 @@ ruleIn Composite (name inComposite rule) = rule
 unfoldable pub ruleAt : Sort → Owner → ℕ → Rule
 ruleAt sort o k = getD (map (ruleIn sort) (table o)) k unused
 
+-- slots are filled line by line: the rules of the fields of a record's line n, from 0
 unfoldable pub lineRules : Sort → Owner → ℕ → List Rule
 lineRules sort o n =
     let k : ℕ = fieldsPerLine * n in
