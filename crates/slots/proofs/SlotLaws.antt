@@ -11,6 +11,7 @@ use mathlib.Core.List.{List, [], _∷_, map}
 use lib.Dec.{leb, lit≤, lit<}
 use lib.ListN.{length, getD, List·getD-eq-default}
 use borrow.Author.Tests.{leb-true}
+use Rattle.sizes.specs.Sizes.{fieldsPerLine, siteLines, slotsPerRecord}
 use Rattle.slots.specs.declared.Owner.{Owner}
 use Rattle.slots.specs.declared.Owner.the-variants.{Site, Chemical, Receptor}
 use Rattle.slots.specs.declared.Rule.{Rule}
@@ -88,9 +89,9 @@ spelled ((name inComposite rule) ∷ es) s h = spelled-by name es s (spelled es 
 
 -- a site's slot lies in its two lines, any other in its four
 unfoldable pub places : Owner → ℕ
-places Site = 12
-places Chemical = 24
-places Receptor = 24
+places Site = fieldsPerLine * siteLines
+places Chemical = slotsPerRecord
+places Receptor = slotsPerRecord
 
 inside-from : (s : Slot) (a b : Bool) → isIn (table Site) s ≡ a → isIn (table Chemical) s ≡ b →
     placeIn (table (cond a Site (cond b Chemical Receptor))) s < places (cond a Site (cond b Chemical Receptor))
