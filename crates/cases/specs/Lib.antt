@@ -1,4 +1,5 @@
 -- What the crate `cases` promises.
+pub mod CaseConditions
 pub mod Cases
 pub mod Conditions
 pub mod Ranged

@@ -1,15 +1,21 @@
 //! A case in memory (document 01, "Deck"): the values of a site, chemicals and receptors, whether they were read from a deck or made by a
 //! caller; the range of a value; and where a call on a deck or a case stops.
 mod guidance;
+mod memory;
 mod ranges;
 
 pub use guidance::guidance_of;
 pub use guidance::is_other_year;
+pub use memory::lacks;
+pub use memory::memory_status;
 pub use ranges::in_range;
 use sizes::MAX_CHEMICALS;
+use sizes::MAX_RECEPTORS;
 use sizes::MAX_STAGES;
 use sizes::SLOTS;
+use slots::Sort;
 ghost use mathlib.Core.Path.{_≡_};
+ghost use Rattle.cases.specs.Cases.{maxReceptors};
 ghost use Rattle.cases.specs.Conditions.{toldOf};
 
 // A slot's value, read from a deck or given by a caller: digits × 10 ^ power. Absent where a lone - stands, and in slots that no record has. The
@@ -38,6 +44,12 @@ pub struct Chemicals {
 pub struct Receptors {
     pub count: usize,
     pub records: [Record; MAX_STAGES],
+}
+
+// The ids of the first count receptors, however these are held.
+pub struct Ids {
+    pub count: usize,
+    pub list: [u32; MAX_STAGES],
 }
 
 pub struct Case {
@@ -74,5 +86,15 @@ pub fn tell(status: Status) -> Told
             line,
             field,
         },
+    }
+}
+
+// How many receptors a deck of each sort may have.
+pub fn max_receptors(sort: Sort) -> usize
+    ensures { λ r. ⌜ r ≡ maxReceptors sort ⌝ }
+{
+    match sort {
+        Sort::Ordinary => MAX_RECEPTORS,
+        Sort::Composite => MAX_STAGES,
     }
 }

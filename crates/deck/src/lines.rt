@@ -5,7 +5,6 @@ ghost use Prim.Native.Nat.{_≤_};
 ghost use lib.ListN.{length};
 ghost use Rattle.spelling.specs.Columns.{within};
 ghost use Rattle.deck.specs.Parts.{deckLineWidth, columns, kindOf};
-ghost use Rattle.cases.specs.Cases.{maxReceptors};
 ghost use Rattle.cases.specs.Conditions.{first};
 ghost use Rattle.deck.specs.DeckConditions.{badBytes, badKind, idOf, wrongId, badId, lineConditionsAfter, maxLines, begunWith, seenWith};
 ghost use Rattle.sizes.specs.Sizes.{fieldsPerLine, maxChemicals, mostStages};
@@ -16,6 +15,7 @@ use crate::FIELDS_START;
 use crate::KIND_WIDTH;
 use crate::fields::fields_status;
 use cases::Status;
+use cases::max_receptors;
 use kinds::Kind;
 use kinds::begins_record;
 use kinds::is_end;
@@ -24,8 +24,6 @@ use kinds::kind_in;
 use kinds::letter_of;
 use kinds::may_follow;
 use sizes::MAX_CHEMICALS;
-use sizes::MAX_RECEPTORS;
-use sizes::MAX_STAGES;
 use slots::Owner;
 use slots::Sort;
 use spelling::id_in;
@@ -93,15 +91,6 @@ fn bad_bytes(line: &[u8]) -> bool
         return true;
     }
     line[COLUMNS] != b'\n'
-}
-
-fn max_receptors(sort: Sort) -> usize
-    ensures { λ r. ⌜ r ≡ maxReceptors sort ⌝ }
-{
-    match sort {
-        Sort::Ordinary => MAX_RECEPTORS,
-        Sort::Composite => MAX_STAGES,
-    }
 }
 
 fn bad_kind(sort: Sort, seen: Seen, kind: Kind) -> bool

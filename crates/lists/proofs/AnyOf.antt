@@ -2,8 +2,9 @@
 use mathlib.Core.Path.{_≡_, refl, sym, _∙_, subst}
 use mathlib.Core.Bool.{Bool, true, false, or-true, false≢true}
 use mathlib.Core.Logic.{_⊎_, ⊎-elim}
-use Prim.Native.Nat.{ℕ, zero, suc, _≤_, _<_}
+use Prim.Native.Nat.{ℕ, zero, suc, _+_, _≤_, _<_}
 use native.Mathlib.Nat.{eq-or-lt-of-le}
+use native.Mathlib.Numerals.{add-one}
 use native.Mathlib.Omega.{arith}
 use Rattle.lists.specs.Lists.{anyOf}
 
@@ -26,3 +27,8 @@ pub none-any : (f : ℕ → Bool) (n : ℕ) → ((j : ℕ) → j < n → f j ≡
 unfolding anyOf
 none-any f zero h = refl
 none-any f (suc n) h = rw (none-any f n (λ j l. h j (omega arith)), h n (omega arith)) refl
+
+-- one more that does not hold
+pub none-more : (f : ℕ → Bool) (n : ℕ) → anyOf f n ≡ false → f n ≡ false → anyOf f (n + 1) ≡ false
+unfolding anyOf
+none-more f n h k = rw (add-one n, h, k) refl

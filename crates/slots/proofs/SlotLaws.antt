@@ -11,6 +11,7 @@ use mathlib.Core.List.{List, [], _∷_, map}
 use lib.Dec.{leb, lit≤, lit<}
 use lib.ListN.{length, getD, List·getD-eq-default}
 use borrow.Author.Tests.{leb-true}
+use Rattle.lists.proofs.ListLaws.{read-any}
 use Rattle.sizes.specs.Sizes.{fieldsPerLine, siteLines, slotsPerRecord}
 use Rattle.slots.specs.declared.Owner.{Owner}
 use Rattle.slots.specs.declared.Owner.the-variants.{Site, Chemical, Receptor}
@@ -44,6 +45,11 @@ line-rule sort o n (suc (suc (suc (suc (suc (suc r)))))) h = absurd (omega arith
 
 pub place-rule : (sort : Sort) (o : Owner) (k : ℕ) → getD (lineRules sort o (k / 6)) (k % 6) unused ≡ ruleAt sort o k
 place-rule sort o k = line-rule sort o (k / 6) (k % 6) (mod-lt k (lit< tt)) ∙ ap (ruleAt sort o) (div-add-mod k 6)
+
+-- read from the rules of its line, whatever stands for a missing one
+pub rule-read : (sort : Sort) (o : Owner) (k : ℕ) (rs : List Rule) (d : Rule) → rs ≡ lineRules sort o (k / 6) → getD rs (k % 6) d ≡ ruleAt sort o k
+unfolding lineRules
+rule-read sort o k rs d e = rw e (read-any (lineRules sort o (k / 6)) (k % 6) (mod-lt k (lit< tt)) d unused) ∙ place-rule sort o k
 
 -- a place in a list, of n more entries where the first is not meant
 most-of : (t : Bool) (p n : ℕ) → p ≤ n → cond t 0 (suc p) ≤ suc n

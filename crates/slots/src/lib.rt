@@ -2,7 +2,7 @@
 //! are held to.
 use sizes::FIELDS;
 ghost use mathlib.Core.Path.{_≡_};
-ghost use Rattle.slots.specs.Slots.{lineRules, yearOf};
+ghost use Rattle.slots.specs.Slots.{ruleAt, lineRules, yearOf};
 
 // The sort of a deck: an ordinary one, or a composite receptor's (document 02, P2).
 pub enum Sort {
@@ -289,4 +289,12 @@ pub fn rules(sort: Sort, owner: Owner, line: usize) -> [Rule; FIELDS]
         Owner::Chemical => chemical_rules(line),
         Owner::Receptor => receptor_rules(sort, line),
     }
+}
+
+// The rule of a record's place, from 0.
+pub fn rule_at(sort: Sort, owner: Owner, place: usize) -> Rule
+    ensures { λ r. ⌜ r ≡ ruleAt sort owner place ⌝ }
+{
+    let in_line = rules(sort, owner, place / FIELDS);
+    in_line[place % FIELDS]
 }
