@@ -4,3 +4,4 @@ pub mod Complete
 pub mod FirstMet
 pub mod FitsLaws
 pub mod RangeLaws
+pub mod ZeroLaws

@@ -1,8 +1,11 @@
 -- A case in memory: the site, chemicals and receptors of a deck, read or made; and its values by the names of their slots.
 -- Assumes nothing.
-use Prim.Native.Nat.{ℕ}
-use mathlib.Core.Bool.{Bool, false, cond, not}
+use Prim.Native.Nat.{ℕ, zero, suc, _-_, _/_, _%_, _^_, min}
+use mathlib.Core.Bool.{Bool, false, cond, not, _||_}
+use lib.Dec.{eqb, ltb}
+use lib.IntN.{ℤ, pos, subℕ}
 use lib.ListN.{getD, replicate, set}
+use Rattle.powers.specs.Powers.{below}
 use Rattle.slots.specs.Slots.{Slot, ownerOf, placeOf}
 use Rattle.slots.specs.declared.Owner.{Owner}
 use Rattle.slots.specs.declared.Owner.the-variants.{Site, Chemical, Receptor}
@@ -76,3 +79,21 @@ clearYear r = record { id = r .id; slots = set (r .slots) (placeOf "year") noSlo
 
 unfoldable pub caseWithoutYear : Case → Case
 caseWithoutYear case = record { site = clearYear (case .site); chemicals = case .chemicals; receptors = case .receptors }
+
+-- ---- a value counts as its number, however it is given: 5000000000000 × 10 ^ -12 is 5
+-- zeros at the end of the digits, at most so many
+unfoldable pub zerosAtEnd : ℕ → ℕ → ℕ
+zerosAtEnd zero digits = 0
+zerosAtEnd (suc n) digits = cond (eqb (digits % 10) 0) (suc (zerosAtEnd n (digits / 10))) 0
+
+-- with n zeros less behind the point
+unfoldable pub withoutZeros : ℤ → ℕ → ℕ → Value
+withoutZeros power digits n = Given (subℕ 0 (below power - n)) (digits / 10 ^ n)
+
+-- the same number without zeros at the end of what stands behind the point, of which 64 bits hold nineteen at most; a power that no number in
+-- range has is left
+unfoldable pub plain : Value → Value
+plain Absent = Absent
+plain (Given power digits) =
+    cond (eqb digits 0) (Given (pos 0) 0)
+    (cond (eqb (below power) 0 || ltb 999 (below power)) (Given power digits) (withoutZeros power digits (zerosAtEnd (min (below power) 19) digits)))

@@ -3,12 +3,14 @@
 mod guidance;
 mod memory;
 mod ranges;
+mod zeros;
 
 pub use guidance::guidance_of;
 pub use guidance::is_other_year;
 pub use memory::lacks;
 pub use memory::memory_status;
 pub use ranges::in_range;
+pub use zeros::plain;
 use sizes::MAX_CHEMICALS;
 use sizes::MAX_RECEPTORS;
 use sizes::MAX_STAGES;
