@@ -34,7 +34,7 @@ use Rattle.cases.proofs.FitsLaws.{range-positive, range-most, finest, needed}
 use Rattle.equations.specs.declared.Stay.the-variants.{Beyond}
 use Rattle.equations.proofs.Profile.{Good, good-around, good-equal}
 use Rattle.equations.proofs.LineLaws.{ofLater}
-use Rattle.scenario.specs.Scenario.{orOne, orNone, fractionOf, timeGiven, stayIf, laterIf}
+use Rattle.scenario.specs.Scenario.{orNoPair, told, ofValue, otherwise, orNoTime, fractionOf, timeGiven, stayIf, laterIf}
 
 -- a time, and the exact value that it is
 pub record Exactly (y : Years) (x : Fraction) : Type 0 where
@@ -77,7 +77,7 @@ module _ (rule : Rule) (b : rule .blank ≡ false) (d : rule .dash ≡ false) (z
       (years.wordsOf (years.printedAmount m e), printed-told m e (low-enough e (w .0)) (high-enough e (w .1)) (amount-few m e (w .0) (range-most rule m e r 1000000000 most)))
 
   pub printed-exactly : (v : Value) → Fits rule v → Told v
-  unfolding timeGiven fractionOf orNone
+  unfolding timeGiven fractionOf told ofValue otherwise orNoTime
   printed-exactly v f =
       let g = needed rule v f b d in
       let h = digits-told (g .digits) (g .power) (g .ranged) (g .spelled) in
@@ -117,8 +117,8 @@ unfolding minus
 proper-minus p q = record { above-zero = mul-pos (p .above-zero) (q .above-zero) }
 
 module _ (exposure deposition : Years) (x y : Fraction) (T2 : Exactly exposure x) (tD : Exactly deposition y) where
-  taken : (o : Outcome Pair) (p : Pair) → o ≡ is p → orOne o ≡ p
-  unfolding orOne
+  taken : (o : Outcome Pair) (p : Pair) → o ≡ is p → orNoPair o ≡ p
+  unfolding orNoPair
   taken o p e = rw e refl
 
   by-order : (t : Bool) → leb (amount exposure) (amount deposition) ≡ t → ofLater (stayIf (is t)) .answered ≡ true

@@ -22,11 +22,15 @@ use Rattle.cases.specs.declared.Case.{Case}
 use Rattle.cases.specs.declared.Record.{Record}
 use Rattle.cases.specs.declared.Value.the-variants.{Given}
 use Rattle.lists.specs.Lists.{tabulate}
-use Rattle.cases.specs.Cases.{noRecord, valueAt, receptorAt}
+use Rattle.cases.specs.Cases.{noRecord, valueAt, receptorAt, ownersRecord}
+use Rattle.cases.specs.CaseConditions.{lacks}
 use Rattle.cases.specs.Ranged.{Fits, Ranged}
+use Rattle.cases.proofs.Complete.{lacks-none}
+use Rattle.equations.specs.declared.Values.{Values}
+use mathlib.Core.Bool.{Bool, cond}
 use Rattle.scenario.specs.declared.Receptor as receptors
 use Rattle.scenario.specs.declared.Receptors as many
-use Rattle.scenario.specs.Scenario.{pairOf, noReceptor, receptorIn, pairsAt, timeGiven, depositionOf, receptorWith, entered, scenarioWith, enteredFrom, ordinaryOf, fractionOf, exactFrom, exactAt}
+use Rattle.scenario.specs.Scenario.{pairOf, valuesOf, noPairs, valuesIf, noReceptor, receptorIn, pairsAt, timeGiven, depositionOf, receptorWith, entered, scenarioWith, enteredFrom, ordinaryOf, fractionOf, exactFrom, exactAt}
 use Rattle.scenario.proofs.Sound.{Sound}
 use Rattle.lists.proofs.Tabulated.{tabulated}
 use Rattle.scenario.proofs.InputLaws.{value-good, value-entered, value-at, receptor-fits, made-sound}
@@ -45,12 +49,19 @@ module _ (case : Case) (ranged : Ranged Ordinary case) where
   unfolding enteredFrom
   entered-at j h = tabulated (λ k. entered (depositionOf (case .site)) (receptorAt case k)) noReceptor mostReceptors j (omega (arith, ranged .few-receptors))
 
+  -- no receptor lacks a value
+  own-values : (j : ℕ) → j < case .receptors .count → valuesIf (lacks Ordinary Receptor (receptorAt case j)) (receptorAt case j) ≡ valuesOf (receptorAt case j)
+  unfolding valuesIf ownersRecord
+  own-values j h = ap (λ (b : Bool). cond b noPairs (valuesOf (receptorAt case j))) (lacks-none Ordinary case ranged j 0 h (ranged .some-chemicals) Receptor)
+
   entered-good : (j : ℕ) → j < case .receptors .count → (s : Slot) → ownerOf s ≡ Receptor
       → Good (ofSlot s) (is (valueIn (getD (enteredFrom case .list) j noReceptor .values) (placeOf s))) (exactFrom case j s)
   unfolding exactFrom entered receptorWith
   entered-good j h s e =
       let at : valueIn (getD (enteredFrom case .list) j noReceptor .values) (placeOf s) ≡ pairOf (valueAt (receptorAt case j) (placeOf s)) =
-      ap (λ (r : receptors.Receptor). valueIn (r .values) (placeOf s)) (entered-at j h) ∙ value-at (receptorAt case j) (placeOf s)
+      ap (λ (r : receptors.Receptor). valueIn (r .values) (placeOf s)) (entered-at j h)
+      ∙ ap (λ (v : Values). valueIn v (placeOf s)) (own-values j h)
+      ∙ value-at (receptorAt case j) (placeOf s)
       in
       subst (λ (p : Pair). Good (ofSlot s) (is p) (fractionOf (valueAt (receptorAt case j) (placeOf s)))) (sym at)
       (printed-good s (value-good Ordinary s (valueAt (receptorAt case j) (placeOf s)) (receptor-fits Ordinary case ranged j h s e)))
@@ -60,7 +71,7 @@ module _ (case : Case) (ranged : Ranged Ordinary case) where
   unfolding pairsAt inputs ordinaryOf scenarioWith receptorIn byOwner entered receptorWith
   receptor-at j i h s e =
       rw e
-      (ap (λ (r : receptors.Receptor). valueIn (r .values) (placeOf s)) (entered-at j h) ∙ value-at (receptorAt case j) (placeOf s))
+      (ap (λ (r : receptors.Receptor). valueIn (r .values) (placeOf s)) (entered-at j h) ∙ ap (λ (v : Values). valueIn v (placeOf s)) (own-values j h) ∙ value-at (receptorAt case j) (placeOf s))
 
   -- each slot's pair is the entry of what is printed there
   pub receptor-entered : (j i : ℕ) → j < case .receptors .count → (s : Slot) (digits : ℕ) (power : ℤ) → ownerOf s ≡ Receptor

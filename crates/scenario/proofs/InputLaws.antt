@@ -9,7 +9,8 @@ use native.Mathlib.Nat.{mul-le-mul-right, le-of-mul-le-mul-right, one-le-pow, mu
 use native.Mathlib.Omega.{arith}
 use lib.Dec.{lit<, lit≤}
 use lib.IntN.{ℤ, pos, negsuc}
-use lib.ListN.{getD, List·getD-map}
+use lib.ListN.{length, getD, List·getD-map}
+use mathlib.Core.List.{[], _∷_}
 use lib.Pow.{pow-add}
 use lib.Signed.{mag}
 use borrow.Author.Tests.{leb-true, not-true}
@@ -17,7 +18,7 @@ use Rattle.sizes.specs.Sizes.{mostReceptors}
 use Rattle.pair.specs.declared.Pair.{Pair}
 use Rattle.pair.specs.Fraction.{Fraction, rest, minus}
 use Rattle.pair.specs.Number.{depth, place}
-use Rattle.pair.specs.Calls.{is, entry, oneMinusEntry, zeroPair, onePair}
+use Rattle.pair.specs.Calls.{Outcome, is, entry, oneMinusEntry, zeroPair, onePair}
 use Rattle.pair.specs.Promises.{Sized, scaled}
 use Rattle.pair.proofs.Promises.{one-entry, one-less-one, entry-answered, entry-around, scaled-proper, rest-entry-answered, rest-entry-around, rest-scaled-proper, rest-scaled-sized}
 use Rattle.slots.specs.Slots.{Slot, table, same, isIn, placeIn, ruleIn, ruleAt, ownerOf, placeOf, ruleOf, ruleFor, neverZero, atMostOne}
@@ -39,11 +40,18 @@ use Rattle.cases.specs.declared.Record.{Record}
 use Rattle.powers.specs.Powers.{above, below}
 use Rattle.cases.specs.Ranges.{inRange}
 use Rattle.cases.specs.Cases.{noSlot, valueAt, chemicalAt, receptorAt, ownersRecord, given, isOtherYear}
+use Rattle.cases.specs.CaseConditions.{lacks}
 use Rattle.cases.specs.Ranged.{Spelled, Fits, Ranged}
+use Rattle.cases.proofs.Complete.{lacks-none}
 use Rattle.cases.proofs.FitsLaws.{range-positive, range-bounds, range-most, year-right}
+use Rattle.cases.specs.declared.Ids.{Ids}
+use Rattle.lists.specs.Lists.{tabulate}
+use Rattle.lists.proofs.ListLaws.{read-any}
+use Rattle.scenario.specs.declared.Receptor as receptors
 use Rattle.scenario.specs.declared.Receptors.{Receptors}
-use Rattle.scenario.specs.Scenario.{Scenario, orOne, pairOf, restOf, valuesOf, noReceptor, chemicalIn, receptorIn, stayIn, givenIn, pairsAt, scenarioWith, fractionOf, exactWith, noGuidance}
+use Rattle.scenario.specs.Scenario.{Scenario, orNoPair, idsOf, pairOf, restOf, valuesOf, noReceptor, chemicalIn, receptorIn, stayIn, givenIn, pairsAt, scenarioWith, fractionOf, exactWith, noGuidance}
 use Rattle.scenario.proofs.Sound.{Sound}
+use Rattle.scenario.proofs.ValueLaws.{told-is}
 
 -- digits × 10^power as a field spells it, in the range of slot s
 pub record Printable (s : Slot) (digits : ℕ) (power : ℤ) : Type 0 where
@@ -115,16 +123,16 @@ module _ {s : Slot} {m : ℕ} {e : ℤ} (r : Printable s m e) where
       good-around (ofRest s) (rest (scaled m e)) p (rest-scaled-proper m e) (rest-entry-around m e p t)
       (rest-scaled-sized m e (r .twelve) (omega (arith, scaled-most 1 (r .share z)))) (lit≤ tt) refl (λ f. absurd (false≢true f))
 
-  -- both are answered, so that `orOne` does nothing
-  entry-is : entry m e ≡ is (orOne (entry m e))
-  unfolding orOne
-  entry-is = let a = entry-answered m e (r .twelve) (mag-small e (r .high) (r .low)) in rw (a .1) refl
+  -- both are answered as they are given
+  entry-is : entry m e ≡ is (pairOf (Given e m))
+  unfolding pairOf orNoPair
+  entry-is = let a = entry-answered m e (r .twelve) (mag-small e (r .high) (r .low)) in a .1 ∙ ap (λ (o : Outcome Pair). is (orNoPair o)) (sym (told-is entry e m (a .0) (a .1)))
 
-  rest-is : atMostOne s ≡ true → oneMinusEntry m e ≡ is (orOne (oneMinusEntry m e))
-  unfolding orOne scaled
+  rest-is : atMostOne s ≡ true → oneMinusEntry m e ≡ is (restOf (Given e m))
+  unfolding restOf orNoPair scaled
   rest-is z =
       let a = rest-entry-answered m e (r .twelve) (mag-small e (r .high) (r .low)) (omega (arith, scaled-most 1 (r .share z))) in
-      rw (a .1) refl
+      a .1 ∙ ap (λ (o : Outcome Pair). is (orNoPair o)) (sym (told-is oneMinusEntry e m (a .0) (a .1)))
 
 one-printable : (s : Slot) → Printable s 1 (pos 0)
 unfolding above below
@@ -166,14 +174,14 @@ unfolding pairOf fractionOf
 value-good sort s Absent f = entry-good (one-printable s) onePair one-entry
 value-good sort s (Given e m) f =
     let r : Printable s m e = printed-printable sort s m e f in
-    entry-good r (orOne (entry m e)) (entry-is r)
+    entry-good r (pairOf (Given e m)) (entry-is r)
 
 left-good : (sort : Sort) (s : Slot) (v : Value) → Fits (ruleFor sort s) v → atMostOne s ≡ true → Good (ofRest s) (is (restOf v)) (rest (fractionOf v))
 unfolding restOf fractionOf
 left-good sort s Absent f z = rest-good (one-printable s) zeroPair one-less-one z
 left-good sort s (Given e m) f z =
     let r : Printable s m e = printed-printable sort s m e f in
-    rest-good r (orOne (oneMinusEntry m e)) (rest-is r z) z
+    rest-good r (restOf (Given e m)) (rest-is r z) z
 
 -- and its pair is the entry of what is printed
 pub value-entered : (sort : Sort) (s : Slot) (m : ℕ) (e : ℤ) → Fits (ruleFor sort s) (Given e m) → entry m e ≡ is (pairOf (Given e m))
@@ -203,6 +211,14 @@ source-pair Receptor t a b c k = absurd t
 pub pair-printed : (scenario : Scenario) (j i : ℕ) (s : Slot) → OfSource (ownerOf s) → pairsAt scenario j i .value s ≡ pairOf (givenIn scenario i s)
 unfolding pairsAt inputs givenIn
 pair-printed scenario j i s t = source-pair (ownerOf s) t (scenario .site) (chemicalIn scenario i) (receptorIn scenario j .values) (placeOf s)
+
+-- the site and the chemicals lack the same in every sort of deck
+alike : (sort : Sort) (o : Owner) (r : Record) → OfSource o → lacks Ordinary o r ≡ lacks sort o r
+unfolding lacks ruleAt ruleIn table OfSource
+alike Ordinary o r t = refl
+alike Composite Site r t = refl
+alike Composite Chemical r t = refl
+alike Composite Receptor r t = absurd t
 
 -- a receptor's slot is as its rule asks
 pub receptor-fits : (sort : Sort) (case : Case) → Ranged sort case → (j : ℕ) → j < case .receptors .count → (s : Slot) → ownerOf s ≡ Receptor
@@ -258,13 +274,15 @@ module _ (sort : Sort) (case : Case) (ranged : Ranged sort case) where
         → ((j : ℕ) → j < receptors′ .count → ofLater (getD (receptors′ .list) j noReceptor .stay) .answered ≡ true
         → Good (ofLater (getD (receptors′ .list) j noReceptor .stay)) (is (getD (receptors′ .list) j noReceptor .later)) (minus (receptor j "T2") (fractionOf (valueAt (case .site) (placeOf "tD")))))
         → Sound (scenarioWith case receptors′) (exactWith case receptor)
-    unfolding scenarioWith pairsAt stayIn receptorIn exactWith noGuidance byOwner ownerOf isIn same table
+    unfolding OfSource scenarioWith pairsAt stayIn receptorIn chemicalIn chemicalAt exactWith noGuidance ownersRecord byOwner ownerOf isIn same table
     made-sound some few good later-good =
         record {
           few-chemicals = ranged .few-chemicals;
           some-receptors = some;
           few-receptors = few;
           guided = year-named;
+          whole = alike sort Site (case .site) tt ∙ lacks-none sort case ranged 0 0 (ranged .some-receptors) (ranged .some-chemicals) Site;
+          wholes = λ i l. alike sort Chemical (chemicalAt case i) tt ∙ lacks-none sort case ranged 0 i (ranged .some-receptors) l Chemical;
           inputs = λ j i h l s. input-ranged i l s j (good j h s);
           later = λ j i h l t. later-good j h t;
         }
@@ -294,3 +312,11 @@ module _ (sort : Sort) (case : Case) (ranged : Ranged sort case) where
     pub source-rested : atMostOne s ≡ true → oneMinusEntry digits power ≡ is (pairsAt (scenarioWith case receptors′) j i .rest s)
     unfolding pairsAt restOf
     source-rested z = rest-is fitting z ∙ ap (λ (v : Value). is (restOf v)) (sym there)
+
+-- the receptors' ids as they are read, whatever stands for a missing receptor
+pub ids-all : (rs : Receptors) (blank : receptors.Receptor) → length (rs .list) ≡ mostReceptors
+    → _≡_ {A = Ids} (record { count = rs .count; list = getD (rs .list) 0 blank .id ∷ getD (rs .list) 1 blank .id ∷ getD (rs .list) 2 blank .id ∷ getD (rs .list) 3 blank .id ∷ 0 ∷ 0 ∷ 0 ∷ 0 ∷ [] }) (idsOf rs)
+unfolding idsOf tabulate
+ids-all rs blank long =
+    let at : (k : ℕ) → k < mostReceptors → getD (rs .list) k blank ≡ getD (rs .list) k noReceptor = λ k h. read-any (rs .list) k (omega (arith, long)) blank noReceptor in
+    rw (at 0 (lit< tt), at 1 (lit< tt), at 2 (lit< tt), at 3 (lit< tt)) refl

@@ -3,3 +3,4 @@ pub mod DepositionLaws
 pub mod Entered
 pub mod InputLaws
 pub mod Sound
+pub mod ValueLaws

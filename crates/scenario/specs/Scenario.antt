@@ -1,16 +1,20 @@
 -- What a sheet is worked from: the values of a scenario's slots as pairs, and as exact fractions.
-use Prim.Native.Nat.{ℕ}
-use mathlib.Core.Bool.{Bool, true, false}
-use mathlib.Core.List.{map}
-use lib.IntN.{pos}
-use lib.ListN.{getD}
+use Prim.Native.Nat.{ℕ, _-_, _^_}
+use mathlib.Core.Bool.{Bool, true, false, cond, _||_}
+use mathlib.Core.List.{List, map, _++_}
+use lib.Dec.{ltb}
+use lib.IntN.{ℤ, pos}
+use lib.ListN.{getD, replicate}
 use Rattle.pair.specs.declared.Pair.{Pair}
 use Rattle.pair.specs.Fraction.{Fraction}
+use Rattle.pair.specs.Number.{asPrinted}
 use Rattle.pair.specs.Calls.{Outcome, is, refused, entry, oneMinusEntry, zeroPair, onePair}
 use Rattle.pair.specs.Promises.{scaled}
 use Rattle.times.specs.declared.Years.{Years}
 use Rattle.times.specs.Times as years
 use Rattle.slots.specs.declared.Guidance.{Guidance}
+use Rattle.slots.specs.declared.Owner.the-variants as owners
+use Rattle.slots.specs.declared.Sort.the-variants.{Ordinary}
 use Rattle.slots.specs.Slots.{Slot, ownerOf, placeOf}
 use Rattle.equations.specs.declared.Values.{Values}
 use Rattle.equations.specs.declared.Stay.{Stay}
@@ -19,28 +23,48 @@ use Rattle.equations.specs.Readings.{Inputs, byOwner, inputs}
 use Rattle.cases.specs.declared.Case.{Case}
 use Rattle.cases.specs.declared.Chemicals.{Chemicals}
 use Rattle.cases.specs.declared.Filled.{Filled}
+use Rattle.cases.specs.declared.Ids.{Ids}
 use Rattle.cases.specs.declared.Record.{Record}
 use Rattle.cases.specs.declared.Value.{Value}
 use Rattle.cases.specs.declared.Value.the-variants.{Absent, Given}
-use Rattle.cases.specs.Cases.{noRecord, valueAt, chemicalAt, receptorAt, guidanceOf, isOtherYear}
-use Rattle.lists.specs.Lists.{tabulate}
+use Rattle.cases.specs.Cases.{noRecord, valueAt, chemicalAt, receptorAt, guidanceOf, isOtherYear, plain}
+use Rattle.cases.specs.CaseConditions.{memoryConditions, lacks}
+use Rattle.cases.specs.Conditions.{Condition}
+use Rattle.lists.specs.Lists.{tabulate, anyOf}
 use Rattle.scenario.specs.declared.Receptor.{Receptor}
 use Rattle.scenario.specs.declared.Receptors.{Receptors}
-use Rattle.sizes.specs.Sizes.{mostReceptors}
+use Rattle.sizes.specs.Sizes.{maxChemicals, mostReceptors, mostStages, slotsPerRecord}
 use Rattle.scenario.specs.declared.Site.{Site}
 
--- as a pair: the entry of what is printed, which an accepted deck always has (DemandTwo.antt of `report`); a missing reference value reads as 1
-unfoldable pub orOne : Outcome Pair → Pair
-orOne (is p) = p
-orOne (refused n) = onePair
+-- what is no pair: every call refuses it, so that no figure is worked from it
+unfoldable pub noPair : Pair
+noPair = record { low = asPrinted 1 (pos 0); high = asPrinted 1 (pos 0) }
 
+unfoldable pub orNoPair : Outcome Pair → Pair
+orNoPair (is p) = p
+orNoPair (refused n) = noPair
+
+-- what a call tells of a value as it is given or, where it refuses that, of the same value without zeros at its end
+unfoldable pub ofValue : {A : Type 0} → (ℕ → ℤ → Outcome A) → Value → Outcome A
+ofValue f Absent = refused 53
+ofValue f (Given power digits) = f digits power
+
+unfoldable pub otherwise : {A : Type 0} → Outcome A → Outcome A → Outcome A
+otherwise (is x) y = is x
+otherwise (refused n) y = y
+
+unfoldable pub told : {A : Type 0} → (ℕ → ℤ → Outcome A) → Value → Outcome A
+told f v = otherwise (ofValue f v) (ofValue f (plain v))
+
+-- as a pair: the entry of what is given, which an accepted deck always has (DemandTwo.antt of `report`). No line reads a missing value: without
+-- its reference value it has -, and a record that lacks another one is refused (`lacks`); 1 stands in its place.
 unfoldable pub pairOf : Value → Pair
-pairOf (Given power digits) = orOne (entry digits power)
+pairOf (Given power digits) = orNoPair (told entry (Given power digits))
 pairOf Absent = onePair
 
 -- 1 less it, from what is printed
 unfoldable pub restOf : Value → Pair
-restOf (Given power digits) = orOne (oneMinusEntry digits power)
+restOf (Given power digits) = orNoPair (told oneMinusEntry (Given power digits))
 restOf Absent = zeroPair
 
 -- a record's, place by place
@@ -61,9 +85,12 @@ pub record Scenario : Type 0 where
 abbrev pub scenarioFrom : Record → Chemicals → Receptors → Scenario
 scenarioFrom site′ chemicals′ receptors′ = record { site = site′; chemicals = chemicals′; receptors = receptors′ }
 
--- no receptor: every value reads as 1
+-- no receptor: nothing is worked from it
+unfoldable pub noPairs : Values
+noPairs = record { list = replicate slotsPerRecord noPair }
+
 unfoldable pub noReceptor : Receptor
-noReceptor = record { id = 0; values = valuesOf noRecord; stay = Within; later = onePair }
+noReceptor = record { id = 0; values = noPairs; stay = Within; later = noPair }
 
 -- chemical i and receptor j, from 0
 unfoldable pub chemicalIn : Scenario → ℕ → Record
@@ -106,23 +133,27 @@ exactWith case receptor j i s =
     byOwner (ownerOf s) (fractionOf (valueAt (case .site) (placeOf s))) (fractionOf (valueAt (chemicalAt case i) (placeOf s))) (receptor j s)
 
 -- ---- the exposure against the deposition (document 02, P4): T2 ≤ tD is decided, and T2 − tD taken, on the printed digits
--- a printed time, exact; 0 for what no deck prints as a time
-unfoldable pub orNone : Outcome Years → Years
-orNone (is y) = y
-orNone (refused n) = years.none
+-- what is no time: every call refuses it
+unfoldable pub noTime : Years
+noTime = record { high = 10 ^ 19; low = 0 }
 
+unfoldable pub orNoTime : Outcome Years → Years
+orNoTime (is y) = y
+orNoTime (refused n) = noTime
+
+-- a given time, exact
 unfoldable pub timeGiven : Value → Years
-timeGiven (Given power digits) = orNone (years.printed digits power)
-timeGiven Absent = years.none
+timeGiven v = orNoTime (told years.printed v)
 
+-- what cannot be compared goes beyond, where T2 − tD is no pair
 unfoldable pub stayIf : Outcome Bool → Stay
 stayIf (is true) = Within
 stayIf (is false) = Beyond
-stayIf (refused n) = Within
+stayIf (refused n) = Beyond
 
 unfoldable pub laterIf : Stay → Years → Years → Pair
 laterIf Within exposure deposition = onePair
-laterIf Beyond exposure deposition = orOne (years.beyond exposure deposition)
+laterIf Beyond exposure deposition = orNoPair (years.beyond exposure deposition)
 
 -- a receptor of these values, exposed for a time that is set against the deposition's
 unfoldable pub receptorWith : ℕ → Values → Years → Years → Receptor
@@ -137,9 +168,13 @@ receptorWith id′ values′ exposure deposition =
 unfoldable pub depositionOf : Record → Years
 depositionOf site′ = timeGiven (valueAt site′ (placeOf "tD"))
 
--- ---- an ordinary deck's receptors: each slot's pair is the entry of what is printed, its exact value what is printed
+-- ---- an ordinary deck's receptors: each slot's pair is the entry of what is printed, its exact value what is printed; where a needed value is
+-- missing, nothing is worked
+unfoldable pub valuesIf : Bool → Record → Values
+valuesIf lacking r = cond lacking noPairs (valuesOf r)
+
 unfoldable pub entered : Years → Record → Receptor
-entered deposition r = receptorWith (r .id) (valuesOf r) (timeGiven (valueAt r (placeOf "T2"))) deposition
+entered deposition r = receptorWith (r .id) (valuesIf (lacks Ordinary owners.Receptor r) r) (timeGiven (valueAt r (placeOf "T2"))) deposition
 
 unfoldable pub enteredFrom : Case → Receptors
 enteredFrom case = record { count = case .receptors .count; list = tabulate mostReceptors (λ j. entered (depositionOf (case .site)) (receptorAt case j)) }
@@ -163,3 +198,31 @@ Exact = ℕ → ℕ → Slot → Fraction
 -- ---- a site as the lines take it: its year's guidance and its values
 unfoldable pub siteOf : Record → Site
 siteOf r = record { guidance = guidanceOf (valueAt r (placeOf "year")); values = valuesOf r }
+
+-- ---- a scenario in memory, whatever its values are
+-- the ids of its receptors
+unfoldable pub idsOf : Receptors → Ids
+idsOf receptors′ = record { count = receptors′ .count; list = tabulate mostReceptors (λ j. getD (receptors′ .list) j noReceptor .id) ++ replicate (mostStages - mostReceptors) 0 }
+
+-- 21, 22, then 32 and 33 by slot of the site and the chemicals; the slots of receptors are pairs
+unfoldable pub scenarioConditions : Scenario → List Condition
+scenarioConditions scenario = memoryConditions Ordinary (scenario .site) (scenario .chemicals) (idsOf (scenario .receptors))
+
+-- some value of a record has no pair, since it has more than twelve digits; of a site also where tD is no time, since it has a digit below 1E-27
+unfoldable pub isRefused : {A : Type 0} → Outcome A → Bool
+isRefused (is x) = false
+isRefused (refused n) = true
+
+unfoldable pub isUnpaired : Value → Bool
+isUnpaired Absent = false
+isUnpaired (Given power digits) = isRefused (told entry (Given power digits))
+
+unfoldable pub unpaired : Record → Bool
+unpaired r = anyOf (λ k. isUnpaired (valueAt r k)) slotsPerRecord
+
+unfoldable pub unpairedIn : Record → Chemicals → Bool
+unpairedIn site′ chemicals′ =
+    isRefused (told years.printed (valueAt site′ (placeOf "tD")))
+    || unpaired site′
+    || ltb maxChemicals (chemicals′ .count)
+    || anyOf (λ i. unpaired (getD (chemicals′ .records) i noRecord)) (chemicals′ .count)

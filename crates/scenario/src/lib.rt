@@ -1,20 +1,26 @@
 //! A scenario: what a sheet is worked from. The values of a record's slots as pairs, the length of an exposure set against the deposition
 //! (document 02, P4), and the receptors of an ordinary case.
 mod exposure;
+mod memory;
 mod ordinary;
 mod values;
 
 use equations::Stay;
 use equations::Values;
 pub use exposure::deposition_of;
+pub use exposure::or_no_time;
 pub use exposure::receptor_with;
 pub use exposure::time_given;
+pub use memory::scenario_status;
+pub use memory::unpaired_in;
 pub use ordinary::entered_from;
 use pair::Pair;
 use sizes::MAX_RECEPTORS;
 use slots::Guidance;
 pub use values::has_no_guidance;
-pub use values::or_one;
+pub use values::NO_PAIR;
+pub use values::no_values;
+pub use values::or_no_pair;
 pub use values::pair_of;
 pub use values::particles_of;
 pub use values::site_of;

@@ -4,46 +4,106 @@ use cases::Record;
 use cases::Value;
 use cases::guidance_of;
 use cases::is_other_year;
+use cases::plain;
 use equations::Values;
 use pair::Answer;
+use pair::Number;
 use pair::Pair;
 use sizes::SLOTS;
 use slots::FV;
 use slots::YEAR;
 ghost use mathlib.Core.Path.{_≡_};
 ghost use Rattle.cases.specs.Cases.{valueAt, isOtherYear};
-ghost use Rattle.pair.specs.Calls.{answer};
+ghost use Rattle.pair.specs.Calls.{answer, entry, oneMinusEntry};
 ghost use Rattle.slots.specs.Slots.{placeOf};
-ghost use Rattle.scenario.specs.Scenario.{orOne, pairOf, restOf, valuesOf, particlesOf, siteOf};
+ghost use Rattle.scenario.specs.Scenario.{orNoPair, ofValue, told, pairOf, restOf, noPairs, valuesOf, particlesOf, siteOf};
 
-// What a call answered; 1 where it refused, which no value in its range meets.
-pub fn or_one(a: Answer) -> Pair
-    ensures { λ r. ⌜ r ≡ orOne (answer a) ⌝ }
+// What is no pair: every call refuses it, so that no figure is worked from it.
+const NO_NUMBER: Number = Number {
+    significand: 1,
+    exponent: 0,
+};
+
+pub const NO_PAIR: Pair = Pair {
+    low: NO_NUMBER,
+    high: NO_NUMBER,
+};
+
+// What a call answered; no pair where it refused, which no value in its range meets.
+pub fn or_no_pair(a: Answer) -> Pair
+    ensures { λ r. ⌜ r ≡ orNoPair (answer a) ⌝ }
 {
     let Answer::Is(p) = a else {
-        return Pair::ONE;
+        return NO_PAIR;
     };
     p
 }
 
-// A printed value as a pair; a missing reference value reads as 1.
+// The entry of a value, and 1 less it, as it is given.
+fn entry_of(v: Value) -> Answer
+    ensures { λ r. ⌜ answer r ≡ ofValue entry v ⌝ }
+{
+    let Value::Given { digits, power } = v else {
+        return Answer::Refused;
+    };
+    Pair::entry(digits, power)
+}
+
+fn one_minus(v: Value) -> Answer
+    ensures { λ r. ⌜ answer r ≡ ofValue oneMinusEntry v ⌝ }
+{
+    let Value::Given { digits, power } = v else {
+        return Answer::Refused;
+    };
+    Pair::one_minus_entry(digits, power)
+}
+
+// The entry of a value, however it is given.
+pub(crate) fn entered(v: Value) -> Answer
+    ensures { λ r. ⌜ answer r ≡ told entry v ⌝ }
+{
+    let Answer::Is(p) = entry_of(v) else {
+        return entry_of(plain(v));
+    };
+    Answer::Is(p)
+}
+
+// 1 less a value, however it is given.
+fn rested(v: Value) -> Answer
+    ensures { λ r. ⌜ answer r ≡ told oneMinusEntry v ⌝ }
+{
+    let Answer::Is(p) = one_minus(v) else {
+        return one_minus(plain(v));
+    };
+    Answer::Is(p)
+}
+
+// A given value as a pair. A missing one is read by no line; 1 stands in its place.
 pub fn pair_of(v: Value) -> Pair
     ensures { λ r. ⌜ r ≡ pairOf v ⌝ }
 {
-    let Value::Given { digits, power } = v else {
+    let Value::Given {
+        digits: _,
+        power: _,
+    } = v
+    else {
         return Pair::ONE;
     };
-    or_one(Pair::entry(digits, power))
+    or_no_pair(entered(v))
 }
 
-// 1 less a printed value, from its digits.
+// 1 less a given value, from its digits.
 fn rest_of(v: Value) -> Pair
     ensures { λ r. ⌜ r ≡ restOf v ⌝ }
 {
-    let Value::Given { digits, power } = v else {
+    let Value::Given {
+        digits: _,
+        power: _,
+    } = v
+    else {
         return Pair::ZERO;
     };
-    or_one(Pair::one_minus_entry(digits, power))
+    or_no_pair(rested(v))
 }
 
 // 1 − Fv.
@@ -53,6 +113,15 @@ pub fn particles_of(chemical: Record) -> Pair
     let slot = chemical.slots[FV];
     let v = slot.value;
     rest_of(v)
+}
+
+// No value.
+pub fn no_values() -> Values
+    ensures { λ v. ⌜ v ≡ noPairs ⌝ }
+{
+    Values {
+        list: [NO_PAIR; SLOTS],
+    }
 }
 
 // A record's values, place by place.

@@ -10,8 +10,11 @@ use Rattle.scenario.proofs.ordinary.enter.Tie as tie
 element-copy-out-slot : tie.Need-element-copy-out-slot
 element-copy-out-slot c = search needs
 
-values-of-requires : tie.Need-values-of-requires
-values-of-requires c κs = search needs
+lacks-requires : tie.Need-lacks-requires
+lacks-requires c κs = search needs
+
+values-if-requires : tie.Need-values-if-requires
+values-if-requires c κs = search needs
 
 time-given-requires : tie.Need-time-given-requires
 time-given-requires c κs = search needs
@@ -21,7 +24,7 @@ receptor-with-requires c κs = search needs
 
 returns : tie.Need-returns
 unfolding entered valueAt placeOf ownerOf placeIn isIn same table
-returns c = rw (c .receptor-with .ensures, c .before .time-given .ensures, c .before .before .values-of .ensures) refl
+returns c = rw (c .receptor-with .ensures, c .before .time-given .ensures, c .before .before .values-if .ensures, c .before .before .before .lacks .ensures) refl
 
 pub enter-spec : {M : Type 1} → statement M
-enter-spec = tie.close (tie.spec element-copy-out-slot values-of-requires time-given-requires receptor-with-requires returns)
+enter-spec = tie.close (tie.spec element-copy-out-slot lacks-requires values-if-requires time-given-requires receptor-with-requires returns)

@@ -1,0 +1,35 @@
+-- What a call tells of a value however it is given. Assumes nothing.
+use mathlib.Core.Path.{_≡_, refl, sym, _∙_, ap}
+use mathlib.Core.Bool.{true, false}
+use Prim.Native.Nat.{ℕ}
+use lib.IntN.{ℤ}
+use Rattle.pair.specs.declared.Pair.{Pair}
+use Rattle.pair.specs.Calls.{Outcome, is, refused, entry}
+use Rattle.cases.specs.declared.Value.{Value}
+use Rattle.cases.specs.declared.Value.the-variants.{Absent, Given}
+use Rattle.cases.specs.Cases.{plain}
+use Rattle.scenario.specs.Scenario.{ofValue, otherwise, told, orNoPair, pairOf, isRefused, isUnpaired}
+
+module _ {A : Type 0} (f : ℕ → ℤ → Outcome A) (v : Value) (o : Outcome A) (first : o ≡ ofValue f v) where
+  pub told-given : (x : A) → o ≡ is x → o ≡ told f v
+  unfolding told otherwise
+  told-given x e = e ∙ ap (λ (y : Outcome A). otherwise y (ofValue f (plain v))) (sym e ∙ first)
+
+  pub told-plain : (n : ℕ) → o ≡ refused n → (w : Value) → w ≡ plain v → (p : Outcome A) → p ≡ ofValue f w → p ≡ told f v
+  unfolding told otherwise
+  told-plain n e w same p h =
+      h ∙ ap (ofValue f) same ∙ ap (λ (y : Outcome A). otherwise y (ofValue f (plain v))) (sym e ∙ first)
+
+-- told of what is given, where the call tells it
+pub told-is : {A : Type 0} (f : ℕ → ℤ → Outcome A) (power : ℤ) (digits : ℕ) (x : A) → f digits power ≡ is x → told f (Given power digits) ≡ is x
+unfolding told otherwise ofValue
+told-is f power digits x e = rw e refl
+
+-- whether it is refused
+pub refused-is : {A : Type 0} (o : Outcome A) (n : ℕ) → o ≡ refused n → true ≡ isRefused o
+unfolding isRefused
+refused-is o n e = rw e refl
+
+pub told-not : {A : Type 0} (o : Outcome A) (x : A) → o ≡ is x → false ≡ isRefused o
+unfolding isRefused
+told-not o x e = rw e refl
