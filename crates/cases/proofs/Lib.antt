@@ -1,4 +1,5 @@
 -- The crate's laws, which the crates above may count on. Assumes nothing.
 pub mod FirstMet
 pub mod FitsLaws
+pub mod GuidanceLaws
 pub mod RangeLaws
