@@ -3,5 +3,6 @@ pub mod CaseConditionLaws
 pub mod Complete
 pub mod FirstMet
 pub mod FitsLaws
+pub mod GuidanceLaws
 pub mod RangeLaws
 pub mod ZeroLaws

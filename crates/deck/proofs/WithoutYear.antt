@@ -1,13 +1,13 @@
 -- A deck with its year blanked out (document 02, P6): its case is the deck's with slot 12 cleared, and where the year was blank or 2005 the
--- same condition stops it, or none does; and its guidance is that of 2005.
+-- same condition stops it, or none does; and its guidance is that of 2005, as that of a deck of 2009 is that of 2009.
 -- Assumes nothing.
 use Prim.Native.Nat.{ℕ, zero, suc, _+_, _*_, _-_, _/_, _%_, _^_, _≤_, _<_}
-use native.Mathlib.Nat.{one-le-pow, mul-le-mul-left, pow-le-pow-right, eq-or-lt-of-le, le-of-suc-le-suc}
+use native.Mathlib.Nat.{one-le-pow, mul-le-mul-left, mul-le-mul-right, pow-le-pow-right, eq-or-lt-of-le, le-of-suc-le-suc}
 use native.Mathlib.Numerals.{add-one}
 use native.Mathlib.Omega.{arith}
 use mathlib.Core.Path.{_≡_, refl, sym, ap, _∙_, subst}
 use mathlib.Core.Logic.{⊎-elim}
-use mathlib.Core.Bool.{Bool, true, false, cond, not, _&&_, _||_, false≢true}
+use mathlib.Core.Bool.{Bool, true, false, cond, not, _&&_, _||_, or-true, false≢true}
 use mathlib.Core.List.{List, [], _∷_, _++_}
 use borrow.Author.Tests.{ne-eqb, eqb-true, eqb-false, ltb-true, ltb-false, le-leb}
 use lib.Dec.{leb, ltb, eqb, lit≤, lit<}
@@ -15,6 +15,7 @@ use lib.IntN.{ℤ}
 use lib.ListN.{length, getD, take, drop, set, replicate, length-append, length-drop, take-append-drop}
 use lib.Seq.{length-take-le, take-at, drop-at, take-take, take-add, take-suc, drop-drop, getD-take, getD-drop, set-at, append-snoc}
 use Rattle.slots.specs.Slots.{unused, guidanceYear, yearOf, table, same, isIn, placeIn, ownerOf, placeOf, ruleIn, ruleAt, lineRules}
+use Rattle.slots.specs.declared.Guidance.{Guidance}
 use Rattle.slots.specs.declared.Guidance.the-variants.{Of2005, Of2009}
 use Rattle.slots.specs.declared.Sort.{Sort}
 use Rattle.sizes.specs.Sizes.{fieldsPerLine, siteLines, recordLines, slotsPerRecord, maxChemicals, mostStages}
@@ -33,7 +34,7 @@ use Rattle.deck.specs.DeckConditions.{misspelled, misplaced, outOfRange,
 use Rattle.lists.specs.Lists.{tabulate, chained}
 use Rattle.deck.specs.DeckCase.{chemicalsStart, valueOf, slotSpelled, recordOf, recordsOf, caseWith, caseOf}
 use Rattle.cases.specs.Cases.{noSlot, noRecord, valueAt, guidanceOf, clearYear, caseWithoutYear}
-use Rattle.deck.specs.Guidance.{yearWord, is2005, yearColumn, yearStart, yearEnd, withoutYear}
+use Rattle.deck.specs.Guidance.{yearWord, is2005, is2009, yearColumn, yearStart, yearEnd, withoutYear}
 use Rattle.spelling.specs.declared.Word.{Word}
 use Rattle.spelling.specs.declared.Word.the-variants.{Blank, Dash, Number, Other}
 use Rattle.cases.specs.declared.Filled.{Filled}
@@ -48,6 +49,7 @@ use Rattle.deck.proofs.PartLaws.{line-is}
 use Rattle.lists.proofs.Tabulated.{length-tabulate, filled-at, tabulate-same}
 use Rattle.deck.proofs.SpelledWords.{choose}
 use Rattle.cases.proofs.FirstMet.{orElse, first-append, chained-each}
+use Rattle.cases.proofs.GuidanceLaws.{named}
 use Rattle.deck.proofs.Scan.{line-read, may-follow}
 use Rattle.kinds.proofs.KindLaws.{is-line}
 use Rattle.lists.proofs.ListLaws.{drop-take}
@@ -433,37 +435,50 @@ year-rule : (sort : Sort) → getD (rulesOf sort yearLine) (fieldsPerLine - 1) u
 unfolding lineRules ruleAt ruleIn table
 year-rule sort = refl
 
-module _ (digits : ℕ) (z : ℤ) (e : digits * 10 ^ above z ≡ 2005 * 10 ^ below z) where
+module _ (year : ℕ) (least : 1 ≤ year) (most : year ≤ 1000000000) (digits : ℕ) (z : ℤ) (e : digits * 10 ^ above z ≡ year * 10 ^ below z) where
   some-below : 1 ≤ 10 ^ below z
   some-below = one-le-pow (below z) 10 (lit≤ tt)
 
   year-some : digits ≡ 0 → ⊥
-  year-some q = let w : digits * 10 ^ above z ≡ 0 = rw q (omega arith) in omega (arith, some-below)
+  year-some q = let w : digits * 10 ^ above z ≡ 0 = rw q (omega arith) in omega (arith, some-below, mul-le-mul-right (10 ^ below z) least)
 
   year-least : valueAtLeast digits z ≡ true
   unfolding valueAtLeast
   year-least =
       let m : digits * 10 ^ above z ≤ digits * 10 ^ (above z + 20) = mul-le-mul-left digits (pow-le-pow-right (lit≤ tt) (omega arith)) in
-      le-leb (10 ^ below z) (digits * 10 ^ (above z + 20)) (omega arith)
+      le-leb (10 ^ below z) (digits * 10 ^ (above z + 20)) (omega (arith, mul-le-mul-right (10 ^ below z) least))
 
   year-most : valueAtMost 1000000000 digits z ≡ true
   unfolding valueAtMost
-  year-most = le-leb (digits * 10 ^ above z) (1000000000 * 10 ^ below z) (omega arith)
+  year-most = le-leb (digits * 10 ^ above z) (1000000000 * 10 ^ below z) (omega (arith, mul-le-mul-right (10 ^ below z) most))
 
   year-bounds : withinBounds guidanceYear digits z ≡ true
   unfolding withinBounds
   year-bounds = simp (ne-eqb digits 0 year-some, year-least, year-most)
 
-year-in : (digits : ℕ) (z : ℤ) → isYearOf Of2005 digits z ≡ true → inRange guidanceYear digits z ≡ true
-unfolding inRange isYear isYearOf yearOf
-year-in digits z h = simp (year-bounds digits z (eqb-true (digits * 10 ^ above z) (2005 * 10 ^ below z) h), h)
+either-year : (y : Guidance) (digits : ℕ) (z : ℤ) → isYearOf y digits z ≡ true → isYear digits z ≡ true
+unfolding isYear
+either-year Of2005 digits z h = rw h refl
+either-year Of2009 digits z h = rw h (or-true (isYearOf Of2005 digits z))
+
+year-in : (y : Guidance) (digits : ℕ) (z : ℤ) → isYearOf y digits z ≡ true → inRange guidanceYear digits z ≡ true
+unfolding inRange isYearOf yearOf
+year-in Of2005 digits z h = simp (year-bounds 2005 (lit≤ tt) (lit≤ tt) digits z (eqb-true (digits * 10 ^ above z) (2005 * 10 ^ below z) h), either-year Of2005 digits z h)
+year-in Of2009 digits z h = simp (year-bounds 2009 (lit≤ tt) (lit≤ tt) digits z (eqb-true (digits * 10 ^ above z) (2009 * 10 ^ below z) h), either-year Of2009 digits z h)
 
 year-read : (w : Word) (n f : ℕ) → is2005 w ≡ true → first (fieldConditions guidanceYear w n f) ≡ Passed
 unfolding is2005 first fieldConditions misspelled misplaced outOfRange
 year-read Blank n f h = refl
 year-read Dash n f h = absurd (false≢true h)
-year-read (Number digits power) n f h = simp (year-in digits power h)
+year-read (Number digits power) n f h = simp (year-in Of2005 digits power h)
 year-read Other n f h = absurd (false≢true h)
+
+pub read-2009 : (w : Word) (n f : ℕ) → is2009 w ≡ true → first (fieldConditions guidanceYear w n f) ≡ Passed
+unfolding is2009 first fieldConditions misspelled misplaced outOfRange
+read-2009 Blank n f h = absurd (false≢true h)
+read-2009 Dash n f h = absurd (false≢true h)
+read-2009 (Number digits power) n f h = simp (year-in Of2009 digits power h)
+read-2009 Other n f h = absurd (false≢true h)
 
 -- ---- the second line, after the site's first: past 21 it is the site's second, so it is no EN and its sixth field is the year's
 module _ (sort : Sort) (seen : Seen) (l m : List ℕ) (b : Blanked l m) (y : is2005 (wordOf (fieldIn l fieldsPerLine)) ≡ true) where
@@ -572,15 +587,16 @@ pub year-printed : (deck : List ℕ) → valueAt (caseOf deck .site) (placeOf "y
 unfolding valueAt caseOf caseWith recordOf yearWord slotSpelled placeOf placeIn ownerOf isIn same table
 year-printed deck = ap (λ (x : Filled). x .value) (filled-at (slotSpelled deck 1) noSlot siteSlots (replicate (slotsPerRecord - siteSlots) noSlot) yearSlot (lit< tt))
 
-one-year : (digits : ℕ) (z : ℤ) → isYearOf Of2005 digits z ≡ true → isYearOf Of2009 digits z ≡ false
-unfolding isYearOf yearOf
-one-year digits z h =
-    ne-eqb (digits * 10 ^ above z) (2009 * 10 ^ below z)
-    (λ e. let p = eqb-true (digits * 10 ^ above z) (2005 * 10 ^ below z) h in let t = one-le-pow (below z) 10 (lit≤ tt) in omega arith)
-
 pub guidance-2005 : (w : Word) → is2005 w ≡ true → guidanceOf (valueOf w) ≡ Of2005
 unfolding is2005 valueOf guidanceOf
 guidance-2005 Blank h = refl
 guidance-2005 Dash h = absurd (false≢true h)
-guidance-2005 (Number digits power) h = rw (one-year digits power h) refl
+guidance-2005 (Number digits power) h = named Of2005 digits power h
 guidance-2005 Other h = absurd (false≢true h)
+
+pub guidance-2009 : (w : Word) → is2009 w ≡ true → guidanceOf (valueOf w) ≡ Of2009
+unfolding is2009 valueOf
+guidance-2009 Blank h = absurd (false≢true h)
+guidance-2009 Dash h = absurd (false≢true h)
+guidance-2009 (Number digits power) h = named Of2009 digits power h
+guidance-2009 Other h = absurd (false≢true h)

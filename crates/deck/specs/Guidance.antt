@@ -9,7 +9,7 @@ use Rattle.deck.specs.Parts.{deckLineWidth, columns, fieldOf}
 use Rattle.spelling.specs.Spelling.{wordOf}
 use Rattle.sizes.specs.Sizes.{siteLines, fieldsPerLine}
 use Rattle.cases.specs.Ranges.{isYearOf}
-use Rattle.slots.specs.declared.Guidance.the-variants.{Of2005}
+use Rattle.slots.specs.declared.Guidance.the-variants.{Of2005, Of2009}
 use Rattle.spelling.specs.declared.Word.{Word}
 use Rattle.spelling.specs.declared.Word.the-variants.{Blank, Dash, Number, Other}
 
@@ -23,6 +23,13 @@ is2005 Blank = true
 is2005 Dash = false
 is2005 (Number digits power) = isYearOf Of2005 digits power
 is2005 Other = false
+
+-- 2009 in any spelling
+unfoldable pub is2009 : Word → Bool
+is2009 Blank = false
+is2009 Dash = false
+is2009 (Number digits power) = isYearOf Of2009 digits power
+is2009 Other = false
 
 -- the columns of its line before it, and the bytes of the deck before it and with it
 abbrev pub yearColumn : ℕ

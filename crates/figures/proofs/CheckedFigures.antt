@@ -46,7 +46,7 @@ use Rattle.sheet.specs.Sheet.{pathwayAt, isGiven, hasReference, figureAt, unitO
 use Rattle.composite.specs.Composite.{summed, sumOfYears, mean, composed, yearsTogether, pairStage, lastStage, stageYears, timeExposed, pairComposite, compositeReceptor, compositeFrom, composite}
 use Rattle.report.specs.Forms.{scenarioOf, allConditions, statusOf, lengthOf, outcomeFor, outcomeOf, rowsFor, tooShort, formConditions}
 use Rattle.report.specs.Report.{rowAt, totalRow, rowsAt, rowsOf, ordinary}
-use Rattle.figures.specs.Figures.{bytes, lines, deckOf, deckWith, deck, equalDeck, longDeck, solventDeck, airDeck, cancerSoil, compositeDeck, compositeText, compositeRows, fiveStages, fiveYears, printedLines, printedText, row, rows, Winter, cases, CheckedFigures}
+use Rattle.figures.specs.Figures.{bytes, lines, deckOf, deckWith, deck, equalDeck, longDeck, solventDeck, airDeck, fullDeck, fullRows, cancerSoil, compositeDeck, compositeText, compositeRows, fiveStages, fiveYears, printedLines, printedText, row, rows, Winter, cases, CheckedFigures}
 
 -- x = 0
 half-at-zero : (site chemical : Values) (particles : Pair) → ofSlots site chemical x ≡ is zeroPair
@@ -101,6 +101,17 @@ air-whole = refl
 air-is : (columnsAt Hazard (scenarioOf ordinary airDeck) 0 0 Air ≡ Counted 1000000000000 1000000000000) × (columnsAt Cancer (scenarioOf ordinary airDeck) 0 0 Air ≡ Counted 33333333300000 33333333400000)
 unfolding bytes lines deckOf airDeck within leading linesOf lineOf fieldIn fieldOf digitsValue idSpelled idIn signSpelled exponentSpelled powerOf digitsRead endedOf pointedOf spelledOf loneDash wordOf kindOf idOf tabulate valueOf slotSpelled recordOf recordsOf caseWith caseOf table same isIn placeIn ownerOf placeOf valueAt chemicalAt receptorAt orOne pairOf restOf valuesOf chemicalIn receptorIn givenIn scenarioWith orNone timeGiven depositionOf stayIf laterIf receptorWith entered enteredFrom calls.longEntry years.time years.amount years.isYears years.wordsOf years.timeOf years.none years.least years.printedAmount years.printed years.together years.atMost years.asPair years.beyond ordinary scenarioOf valueIn byOwner inputs pairsAt asAnswers nineFigures inReach zeroExponent isZero isNumber zero one lesser rise unitsAt lower atMost isPair extra divided excessFrom excess carried rounded sumEnd productEnd quotientEnd restEnd provided calls.ends after afterOne zeroPair onePair entry sum product quotient oneMinusEntry pairs read letters noGrowth plainWith plain exponents growthAtBoth stayIn compared paceIf paceOf pacesOf pairGrowing sixtyFour worked series.first series.step terms fromZero pairSeries u kse ksr ksl k x page.x′ page.gWith growth page.gathered page.mean page.soil A D C aboveGround belowGround AT B exposure factor byMedium medium intake byRoute referenceSlot reference figureBy intakeLine byGuidance line guidanceOf guidanceIn pathwayAt isGiven hasReference figureAt chained unitsEnd inUnits unitOf counted countedIn columnsAt airLine timeShare timeInAir airFigureBy yearOf above below isYearOf isYear numbered kindIn isLine begunWith seenWith seenIn
 air-is = (refl, refl)
+
+-- with everything in play
+full-whole : first (allConditions ordinary fullDeck 665) ≡ Passed
+unfolding bytes lines fullDeck nextToNothing calls.oneMinus within leading linesOf lineOf fieldIn fieldOf digitsValue idSpelled idIn signSpelled exponentSpelled powerOf digitsRead endedOf pointedOf spelledOf loneDash wordOf kindOf idOf tabulate valueOf slotSpelled recordOf recordsOf caseWith caseOf table same isIn placeIn ownerOf placeOf valueAt chemicalAt receptorAt orOne pairOf restOf valuesOf chemicalIn receptorIn givenIn scenarioWith orNone timeGiven depositionOf stayIf laterIf receptorWith entered enteredFrom calls.longEntry years.time years.amount years.isYears years.wordsOf years.timeOf years.none years.least years.printedAmount years.printed years.together years.atMost years.asPair years.beyond ordinary scenarioOf valueIn byOwner inputs pairsAt asAnswers nineFigures inReach zeroExponent isZero isNumber zero one lesser rise unitsAt lower atMost isPair extra divided excessFrom excess carried rounded sumEnd productEnd quotientEnd restEnd provided calls.ends after afterOne zeroPair onePair entry sum product quotient oneMinusEntry pairs read letters noGrowth plainWith plain exponents growthAtBoth stayIn compared paceIf paceOf pacesOf pairGrowing sixtyFour worked series.first series.step terms fromZero pairSeries u kse ksr ksl k x page.x′ page.gWith growth page.gathered page.mean page.soil A D C aboveGround belowGround AT B exposure factor byMedium medium intake byRoute referenceSlot reference figureBy intakeLine byGuidance line guidanceOf guidanceIn pathwayAt isGiven hasReference figureAt chained ruleIn ruleAt lineRules above below valueAtMost valueAtLeast withinBounds inRange first misspelled misplaced outOfRange fieldConditions fieldAt badBytes badKind sameLetter wrongId badId lineConditionsAfter lineConditions badLength noEnd conditions capOf linesPerReceptor isAbove highAbove overCap lineTooLarge largeLines rowsOf rowsAt rowsFor tooShort formConditions allConditions lengthOf numbered kindIn isLine begunWith seenWith seenIn isLast mayBegin mayFollow
+full-whole = refl
+
+full-is : (worked (pairsAt (scenarioOf ordinary fullDeck) 0 0) kse ≡ bothEnds 133333333 133333334 (negsuc 7)) × (worked (pairsAt (scenarioOf ordinary fullDeck) 0 0) ksr ≡ bothEnds 166666666 166666667 (negsuc 7))
+    × (worked (pairsAt (scenarioOf ordinary fullDeck) 0 0) ksl ≡ bothEnds 277777777 277777778 (negsuc 7)) × (worked (pairsAt (scenarioOf ordinary fullDeck) 0 0) A ≡ bothEnds 650000000 650000000 (negsuc 12))
+    × (worked (pairsAt (scenarioOf ordinary fullDeck) 0 0) D ≡ bothEnds 263999999 264000001 (negsuc 8)) × (rowsOf (scenarioOf ordinary fullDeck) ≡ fullRows)
+unfolding bytes lines fullDeck fullRows bothEnds nextToNothing calls.oneMinus within leading linesOf lineOf fieldIn fieldOf digitsValue idSpelled idIn signSpelled exponentSpelled powerOf digitsRead endedOf pointedOf spelledOf loneDash wordOf kindOf idOf tabulate valueOf slotSpelled recordOf recordsOf caseWith caseOf table same isIn placeIn ownerOf placeOf valueAt chemicalAt receptorAt orOne pairOf restOf valuesOf chemicalIn receptorIn givenIn scenarioWith orNone timeGiven depositionOf stayIf laterIf receptorWith entered enteredFrom calls.longEntry years.time years.amount years.isYears years.wordsOf years.timeOf years.none years.least years.printedAmount years.printed years.together years.atMost years.asPair years.beyond ordinary scenarioOf valueIn byOwner inputs pairsAt asAnswers nineFigures inReach zeroExponent isZero isNumber zero one lesser rise unitsAt lower atMost isPair extra divided excessFrom excess carried rounded sumEnd productEnd quotientEnd restEnd provided calls.ends after afterOne zeroPair onePair entry sum product quotient oneMinusEntry pairs read letters noGrowth plainWith plain exponents growthAtBoth stayIn compared paceIf paceOf pacesOf pairGrowing sixtyFour worked series.first series.step terms fromZero pairSeries u kse ksr ksl k x page.x′ page.gWith growth page.gathered page.mean page.soil A D C aboveGround belowGround AT B exposure factor byMedium medium intake byRoute referenceSlot reference figureBy intakeLine byGuidance line guidanceOf guidanceIn pathwayAt isGiven hasReference figureAt chained unitsEnd inUnits unitOf counted countedIn columnsAt _added_ addedOver totalAt rowAt totalRow rowsAt rowsOf row numbered kindIn isLine begunWith seenWith seenIn
+full-is = (refl, refl, refl, refl, refl, refl)
 
 text-is : linesText rows ≡ printedText
 unfolding bytes lines printedLines printedText row rows linesText rowText columnsText number justified decimal digits
@@ -166,4 +177,4 @@ year-met = refl
 -- the single list
 pub checked-figures : CheckedFigures
 unfolding CheckedFigures cases figures
-checked-figures = (figures-hold .0, (figures-hold .1 .0, (at-zero, (half-at-zero, (fast-growth .0, (fast-growth .1, (fast-growth .2, (year, (winter, (figures-hold .1 .1 .1 .1 .0, (figures-hold .1 .1 .1 .1 .1 .0, (read-whole, (answer-is, (lines-are, (ap linesText lines-are ∙ text-is, (soils-are .0, (soils-are .1, (soils-are .2, (solvent-soils .0, (solvent-soils .1, (air-whole, (air-is .0, (air-is .1, (composite-whole, (composite-answer, (composite-lines, (ap linesText composite-lines ∙ composite-text, (stages-weigh .0, (stages-weigh .1, (stages-weigh .2, tt))))))))))))))))))))))))))))))
+checked-figures = (figures-hold .0, (figures-hold .1 .0, (at-zero, (half-at-zero, (fast-growth .0, (fast-growth .1, (fast-growth .2, (year, (winter, (figures-hold .1 .1 .1 .1 .0, (figures-hold .1 .1 .1 .1 .1 .0, (read-whole, (answer-is, (lines-are, (ap linesText lines-are ∙ text-is, (soils-are .0, (soils-are .1, (soils-are .2, (solvent-soils .0, (solvent-soils .1, (air-whole, (air-is .0, (air-is .1, (full-whole, (full-is .0, (full-is .1, (full-is .2, (full-is .3, (full-is .4, (full-is .5, (composite-whole, (composite-answer, (composite-lines, (ap linesText composite-lines ∙ composite-text, (stages-weigh .0, (stages-weigh .1, (stages-weigh .2, tt)))))))))))))))))))))))))))))))))))))

@@ -21,7 +21,7 @@ use Rattle.equations.specs.declared.Values.{Values}
 use Rattle.equations.specs.Formula.{pairs}
 use Rattle.equations.specs.Series.{phi, psi, pairSeries}
 use Rattle.equations.specs.Letters.{g, h}
-use Rattle.equations.specs.Page.{x, C, soil, AT}
+use Rattle.equations.specs.Page.{kse, ksr, ksl, x, A, D, C, soil, AT}
 use Rattle.equations.specs.Readings.{worked, inputs}
 use Rattle.media.specs.Media.{ofSlots, ofMedia, growthAt}
 use Rattle.pathway.specs.Lines.{workedFor, factorOf}
@@ -98,6 +98,24 @@ airDeck =
     deckOf "S2     1           0           0           0        0.01         0.5        2009" keptLine
     "C4     1       0.001       0.001           1         0.5                        " "R4     1         0.5           1         365           1                        "
 
+-- by 2005, with every loss, both shares of the air and of what it lays down, all four reference values and T2 beyond tD in play; x is 87.8 and
+-- k × (T2 − tD) 70.2, so that no series is worked
+unfoldable pub fullDeck : List ℕ
+fullDeck =
+    lines
+    ("S1     1           2         1.5          10         0.3          40         0.5"
+    ∷ "S2     1           3           3           5         0.5         0.6            "
+    ∷ "C1     1         0.1         0.5         0.8         0.3           2           1"
+    ∷ "C2     1        0.02        0.03        0.05        0.07         0.4           1"
+    ∷ "C3     1           2         0.2           5         0.9         0.7         0.1"
+    ∷ "C4     1       0.002       0.003         0.4         0.6                        "
+    ∷ "R1     1          15           6       25550           8         0.9         350"
+    ∷ "R2     1         100         0.8         180         120        2000        0.01"
+    ∷ "R3     1         300         0.2         0.7         0.1         0.5         0.2"
+    ∷ "R4     1         0.4         0.9         360          18                        "
+    ∷ "EN                                                                              "
+    ∷ [])
+
 -- the soil of cancer for the first chemical and receptor, by the working rule
 unfoldable pub cancerSoil : List ℕ → Outcome Pair
 cancerSoil deck′ = worked (pairsAt (scenarioOf ordinary deck′) 0 0) (soil Cancer (stayIn (scenarioOf ordinary deck′) 0))
@@ -158,6 +176,18 @@ compositeRows =
     ∷ row 1 1 5 (Counted 37500000000 37500000000) (Counted 18750000000 18750000000)
     ∷ row 1 1 6 (Counted 750000000 750000000) (Counted 375000000 375000000)
     ∷ row 1 0 0 (Counted 538499000000 538499000000) (Counted 19249500000 19249500000)
+    ∷ []
+
+-- the lines of the deck with everything in play
+unfoldable pub fullRows : List Row
+fullRows =
+    row 1 1 1 (Counted 8975342430 8975342500) (Counted 1384767120 1384767140)
+    ∷ row 1 1 2 (Counted 27686353 27686354) (Counted 1054718 1054719)
+    ∷ row 1 1 3 (Counted 11074541 11074542) (Counted 421887 421888)
+    ∷ row 1 1 4 (Counted 2768635 2768636) (Counted 105471 105472)
+    ∷ row 1 1 5 (Counted 6229429400 6229429600) (Counted 237311596 237311605)
+    ∷ row 1 1 6 (Counted 311471471000 311471479000) (Counted 11865579800 11865580400)
+    ∷ row 1 0 0 (Counted 326717772359 326717780632) (Counted 13489240592 13489241224)
     ∷ []
 
 -- 002's five life stages, infant to adult: their years, and their body weights in every other slot
@@ -229,6 +259,14 @@ cases =
     ∷ (first (allConditions ordinary airDeck 665) ≡ Passed)
     ∷ (columnsAt Hazard (scenarioOf ordinary airDeck) 0 0 Air ≡ Counted 1000000000000 1000000000000)
     ∷ (columnsAt Cancer (scenarioOf ordinary airDeck) 0 0 Air ≡ Counted 33333333300000 33333333400000)
+    -- the deck with everything in play: kse, ksr and ksl, air, yearly deposition, and its lines
+    ∷ (first (allConditions ordinary fullDeck 665) ≡ Passed)
+    ∷ (worked (pairsAt (scenarioOf ordinary fullDeck) 0 0) kse ≡ bothEnds 133333333 133333334 (negsuc 7))
+    ∷ (worked (pairsAt (scenarioOf ordinary fullDeck) 0 0) ksr ≡ bothEnds 166666666 166666667 (negsuc 7))
+    ∷ (worked (pairsAt (scenarioOf ordinary fullDeck) 0 0) ksl ≡ bothEnds 277777777 277777778 (negsuc 7))
+    ∷ (worked (pairsAt (scenarioOf ordinary fullDeck) 0 0) A ≡ bothEnds 650000000 650000000 (negsuc 12))
+    ∷ (worked (pairsAt (scenarioOf ordinary fullDeck) 0 0) D ≡ bothEnds 263999999 264000001 (negsuc 8))
+    ∷ (rowsOf (scenarioOf ordinary fullDeck) ≡ fullRows)
     -- the composite's deck likewise
     ∷ (first (allConditions composite compositeDeck 665) ≡ Passed)
     ∷ (outcomeOf composite compositeDeck 665 ≡ record { number = 0; line = 665; field = 0 })

@@ -1,5 +1,5 @@
 -- What the crate `report` promises: what a call that prints a form tells and writes, the report, the call on a scenario in memory, demands 1 to 3 of a deck,
--- and what a deck of 2005 prints.
+-- and what a deck of 2005 and one of 2009 print.
 pub mod Forms
 pub mod Report
 pub mod DemandTwo
