@@ -1,6 +1,6 @@
 -- A chemical's source: its receptors' means one after another, and 53 where its media are refused. Assumes nothing.
 use mathlib.Core.Path.{_≡_, refl, sym, ap, ap₂, _∙_}
-use mathlib.Core.Bool.{Bool, true, false, not, Bool·not-not, false≢true}
+use mathlib.Core.Bool.{Bool, true, false, not, _||_, Bool·not-not, false≢true}
 use mathlib.Core.List.{List}
 use Prim.Native.Nat.{ℕ, _+_, _-_, _<_}
 use native.Mathlib.Numerals.{add-one}
@@ -26,14 +26,17 @@ use Rattle.cases.specs.declared.Status.{Status}
 use Rattle.cases.specs.declared.Status.the-variants.{Passed, Stopped}
 use Rattle.sizes.specs.Sizes.{maxChemicals}
 use Rattle.cases.specs.Conditions.{first}
+use Rattle.slots.specs.declared.Owner.the-variants.{Chemical}
+use Rattle.slots.specs.declared.Sort.the-variants.{Ordinary}
+use Rattle.cases.specs.CaseConditions.{lacks}
 use Rattle.cases.specs.Cases.{noRecord}
 use Rattle.lists.proofs.Tabulated.{filled-at}
 use Rattle.scenario.specs.declared.Receptor.{Receptor}
 use Rattle.scenario.specs.declared.Receptors.{Receptors}
 use Rattle.sheet.specs.declared.Source.{Source}
-use Rattle.scenario.specs.Scenario.{valuesOf, particlesOf, noReceptor}
+use Rattle.scenario.specs.Scenario.{isRefused, valuesOf, particlesOf, noReceptor}
 use Rattle.lists.specs.Lists.{chained, anyOf}
-use Rattle.sheet.specs.Counts.{isRefused, meanWith, stopsAt}
+use Rattle.sheet.specs.Counts.{meanWith, stopsAt}
 use Rattle.sheet.specs.Inner.{mediaFrom, groundWith, meansOf, referencesOf, sourceWith, sourceFrom, sourceOf, noSource, sourcesOf, sourceAt, stopsWith, refusedSource}
 use Rattle.lists.proofs.AnyOf.{any-of}
 use Rattle.cases.proofs.FirstMet as chains
@@ -73,6 +76,11 @@ module _ (site′ : Values) (receptors′ : Receptors) (chemical′ : Record) (v
     unfolding sourceFrom sourceWith
     from-made e = rw (a-is, refs-are, made e, of-chemical) refl
 
+  -- a needed value is missing
+  pub lacks-worked : lacks Ordinary Chemical chemical′ ≡ true → (w : Bool) → w ≡ false → w ≡ not (stopsWith site′ receptors′ chemical′)
+  unfolding stopsWith
+  lacks-worked h w e = e ∙ sym (rw h refl)
+
   -- from what the media call told
   module _ (particles′ : Pair) (share : particles′ ≡ particlesOf chemical′) (r : Grounded) (is-told : grounded r ≡ groundOf (mediaInputs site′ values′ particles′)) where
     ground-is : grounded r ≡ groundWith site′ chemical′
@@ -84,9 +92,9 @@ module _ (site′ : Values) (receptors′ : Receptors) (chemical′ : Record) (v
       unfolding grounded
       laid = sym ground-is ∙ ap grounded e
 
-      pub told-worked : (w : Bool) → w ≡ not (anyOf (λ j. isRefused (meanWith site′ (valuesOf chemical′) (getD (receptors′ .list) j noReceptor) ground)) (receptors′ .count)) → w ≡ not (stopsWith site′ receptors′ chemical′)
+      pub told-worked : lacks Ordinary Chemical chemical′ ≡ false → (w : Bool) → w ≡ not (anyOf (λ j. isRefused (meanWith site′ (valuesOf chemical′) (getD (receptors′ .list) j noReceptor) ground)) (receptors′ .count)) → w ≡ not (stopsWith site′ receptors′ chemical′)
       unfolding stopsWith stopsAt
-      told-worked w h = h ∙ sym (ap not (ap (λ (o : Outcome Ground). stopsAt o (λ j g. meanWith site′ (valuesOf chemical′) (getD (receptors′ .list) j noReceptor) g) (receptors′ .count)) laid))
+      told-worked whole w h = h ∙ sym (ap₂ (λ (b c : Bool). not (b || c)) whole (ap (λ (o : Outcome Ground). stopsAt o (λ j g. meanWith site′ (valuesOf chemical′) (getD (receptors′ .list) j noReceptor) g) (receptors′ .count)) laid))
 
       pub told-made : (s : Source) → s ≡ sourceFrom site′ chemical′ receptors′ (is ground) → s ≡ sourceOf site′ receptors′ chemical′
       unfolding sourceOf
@@ -97,10 +105,10 @@ module _ (site′ : Values) (receptors′ : Receptors) (chemical′ : Record) (v
     stopped (is g) h means n = absurd (false≢true h)
     stopped (refused k) h means n = refl
 
-    pub none-worked : isRefused (grounded r) ≡ true → (w : Bool) → w ≡ false → w ≡ not (stopsWith site′ receptors′ chemical′)
+    pub none-worked : lacks Ordinary Chemical chemical′ ≡ false → isRefused (grounded r) ≡ true → (w : Bool) → w ≡ false → w ≡ not (stopsWith site′ receptors′ chemical′)
     unfolding stopsWith
-    none-worked h w e =
-        e ∙ sym (ap not (stopped (groundWith site′ chemical′) (sym (ap isRefused ground-is) ∙ h) (λ j g. meanWith site′ (valuesOf chemical′) (getD (receptors′ .list) j noReceptor) g) (receptors′ .count)))
+    none-worked whole h w e =
+        e ∙ sym (ap₂ (λ (b c : Bool). not (b || c)) whole (stopped (groundWith site′ chemical′) (sym (ap isRefused ground-is) ∙ h) (λ j g. meanWith site′ (valuesOf chemical′) (getD (receptors′ .list) j noReceptor) g) (receptors′ .count)))
 
 -- ---- a chemical after another
 module _ (site′ : Values) (receptors′ : Receptors) (records : List Record) (blank : Record) (i : ℕ) (here : i < length records) (worked : Bool) (s : Source)

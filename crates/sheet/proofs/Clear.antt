@@ -10,7 +10,7 @@ use Rattle.cases.specs.Conditions.{at, first}
 use Rattle.cases.proofs.FirstMet.{first-read, chained-each}
 use Rattle.lists.proofs.Booleans.{neither}
 use Rattle.scenario.specs.Scenario.{Scenario}
-use Rattle.sheet.specs.Sheet.{pathwayAt, linesPerReceptor, overCap, lineTooLarge, largeLines}
+use Rattle.sheet.specs.Sheet.{pathwayAt, linesPerReceptor, overCap, reportLine, lineTooLarge, overLines, largeLines}
 use Rattle.sizes.specs.Sizes.{pathwaysPerChemical}
 use Rattle.lists.specs.Lists.{chained}
 
@@ -20,7 +20,7 @@ either Cancer f h = neither (f Hazard) (f Cancer) h .1
 
 -- 42 does not hold
 pub not-large : (scenario : Scenario) → first (largeLines scenario) ≡ Passed → (e : Effect) (j i p : ℕ) → j < scenario .receptors .count → i < scenario .chemicals .count → p < pathwaysPerChemical → overCap e scenario j i (pathwayAt p) ≡ false
-unfolding largeLines lineTooLarge
+unfolding largeLines overLines lineTooLarge reportLine
 not-large scenario none e j i p a b c =
     let r = chained-each (λ j. chained (λ i. chained (lineTooLarge scenario j i) pathwaysPerChemical) (scenario .chemicals .count)) (scenario .receptors .count) none j a in
     let s = chained-each (λ i. chained (lineTooLarge scenario j i) pathwaysPerChemical) (scenario .chemicals .count) r i b in

@@ -2,7 +2,8 @@
 -- Assumes nothing.
 use mathlib.Core.Path.{_≡_, refl, sym, ap, ap₂, _∙_}
 use mathlib.Core.Bool.{Bool, true, false, cond, _&&_, _||_}
-use mathlib.Core.List.{List, [], _∷_}
+use mathlib.Core.List.{List, [], _∷_, _++_}
+use mathlib.Core.Logic.{_≢_}
 use Prim.Native.Nat.{ℕ, zero, suc, _+_, _*_, _/_, _%_, _≤_, _<_}
 use native.Mathlib.Omega.{arith}
 use borrow.Author.Tests.{ltb-true, ltb-false, lt-ltb, le-ltb}
@@ -16,21 +17,28 @@ use Rattle.equations.specs.declared.Values.{Values}
 use Rattle.pathway.specs.Lines.{Figured}
 use Rattle.cases.specs.declared.Status.{Status}
 use Rattle.cases.specs.declared.Status.the-variants.{Passed, Stopped}
-use Rattle.cases.specs.Conditions.{at, first}
-use Rattle.cases.proofs.FirstMet.{orElse, first-append, first-read, chained-each}
+use Rattle.cases.specs.Conditions.{Condition, at, first, toldOf}
+use Rattle.cases.specs.CaseConditions.{memoryConditions, lacks}
+use Rattle.cases.proofs.CaseConditionLaws.{counts-inside}
+use Rattle.slots.specs.declared.Owner.the-variants.{Site as OfSite, Chemical}
+use Rattle.slots.specs.declared.Sort.the-variants.{Ordinary}
+use Rattle.lists.proofs.Booleans.{neither}
+use Rattle.cases.proofs.FirstMet.{orElse, first-append, first-read, chained-each, told-without}
 use Rattle.lists.proofs.Tabulated.{tabulated, length-tabulate}
 use Rattle.totals.specs.declared.Columns.the-variants as Cols
-use Rattle.scenario.specs.Scenario.{Scenario, valuesOf, chemicalIn, receptorIn, noGuidance, siteOf}
+use Rattle.scenario.specs.Scenario.{Scenario, valuesOf, chemicalIn, receptorIn, noGuidance, siteOf, isRefused, idsOf, scenarioConditions, unpairedIn}
 use Rattle.scenario.specs.declared.Site.{Site}
 use Rattle.sheet.specs.declared.Source.{Source}
 use Rattle.sheet.specs.declared.Sources.{Sources}
 use Rattle.lists.specs.Lists.{chained}
-use Rattle.sheet.specs.Sheet.{pathwayAt, columnsAt, overCap, linesPerReceptor, lineTooLarge, largeLines}
-use Rattle.sheet.specs.Counts.{tooMany, groundFor, meanFor, stopsAt, noMediaAt, sheetConditions, Part, cellOf, sideOf, effectAt, partAt, lineColumns, cellAt, cellsOf, noCells, cellsFor, sheetStatus, sheetCells, allCells, effectCells, receptorCells}
-use Rattle.sheet.specs.Inner.{columnsOf, aboveCap, groundWith, sourceOf, sourcesOf, sourceAt, stopsWith, refusedSource, figuresFrom, figureFor, figuresWorked, columnsWorked, isLarge, largeLine, largeChemical, largeWorked, perReceptor, allLarge, partOf, CellsFilled, ZeroFrom}
+use Rattle.sheet.specs.Sheet.{pathwayAt, columnsAt, unworked, overCap, linesPerReceptor, reportLine, lineRefused, lineTooLarge, overLines, refusedLines, largeLines, faultyLines}
+use Rattle.sheet.specs.Counts.{tooMany, groundFor, meanFor, stopsAt, noMediaAt, unmade, sheetConditions, enteredConditions, Part, cellOf, sideOf, effectAt, partAt, lineColumns, cellAt, cellsOf, noCells, cellsFor, allCells, effectCells, receptorCells}
+use Rattle.sheet.specs.Inner.{columnsOf, aboveCap, groundWith, sourceOf, sourcesOf, sourceAt, stopsWith, refusedSource, figuresFrom, figureFor, figuresWorked, columnsWorked, isLarge, isBroken, faultAt, faultyLine, faultyChemical, faultyWorked, perReceptor, allFaulty, linesFaulty, workedBy, strictly, partOf, CellsFilled, ZeroFrom}
 use Rattle.lists.proofs.Chained.{chained-same}
 use Rattle.sheet.proofs.ChemicalLaws.{source-at}
 use Rattle.sheet.proofs.SourceLaws.{line-figures}
+use Rattle.sheet.proofs.FaultLaws.{Mixed, lines-same, mixed-lines, strict-passes, strict-other, strict-refused, strict-large}
+use Rattle.sheet.proofs.SheetWithout.{unmade-without}
 
 -- ---- the cells
 -- column c of a receptor's six stands at this place
@@ -73,7 +81,7 @@ module _ (scenario : Scenario) (site′ : Site) (sources : Sources) (cells : Lis
       (λ k h. filled-at-place k (omega arith) ∙ sym (tabulated (cellAt scenario) 0 allCells k (omega arith)))
 
 -- ---- the lines of a scenario of which no chemical stops
-module _ (scenario : Scenario) (site′ : Site) (sources : Sources) (at-site : site′ ≡ siteOf (scenario .site)) (sources-are : sources ≡ sourcesOf (site′ .values) (scenario .receptors) (scenario .chemicals))
+module _ (scenario : Scenario) (site′ : Site) (sources : Sources) (capped : Bool) (at-site : site′ ≡ siteOf (scenario .site)) (sources-are : sources ≡ sourcesOf (site′ .values) (scenario .receptors) (scenario .chemicals))
     (none : first (chained (noMediaAt scenario) (scenario .chemicals .count)) ≡ Passed) where
   count-is : sources .count ≡ scenario .chemicals .count
   unfolding sourcesOf
@@ -81,7 +89,9 @@ module _ (scenario : Scenario) (site′ : Site) (sources : Sources) (at-site : s
 
   media-found : (i : ℕ) → i < scenario .chemicals .count → stopsAt (groundFor scenario i) (meanFor scenario i) (scenario .receptors .count) ≡ false
   unfolding noMediaAt
-  media-found i h = first-read (at 53 (suc i) 0 (stopsAt (groundFor scenario i) (meanFor scenario i) (scenario .receptors .count))) [] (chained-each (noMediaAt scenario) (scenario .chemicals .count) none i h) .0
+  media-found i h =
+      neither (lacks Ordinary Chemical (chemicalIn scenario i)) (stopsAt (groundFor scenario i) (meanFor scenario i) (scenario .receptors .count))
+      (first-read (at 53 (suc i) 0 (lacks Ordinary Chemical (chemicalIn scenario i) || stopsAt (groundFor scenario i) (meanFor scenario i) (scenario .receptors .count))) [] (chained-each (noMediaAt scenario) (scenario .chemicals .count) none i h) .0) .1
 
   -- the line of chemical i by pathway p
   module _ (j i p : ℕ) (l : j < scenario .receptors .count) (h : i < scenario .chemicals .count) where
@@ -100,68 +110,62 @@ module _ (scenario : Scenario) (site′ : Site) (sources : Sources) (at-site : s
     cap-agrees : (e : Effect) → aboveCap e (figureFor e (figuresFrom site′ j (receptorIn scenario j .values) (sourceAt sources i) (pathwayAt p))) ≡ overCap e scenario j i (pathwayAt p)
     cap-agrees e = ap (λ (f : Figured). aboveCap e (figureFor e f)) figures-are ∙ line-figures scenario j i (pathwayAt p) l (media-found i h) e .1
 
-    line-agrees : largeLine site′ j (receptorIn scenario j .values) (sourceAt sources i) (j * perReceptor (sources .count) + i * pathwaysPerChemical) p ≡ lineTooLarge scenario j i p
-    unfolding largeLine lineTooLarge linesPerReceptor isLarge figureFor
+    broken-agrees : (e : Effect) → isRefused (figureFor e (figuresFrom site′ j (receptorIn scenario j .values) (sourceAt sources i) (pathwayAt p))) ≡ unworked e scenario j i (pathwayAt p)
+    broken-agrees e = ap (λ (f : Figured). isRefused (figureFor e f)) figures-are ∙ line-figures scenario j i (pathwayAt p) l (media-found i h) e .2
+
+    line-agrees : faultyLine capped site′ j (receptorIn scenario j .values) (sourceAt sources i) (j * perReceptor (sources .count) + i * pathwaysPerChemical) p
+        ≡ lineRefused scenario j i p ++ (at 42 (reportLine scenario j i p) 0 (capped && (overCap Hazard scenario j i (pathwayAt p) || overCap Cancer scenario j i (pathwayAt p))) ∷ [])
+    unfolding faultyLine faultAt lineRefused reportLine linesPerReceptor isLarge isBroken figureFor
     line-agrees =
         let place : j * perReceptor (sources .count) + i * pathwaysPerChemical + suc p ≡ j * perReceptor (scenario .chemicals .count) + i * pathwaysPerChemical + suc p = rw count-is refl in
-        ap₂ (λ (n : ℕ) (b : Bool). at 42 n 0 b ∷ []) place (ap₂ _||_ (cap-agrees Hazard) (cap-agrees Cancer))
+        let broken : (isRefused (figuresFrom site′ j (receptorIn scenario j .values) (sourceAt sources i) (pathwayAt p) .hazard) || isRefused (figuresFrom site′ j (receptorIn scenario j .values) (sourceAt sources i) (pathwayAt p) .cancer)) ≡ (unworked Hazard scenario j i (pathwayAt p) || unworked Cancer scenario j i (pathwayAt p)) = ap₂ _||_ (broken-agrees Hazard) (broken-agrees Cancer) in
+        ap₂ (λ (n : ℕ) (b : Bool). at 53 n 0 b ∷ at 42 n 0 (capped && (aboveCap Hazard (figuresFrom site′ j (receptorIn scenario j .values) (sourceAt sources i) (pathwayAt p) .hazard) || aboveCap Cancer (figuresFrom site′ j (receptorIn scenario j .values) (sourceAt sources i) (pathwayAt p) .cancer))) ∷ []) place broken
+        ∙ ap (λ (b : Bool). at 53 (j * perReceptor (scenario .chemicals .count) + i * pathwaysPerChemical + suc p) 0 (unworked Hazard scenario j i (pathwayAt p) || unworked Cancer scenario j i (pathwayAt p)) ∷ at 42 (j * perReceptor (scenario .chemicals .count) + i * pathwaysPerChemical + suc p) 0 (capped && b) ∷ []) (ap₂ _||_ (cap-agrees Hazard) (cap-agrees Cancer))
 
   columns-agree : (j q : ℕ) → j < scenario .receptors .count → q < scenario .chemicals .count * pathwaysPerChemical → (e : Effect) → columnsWorked site′ sources j (receptorIn scenario j .values) q e ≡ columnsAt e scenario j (q / pathwaysPerChemical) (pathwayAt (q % pathwaysPerChemical))
   unfolding columnsWorked figuresWorked
   columns-agree j q l h e = figure-columns j (q / pathwaysPerChemical) (q % pathwaysPerChemical) l (omega arith) e
 
-  receptor-agrees : (j : ℕ) → j < scenario .receptors .count → largeWorked site′ sources j (receptorIn scenario j .values) (j * perReceptor (sources .count))
-      ≡ chained (λ i. chained (lineTooLarge scenario j i) pathwaysPerChemical) (scenario .chemicals .count)
-  unfolding largeWorked largeChemical
+  abbrev faults : ℕ → ℕ → ℕ → List Condition
+  faults j i p = lineRefused scenario j i p ++ (at 42 (reportLine scenario j i p) 0 (capped && (overCap Hazard scenario j i (pathwayAt p) || overCap Cancer scenario j i (pathwayAt p))) ∷ [])
+
+  receptor-agrees : (j : ℕ) → j < scenario .receptors .count → faultyWorked capped site′ sources j (receptorIn scenario j .values) (j * perReceptor (sources .count))
+      ≡ chained (λ i. chained (faults j i) pathwaysPerChemical) (scenario .chemicals .count)
+  unfolding faultyWorked faultyChemical
   receptor-agrees j m =
       let r : Values = receptorIn scenario j .values in
       let before : ℕ = j * perReceptor (sources .count) in
-      ap (chained (λ i. chained (largeLine site′ j r (sourceAt sources i) (before + i * pathwaysPerChemical)) pathwaysPerChemical)) count-is
-      ∙ chained-same (λ i. chained (largeLine site′ j r (sourceAt sources i) (before + i * pathwaysPerChemical)) pathwaysPerChemical) (λ i. chained (lineTooLarge scenario j i) pathwaysPerChemical) (scenario .chemicals .count)
-      (λ i h. chained-same (largeLine site′ j r (sourceAt sources i) (before + i * pathwaysPerChemical)) (lineTooLarge scenario j i) pathwaysPerChemical (λ p l. line-agrees j i p m h))
+      ap (chained (λ i. chained (faultyLine capped site′ j r (sourceAt sources i) (before + i * pathwaysPerChemical)) pathwaysPerChemical)) count-is
+      ∙ chained-same (λ i. chained (faultyLine capped site′ j r (sourceAt sources i) (before + i * pathwaysPerChemical)) pathwaysPerChemical) (λ i. chained (faults j i) pathwaysPerChemical) (scenario .chemicals .count)
+      (λ i h. chained-same (faultyLine capped site′ j r (sourceAt sources i) (before + i * pathwaysPerChemical)) (faults j i) pathwaysPerChemical (λ p l. line-agrees j i p m h))
 
-  lines-agree : allLarge site′ sources (scenario .receptors .list) (scenario .receptors .count) ≡ largeLines scenario
-  unfolding allLarge largeLines receptorIn
+  lines-agree : allFaulty capped site′ sources (scenario .receptors .list) (scenario .receptors .count) ≡ linesFaulty capped scenario
+  unfolding allFaulty linesFaulty overLines receptorIn
   lines-agree =
-      chained-same (λ j. largeWorked site′ sources j (receptorIn scenario j .values) (j * perReceptor (sources .count)))
-      (λ j. chained (λ i. chained (lineTooLarge scenario j i) pathwaysPerChemical) (scenario .chemicals .count)) (scenario .receptors .count) (λ j h. receptor-agrees j h)
+      chained-same (λ j. faultyWorked capped site′ sources j (receptorIn scenario j .values) (j * perReceptor (sources .count)))
+      (λ j. chained (λ i. chained (faults j i) pathwaysPerChemical) (scenario .chemicals .count)) (scenario .receptors .count) (λ j h. receptor-agrees j h)
 
 -- ---- the counts
 module _ (scenario : Scenario) where
-  -- what the call tells, and what the cells hold then
-  abbrev pub Told : Status → List ℕ → Type 0
-  Told s cells = (s ≡ sheetStatus scenario) × (cells ≡ sheetCells scenario)
+  -- what is told by a list of conditions, and what the cells hold then
+  abbrev pub Told : List Condition → Status → List ℕ → Type 0
+  Told conditions s cells = (s ≡ first conditions) × (cells ≡ cellsFor s scenario)
 
-  stopped-counts : (s : Status) (number line field : ℕ) → s ≡ Stopped number line field → s ≡ first (sheetConditions scenario) → (cells : List ℕ) → cells ≡ noCells → Told s cells
-  unfolding sheetStatus sheetCells cellsFor
-  stopped-counts s number line field stop is-first cells none = (is-first, none ∙ ap (λ (t : Status). cellsFor t scenario) (sym stop ∙ is-first))
+  stopped : (conditions : List Condition) (s : Status) (number line field : ℕ) → s ≡ Stopped number line field → s ≡ first conditions → (cells : List ℕ) → cells ≡ noCells → Told conditions s cells
+  unfolding cellsFor
+  stopped conditions s number line field stop is-first cells none = (is-first, none ∙ sym (ap (λ (t : Status). cellsFor t scenario) stop))
 
-  -- 21
-  many : tooMany scenario ≡ true → (cells : List ℕ) → cells ≡ noCells → Told (Stopped 21 0 0) cells
-  unfolding sheetConditions first
-  many h cells none = stopped-counts (Stopped 21 0 0) 21 0 0 refl (rw h refl) cells none
+  -- as they are worked
+  module _ (capped : Bool) where
+    -- 53: the site lacks a value
+    pub site-stops : lacks Ordinary OfSite (scenario .site) ≡ true → (cells : List ℕ) → cells ≡ noCells → Told (workedBy capped scenario) (Stopped 53 0 0) cells
+    unfolding workedBy unmade first
+    site-stops h cells none = stopped (workedBy capped scenario) (Stopped 53 0 0) 53 0 0 refl (rw h refl) cells none
 
-  pub many-chemicals : maxChemicals < scenario .chemicals .count → (cells : List ℕ) → cells ≡ noCells → Told (Stopped 21 0 0) cells
-  unfolding tooMany
-  many-chemicals h cells none = many (rw (lt-ltb maxChemicals (scenario .chemicals .count) h) refl) cells none
-
-  module _ (few-chemicals : scenario .chemicals .count ≤ maxChemicals) where
-    pub many-receptors : mostReceptors < scenario .receptors .count → (cells : List ℕ) → cells ≡ noCells → Told (Stopped 21 0 0) cells
-    unfolding tooMany
-    many-receptors h cells none = many (rw (le-ltb maxChemicals (scenario .chemicals .count) few-chemicals, lt-ltb mostReceptors (scenario .receptors .count) h) refl) cells none
-
-    -- 33
-    pub other-year : scenario .receptors .count ≤ mostReceptors → noGuidance scenario ≡ true → (cells : List ℕ) → cells ≡ noCells → Told (Stopped 33 0 0) cells
-    unfolding sheetConditions first tooMany
-    other-year few h cells none =
-        stopped-counts (Stopped 33 0 0) 33 0 0 refl (rw (le-ltb maxChemicals (scenario .chemicals .count) few-chemicals, le-ltb mostReceptors (scenario .receptors .count) few, h) refl) cells none
-
-    module _ (few-receptors : scenario .receptors .count ≤ mostReceptors) (guided : noGuidance scenario ≡ false) (site′ : Site) (at-site : site′ ≡ siteOf (scenario .site)) where
-      conditions-are : first (sheetConditions scenario) ≡ orElse (first (chained (noMediaAt scenario) (scenario .chemicals .count))) (first (largeLines scenario))
-      unfolding sheetConditions first tooMany
-      conditions-are =
-          rw (le-ltb maxChemicals (scenario .chemicals .count) few-chemicals, le-ltb mostReceptors (scenario .receptors .count) few-receptors, guided)
-          (first-append (chained (noMediaAt scenario) (scenario .chemicals .count)) (largeLines scenario))
+    module _ (few-chemicals : scenario .chemicals .count ≤ maxChemicals) (whole : lacks Ordinary OfSite (scenario .site) ≡ false) (site′ : Site) (at-site : site′ ≡ siteOf (scenario .site)) where
+      conditions-are : first (workedBy capped scenario) ≡ orElse (first (chained (noMediaAt scenario) (scenario .chemicals .count))) (first (linesFaulty capped scenario))
+      unfolding workedBy unmade first
+      conditions-are = rw whole (first-append (chained (noMediaAt scenario) (scenario .chemicals .count)) (linesFaulty capped scenario))
 
       chemicals-agree : chained (refusedSource (site′ .values) (scenario .receptors) (scenario .chemicals .records)) (scenario .chemicals .count) ≡ chained (noMediaAt scenario) (scenario .chemicals .count)
       unfolding refusedSource stopsWith noMediaAt groundWith groundFor meanFor chemicalIn receptorIn siteOf
@@ -169,13 +173,13 @@ module _ (scenario : Scenario) where
           chained-same (refusedSource (site′ .values) (scenario .receptors) (scenario .chemicals .records)) (noMediaAt scenario) (scenario .chemicals .count)
           (λ i h. ap (λ (v : Site). refusedSource (v .values) (scenario .receptors) (scenario .chemicals .records) i) at-site)
 
-      -- 53
+      -- 53 by chemical
       pub chemical-stops : (s : Status) → s ≡ first (chained (refusedSource (site′ .values) (scenario .receptors) (scenario .chemicals .records)) (scenario .chemicals .count)) → (number line field : ℕ)
-          → s ≡ Stopped number line field → (cells : List ℕ) → cells ≡ noCells → Told s cells
+          → s ≡ Stopped number line field → (cells : List ℕ) → cells ≡ noCells → Told (workedBy capped scenario) s cells
       unfolding orElse
       chemical-stops s is-first number line field stop cells none =
           let here : first (chained (noMediaAt scenario) (scenario .chemicals .count)) ≡ Stopped number line field = sym (is-first ∙ ap first chemicals-agree) ∙ stop in
-          stopped-counts s number line field stop (stop ∙ sym (conditions-are ∙ ap (λ (t : Status). orElse t (first (largeLines scenario))) here)) cells none
+          stopped (workedBy capped scenario) s number line field stop (stop ∙ sym (conditions-are ∙ ap (λ (t : Status). orElse t (first (linesFaulty capped scenario))) here)) cells none
 
       module _ (sources : Sources) (sources-are : sources ≡ sourcesOf (site′ .values) (scenario .receptors) (scenario .chemicals))
           (ready : first (chained (refusedSource (site′ .values) (scenario .receptors) (scenario .chemicals .records)) (scenario .chemicals .count)) ≡ Passed) where
@@ -186,24 +190,149 @@ module _ (scenario : Scenario) where
         none : first (chained (noMediaAt scenario) (scenario .chemicals .count)) ≡ Passed
         none = sym (ap first chemicals-agree) ∙ ready
 
-        module _ (s : Status) (is-first : s ≡ first (allLarge site′ sources (scenario .receptors .list) (scenario .receptors .count))) where
-          large-first : s ≡ first (sheetConditions scenario)
+        module _ (s : Status) (is-first : s ≡ first (allFaulty capped site′ sources (scenario .receptors .list) (scenario .receptors .count))) where
+          fault-first : s ≡ first (workedBy capped scenario)
           unfolding orElse
-          large-first =
+          fault-first =
               is-first
-              ∙ ap first (lines-agree scenario site′ sources at-site sources-are none)
-              ∙ sym (conditions-are ∙ ap (λ (t : Status). orElse t (first (largeLines scenario))) none)
+              ∙ ap first (lines-agree scenario site′ sources capped at-site sources-are none)
+              ∙ sym (conditions-are ∙ ap (λ (t : Status). orElse t (first (linesFaulty capped scenario))) none)
 
-          -- 42
-          pub line-stops : (number line field : ℕ) → s ≡ Stopped number line field → (cells : List ℕ) → cells ≡ noCells → Told s cells
-          line-stops number line field stop cells none = stopped-counts s number line field stop large-first cells none
+          -- 53 or 42 by line
+          pub line-stops : (number line field : ℕ) → s ≡ Stopped number line field → (cells : List ℕ) → cells ≡ noCells → Told (workedBy capped scenario) s cells
+          line-stops number line field stop cells none = stopped (workedBy capped scenario) s number line field stop fault-first cells none
 
           -- every line's counts
           pub all-counted : s ≡ Passed → (cells : List ℕ) → length cells ≡ allCells
               → CellsFilled site′ sources (scenario .receptors .list) (scenario .receptors .count) cells × ZeroFrom (receptorCells * scenario .receptors .count) cells
-              → Told s cells
-          unfolding sheetStatus sheetCells cellsFor
+              → Told (workedBy capped scenario) s cells
+          unfolding cellsFor
           all-counted read cells long held =
               let c : cells ≡ cellsOf scenario =
-              filled-cells scenario site′ sources cells (count-is scenario site′ sources at-site sources-are none) (columns-agree scenario site′ sources at-site sources-are none) (held .0) (held .1) long in
-              (large-first, c ∙ ap (λ (t : Status). cellsFor t scenario) (sym read ∙ large-first))
+              filled-cells scenario site′ sources cells (count-is scenario site′ sources capped at-site sources-are none) (columns-agree scenario site′ sources capped at-site sources-are none) (held .0) (held .1) long in
+              (fault-first, c ∙ sym (ap (λ (t : Status). cellsFor t scenario) read))
+
+  -- ---- every 53 before 42
+  turn : Status
+  turn = first (linesFaulty true scenario)
+
+  mixed : Mixed turn (first (refusedLines scenario)) (first (largeLines scenario))
+  unfolding turn linesFaulty refusedLines largeLines lineRefused lineTooLarge
+  mixed =
+      mixed-lines scenario (reportLine scenario) (λ j i p. unworked Hazard scenario j i (pathwayAt p) || unworked Cancer scenario j i (pathwayAt p))
+      (λ j i p. overCap Hazard scenario j i (pathwayAt p) || overCap Cancer scenario j i (pathwayAt p))
+
+  unmade-number : (n x y : ℕ) → first (unmade scenario) ≡ Stopped n x y → n ≢ 42
+  unfolding toldOf
+  unmade-number n x y e h = told-without 42 (λ z. omega arith) (unmade scenario) (unmade-without 42 (λ z. omega arith) scenario) (ap (λ (s : Status). toldOf s .number) e ∙ h)
+
+  capped-is : first (workedBy true scenario) ≡ orElse (first (unmade scenario)) turn
+  unfolding workedBy turn
+  capped-is = first-append (unmade scenario) (linesFaulty true scenario)
+
+  uncapped-is : first (workedBy false scenario) ≡ orElse (first (unmade scenario)) (first (refusedLines scenario))
+  unfolding workedBy linesFaulty refusedLines lineRefused first
+  uncapped-is = first-append (unmade scenario) (linesFaulty false scenario) ∙ ap (orElse (first (unmade scenario))) (lines-same scenario _ (lineRefused scenario) (λ j i p a b c. refl))
+
+  strictly-is : first (strictly scenario) ≡ orElse (first (unmade scenario)) (orElse (first (refusedLines scenario)) (first (largeLines scenario)))
+  unfolding strictly
+  strictly-is = first-append (unmade scenario) (refusedLines scenario ++ largeLines scenario) ∙ ap (orElse (first (unmade scenario))) (first-append (refusedLines scenario) (largeLines scenario))
+
+  module _ (s : Status) (cells : List ℕ) (told : Told (workedBy true scenario) s cells) where
+    at-once : orElse (first (unmade scenario)) turn ≡ s
+    at-once = sym (told .0 ∙ capped-is)
+
+    pub strict-passed : s ≡ Passed → Told (strictly scenario) s cells
+    strict-passed e =
+        (e ∙ sym (strictly-is ∙ strict-passes (first (unmade scenario)) turn (first (refusedLines scenario)) (first (largeLines scenario)) mixed unmade-number (at-once ∙ e)), told .1)
+
+    pub strict-stopped : (number line field : ℕ) → s ≡ Stopped number line field → number ≢ 42 → Told (strictly scenario) s cells
+    strict-stopped number line field e d =
+        (sym (strictly-is ∙ strict-other (first (unmade scenario)) turn (first (refusedLines scenario)) (first (largeLines scenario)) mixed unmade-number number line field (at-once ∙ e) d ∙ at-once), told .1)
+
+    -- the cells are as before
+    pub cells-cleared : (number line field : ℕ) → s ≡ Stopped number line field → cells ≡ noCells
+    unfolding cellsFor
+    cells-cleared number line field e = told .1 ∙ ap (λ (t : Status). cellsFor t scenario) e
+
+    module _ (number line field : ℕ) (e : s ≡ Stopped number line field) (large : number ≡ 42) (u : Status) (again : u ≡ first (workedBy false scenario)) (after : List ℕ) (cleared : after ≡ noCells) where
+      s-large : orElse (first (unmade scenario)) turn ≡ Stopped 42 line field
+      s-large = at-once ∙ e ∙ ap (λ (n : ℕ). Stopped n line field) large
+
+      u-is : orElse (first (unmade scenario)) (first (refusedLines scenario)) ≡ u
+      u-is = sym (again ∙ uncapped-is)
+
+      pub strict-broken : (n a c : ℕ) → u ≡ Stopped n a c → Told (strictly scenario) u after
+      strict-broken n a c d =
+          stopped (strictly scenario) u n a c d
+          (sym (strictly-is ∙ strict-refused (first (unmade scenario)) turn (first (refusedLines scenario)) (first (largeLines scenario)) mixed unmade-number line field s-large n a c (u-is ∙ d) ∙ u-is)) after cleared
+
+      pub strict-capped : u ≡ Passed → (t : Status) → t ≡ s → Told (strictly scenario) t after
+      strict-capped d t same =
+          stopped (strictly scenario) t number line field (same ∙ e)
+          (same ∙ sym (strictly-is ∙ strict-large (first (unmade scenario)) turn (first (refusedLines scenario)) (first (largeLines scenario)) mixed unmade-number line field s-large (u-is ∙ d) ∙ at-once)) after cleared
+
+  -- ---- the calls: what is told, and the cells
+  abbrev pub Called : List Condition → Status → List ℕ → Type 0
+  Called conditions s cells = (s ≡ first conditions) × (cells ≡ cellsFor (first conditions) scenario)
+
+  called : (conditions : List Condition) (s : Status) (cells : List ℕ) → Told conditions s cells → Called conditions s cells
+  called conditions s cells t = (t .0, t .1 ∙ ap (λ (u : Status). cellsFor u scenario) (t .0))
+
+  -- on memory
+  pub memory-stops : (s : Status) → s ≡ first (scenarioConditions scenario) → (number line field : ℕ) → s ≡ Stopped number line field → (cells : List ℕ) → cells ≡ noCells → Called (sheetConditions scenario) s cells
+  unfolding sheetConditions strictly orElse
+  memory-stops s is-first number line field stop cells none =
+      called (sheetConditions scenario) s cells
+      (stopped (sheetConditions scenario) s number line field stop
+      (stop ∙ sym (first-append (scenarioConditions scenario) _ ∙ ap (λ (t : Status). orElse t (first (at 53 0 0 (unpairedIn (scenario .site) (scenario .chemicals)) ∷ strictly scenario))) (sym is-first ∙ stop))) cells none)
+
+  module _ (s : Status) (is-first : s ≡ first (scenarioConditions scenario)) (passed : s ≡ Passed) where
+    rest-is : first (sheetConditions scenario) ≡ first (at 53 0 0 (unpairedIn (scenario .site) (scenario .chemicals)) ∷ strictly scenario)
+    unfolding sheetConditions orElse strictly
+    rest-is = first-append (scenarioConditions scenario) _ ∙ ap (λ (t : Status). orElse t (first (at 53 0 0 (unpairedIn (scenario .site) (scenario .chemicals)) ∷ strictly scenario))) (sym is-first ∙ passed)
+
+    -- there is room for its records
+    pub few-records : (scenario .chemicals .count ≤ maxChemicals) × (scenario .receptors .count ≤ mostReceptors)
+    unfolding scenarioConditions memoryConditions idsOf
+    few-records =
+        let counts = first-read _ _ (sym is-first ∙ passed) .0 in
+        let t = counts-inside Ordinary (scenario .chemicals .count) (scenario .receptors .count) counts in
+        (t .1, t .3)
+
+    pub unpaired-stops : unpairedIn (scenario .site) (scenario .chemicals) ≡ true → (cells : List ℕ) → cells ≡ noCells → Called (sheetConditions scenario) (Stopped 53 0 0) cells
+    unfolding first
+    unpaired-stops h cells none =
+        called (sheetConditions scenario) (Stopped 53 0 0) cells (stopped (sheetConditions scenario) (Stopped 53 0 0) 53 0 0 refl (sym (rest-is ∙ rw h refl)) cells none)
+
+    pub counted-strictly : unpairedIn (scenario .site) (scenario .chemicals) ≡ false → (t : Status) (cells : List ℕ) → Told (strictly scenario) t cells → Called (sheetConditions scenario) t cells
+    unfolding first
+    counted-strictly h t cells told = called (sheetConditions scenario) t cells (told .0 ∙ sym (rest-is ∙ rw h refl), told .1)
+
+  -- as entered
+  many : tooMany scenario ≡ true → (cells : List ℕ) → cells ≡ noCells → Called (enteredConditions scenario) (Stopped 21 0 0) cells
+  unfolding enteredConditions first
+  many h cells none = called (enteredConditions scenario) (Stopped 21 0 0) cells (stopped (enteredConditions scenario) (Stopped 21 0 0) 21 0 0 refl (rw h refl) cells none)
+
+  pub many-chemicals : maxChemicals < scenario .chemicals .count → (cells : List ℕ) → cells ≡ noCells → Called (enteredConditions scenario) (Stopped 21 0 0) cells
+  unfolding tooMany
+  many-chemicals h cells none = many (rw (lt-ltb maxChemicals (scenario .chemicals .count) h) refl) cells none
+
+  module _ (few-chemicals : scenario .chemicals .count ≤ maxChemicals) where
+    pub many-receptors : mostReceptors < scenario .receptors .count → (cells : List ℕ) → cells ≡ noCells → Called (enteredConditions scenario) (Stopped 21 0 0) cells
+    unfolding tooMany
+    many-receptors h cells none = many (rw (le-ltb maxChemicals (scenario .chemicals .count) few-chemicals, lt-ltb mostReceptors (scenario .receptors .count) h) refl) cells none
+
+    module _ (few-receptors : scenario .receptors .count ≤ mostReceptors) where
+      few : tooMany scenario ≡ false
+      unfolding tooMany
+      few = rw (le-ltb maxChemicals (scenario .chemicals .count) few-chemicals, le-ltb mostReceptors (scenario .receptors .count) few-receptors) refl
+
+      -- 33
+      pub other-year : noGuidance scenario ≡ true → (cells : List ℕ) → cells ≡ noCells → Called (enteredConditions scenario) (Stopped 33 0 0) cells
+      unfolding enteredConditions first
+      other-year h cells none = called (enteredConditions scenario) (Stopped 33 0 0) cells (stopped (enteredConditions scenario) (Stopped 33 0 0) 33 0 0 refl (rw (few, h) refl) cells none)
+
+      pub counted-entered : noGuidance scenario ≡ false → (t : Status) (cells : List ℕ) → Told (workedBy true scenario) t cells → Called (enteredConditions scenario) t cells
+      unfolding enteredConditions workedBy linesFaulty faultyLines lineTooLarge first
+      counted-entered h t cells told = called (enteredConditions scenario) t cells (told .0 ∙ sym (rw (few, h) refl), told .1)

@@ -6,6 +6,7 @@ mod ChemicalLaws
 mod ReceptorLaws
 mod CellLaws
 mod CountLaws
+pub mod FaultLaws
 pub mod Held
 mod TotalLaws
 mod LineTotals

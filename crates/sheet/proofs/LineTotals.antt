@@ -145,7 +145,7 @@ pub record Figure (scenario : Scenario) (exact : Exact) (j i : ℕ) (e : Effect)
   pub told : inUnits pair (unitOf e) ≡ is units
 
 module _ (scenario : Scenario) {exact : Exact} (sound : Sound scenario exact) (j i : ℕ) (j-small : j < scenario .receptors .count) (i-small : i < scenario .chemicals .count) where
-  figure-works : (e : Effect) (w : Pathway) → (r : Pair) × Works (stayIn scenario j) (pairsAt scenario j i) (exact j i) (line (guidanceIn scenario) e (stayIn scenario j) w) r
+  pub figure-works : (e : Effect) (w : Pathway) → (r : Pair) × Works (stayIn scenario j) (pairsAt scenario j i) (exact j i) (line (guidanceIn scenario) e (stayIn scenario j) w) r
   figure-works e w = line-works (stayIn scenario j) (pairsAt scenario j i) (exact j i) (sound .inputs j i j-small i-small) (sound .later j i j-small i-small) (guidanceIn scenario) e w
 
   pub figure-counted : (e : Effect) (w : Pathway) → highAbove (capOf e) (figureAt e scenario j i w) ≡ false → Figure scenario exact j i e w

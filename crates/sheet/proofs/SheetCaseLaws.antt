@@ -34,16 +34,18 @@ use Rattle.cases.specs.Conditions.{Condition, at, first}
 use Rattle.totals.specs.declared.Columns.{Columns}
 use Rattle.totals.specs.declared.Columns.the-variants as Cols
 use Rattle.totals.specs.Totals.{_added_}
-use Rattle.scenario.specs.Scenario.{Scenario, restOf, valuesOf, particlesOf, chemicalIn, receptorIn, stayIn, guidanceIn, givenIn, pairsAt, Exact}
+use Rattle.scenario.specs.Scenario.{isRefused, Scenario, restOf, valuesOf, particlesOf, chemicalIn, receptorIn, stayIn, guidanceIn, givenIn, pairsAt, Exact}
 use Rattle.sizes.specs.Sizes.{pathwaysPerChemical, mostLines}
-use Rattle.sheet.specs.Sheet.{pathwayAt, hasReference, figureAt, unitOf, counted, countedIn, columnsAt, addedOver, totalAt, highAbove, overCap, capOf, largeLines}
+use Rattle.sheet.specs.Sheet.{pathwayAt, hasReference, figureAt, unitOf, counted, countedIn, columnsAt, addedOver, totalAt, highAbove, unworked, overCap, capOf, lineRefused, lineTooLarge, largeLines, faultyLines}
 use Rattle.lists.specs.Lists.{chained}
-use Rattle.sheet.specs.Counts.{tooMany, isRefused, groundFor, meanWith, meanFor, stopsAt, noMediaAt, sheetConditions, Part, Mark, Low, High, cellOf, cellsOf, totalIn, CountsMost}
+use Rattle.sheet.specs.Counts.{tooMany, groundFor, meanWith, meanFor, stopsAt, noMediaAt, unmade, enteredConditions, Part, Mark, Low, High, cellOf, cellsOf, totalIn, CountsMost}
 use Rattle.scenario.proofs.Sound.{Sound}
 use Rattle.lists.proofs.AnyOf.{none-any}
+use Rattle.lists.proofs.Booleans.{and-false}
+use Rattle.sheet.proofs.FaultLaws.{lines-same}
 use Rattle.sheet.proofs.Held.{columns-total}
 use Rattle.sheet.proofs.Clear.{not-large}
-use Rattle.sheet.proofs.LineTotals.{Figure, figure-counted, count-small}
+use Rattle.sheet.proofs.LineTotals.{Figure, figure-works, figure-counted, count-small}
 
 -- ---- the media are told
 four-all : (a c f r : Outcome Pair) (p q s t : Pair) → a ≡ is p → c ≡ is q → f ≡ is s → r ≡ is t → (m : Media) × (four a c f r ≡ is m)
@@ -111,11 +113,22 @@ unfolding chained
 none-first f zero rest h = refl
 none-first f (suc n) rest h = ap first (append-assoc (chained f n) (f n) rest) ∙ none-first f n (f n ++ rest) (λ i l. h i (omega arith)) ∙ h n (omega arith) rest
 
-pub conditions-agree : (scenario : Scenario) {exact : Exact} → Sound scenario exact → first (sheetConditions scenario) ≡ first (largeLines scenario)
-unfolding sheetConditions noMediaAt first
+-- no line's figure is refused
+never-broken : (scenario : Scenario) {exact : Exact} → Sound scenario exact → (e : Effect) (j i : ℕ) (w : Pathway) → j < scenario .receptors .count → i < scenario .chemicals .count → unworked e scenario j i w ≡ false
+unfolding unworked figureAt isRefused
+never-broken scenario sound e j i w a b = rw (figure-works scenario sound j i a b e w .1 .told) (and-false (hasReference e scenario i w))
+
+lines-unbroken : (scenario : Scenario) {exact : Exact} → Sound scenario exact → first (faultyLines scenario) ≡ first (largeLines scenario)
+unfolding faultyLines largeLines lineRefused first
+lines-unbroken scenario sound =
+    lines-same scenario _ (lineTooLarge scenario)
+    (λ j i p a b c. rw (never-broken scenario sound Hazard j i (pathwayAt p) a b, never-broken scenario sound Cancer j i (pathwayAt p) a b) refl)
+
+pub conditions-agree : (scenario : Scenario) {exact : Exact} → Sound scenario exact → first (enteredConditions scenario) ≡ first (largeLines scenario)
+unfolding enteredConditions unmade noMediaAt first
 conditions-agree scenario sound =
-    rw (few-records scenario sound, sound .guided)
-    (none-first (noMediaAt scenario) (scenario .chemicals .count) (largeLines scenario) (λ i h r. rw (none-refused scenario sound i h) refl))
+    rw (few-records scenario sound, sound .guided, sound .whole)
+    (none-first (noMediaAt scenario) (scenario .chemicals .count) (faultyLines scenario) (λ i h r. rw (sound .wholes i h, none-refused scenario sound i h) refl) ∙ lines-unbroken scenario sound)
 
 -- ---- a line with its reference value: the pair that the working rule gives, and its counts
 pub record Line (scenario : Scenario) (e : Effect) (j i : ℕ) (w : Pathway) : Type 0 where

@@ -3,28 +3,57 @@ use Prim.Native.Nat.{ℕ}
 use native.Mathlib.Omega.{arith}
 use Rattle.cases.specs.Conditions.{Without}
 use Rattle.cases.proofs.FirstMet.{without-append, without-chained}
-use Rattle.scenario.specs.Scenario.{Scenario}
-use Rattle.sizes.specs.Sizes.{pathwaysPerChemical}
+use mathlib.Core.List.{_++_}
+use mathlib.Core.Logic.{_≢_}
+use lib.ListN.{getD}
+use Rattle.slots.specs.declared.Owner.{Owner}
+use Rattle.slots.specs.declared.Owner.the-variants.{Site, Chemical}
+use Rattle.slots.specs.declared.Sort.the-variants.{Ordinary}
+use Rattle.cases.specs.declared.Record.{Record}
+use Rattle.cases.specs.Cases.{noRecord}
+use Rattle.cases.specs.CaseConditions.{slotConditions, recordConditions, chemicalConditions, sourceConditions, memoryConditions}
+use Rattle.scenario.specs.Scenario.{Scenario, scenarioConditions}
+use Rattle.sizes.specs.Sizes.{pathwaysPerChemical, slotsPerRecord}
 use Rattle.lists.specs.Lists.{chained}
-use Rattle.sheet.specs.Sheet.{lineTooLarge, largeLines}
-use Rattle.sheet.specs.Counts.{noMediaAt, sheetConditions}
+use Rattle.sheet.specs.Sheet.{lineRefused, lineTooLarge, overLines, refusedLines, largeLines}
+use Rattle.sheet.specs.Counts.{noMediaAt, unmade, sheetConditions}
 
 line-without : (scenario : Scenario) (j i p : ℕ) → Without 41 (lineTooLarge scenario j i p)
 unfolding lineTooLarge
 line-without scenario j i p = (λ e. omega arith, tt)
 
 pub large-without : (scenario : Scenario) → Without 41 (largeLines scenario)
-unfolding largeLines
+unfolding largeLines overLines
 large-without scenario =
     without-chained 41 _
     (λ j. without-chained 41 _ (λ i. without-chained 41 (lineTooLarge scenario j i) (line-without scenario j i) pathwaysPerChemical) (scenario .chemicals .count))
     (scenario .receptors .count)
 
-media-without : (scenario : Scenario) (i : ℕ) → Without 41 (noMediaAt scenario i)
-unfolding noMediaAt
-media-without scenario i = (λ e. omega arith, tt)
+refused-without : (scenario : Scenario) → Without 41 (refusedLines scenario)
+unfolding refusedLines overLines lineRefused
+refused-without scenario =
+    without-chained 41 _ (λ j. without-chained 41 _ (λ i. without-chained 41 (lineRefused scenario j i) (λ p. (λ e. omega arith, tt)) pathwaysPerChemical) (scenario .chemicals .count)) (scenario .receptors .count)
+
+-- those before the lines are 53
+pub unmade-without : (n : ℕ) → 53 ≢ n → (scenario : Scenario) → Without n (unmade scenario)
+unfolding unmade noMediaAt
+unmade-without n d scenario = (d, without-chained n (noMediaAt scenario) (λ i. (d, tt)) (scenario .chemicals .count))
+
+-- those of a case's slots are 32 and 33
+record-without : (o : Owner) (r : Record) → Without 41 (recordConditions Ordinary o r)
+unfolding recordConditions slotConditions
+record-without o r = without-chained 41 _ (λ k. (λ e. omega arith, (λ e. omega arith, tt))) slotsPerRecord
+
+pub scenario-without : (scenario : Scenario) → Without 41 (scenarioConditions scenario)
+unfolding scenarioConditions memoryConditions sourceConditions chemicalConditions
+scenario-without scenario =
+    (λ e. omega arith, (λ e. omega arith, without-append 41 (recordConditions Ordinary Site (scenario .site)) _ (record-without Site (scenario .site)) (without-chained 41 _ (λ i. record-without Chemical (getD (scenario .chemicals .records) i noRecord)) (scenario .chemicals .count))))
+
+pub worked-without : (scenario : Scenario) → Without 41 (unmade scenario ++ (refusedLines scenario ++ largeLines scenario))
+worked-without scenario =
+    without-append 41 (unmade scenario) (refusedLines scenario ++ largeLines scenario) (unmade-without 41 (λ e. omega arith) scenario)
+    (without-append 41 (refusedLines scenario) (largeLines scenario) (refused-without scenario) (large-without scenario))
 
 pub sheet-without : (scenario : Scenario) → Without 41 (sheetConditions scenario)
 unfolding sheetConditions
-sheet-without scenario =
-    (λ e. omega arith, (λ e. omega arith, without-append 41 (chained (noMediaAt scenario) (scenario .chemicals .count)) (largeLines scenario) (without-chained 41 (noMediaAt scenario) (media-without scenario) (scenario .chemicals .count)) (large-without scenario)))
+sheet-without scenario = without-append 41 (scenarioConditions scenario) _ (scenario-without scenario) (λ e. omega arith, worked-without scenario)

@@ -42,9 +42,9 @@ use Rattle.cases.specs.declared.Value.the-variants.{Absent, Given}
 use Rattle.cases.specs.Cases.{valueAt}
 use Rattle.totals.specs.declared.Columns.the-variants as Cols
 use Rattle.sheet.specs.declared.Source.{Source}
-use Rattle.scenario.specs.Scenario.{Scenario, pairOf, restOf, valuesOf, particlesOf, noReceptor, chemicalIn, receptorIn, stayIn, guidanceIn, givenIn, pairsAt, siteOf}
-use Rattle.sheet.specs.Sheet.{isGiven, hasReference, figureAt, unitOf, capOf, countedIn, columnsAt, highAbove, overCap}
-use Rattle.sheet.specs.Counts.{isRefused, groundFor, meanWith, meanFor, stopsAt}
+use Rattle.scenario.specs.Scenario.{isRefused, Scenario, pairOf, restOf, valuesOf, particlesOf, noReceptor, chemicalIn, receptorIn, stayIn, guidanceIn, givenIn, pairsAt, siteOf}
+use Rattle.sheet.specs.Sheet.{isGiven, hasReference, figureAt, unitOf, capOf, countedIn, columnsAt, highAbove, unworked, overCap}
+use Rattle.sheet.specs.Counts.{groundFor, meanWith, meanFor, stopsAt}
 use Rattle.sheet.specs.Inner.{columnsOf, aboveCap, mediaFrom, groundWith, meansOf, rfdOf, csfOf, referencesOf, sourceWith, sourceFrom, sourceOf, meanAt, figuresFrom, figureFor}
 use Rattle.lists.proofs.Tabulated.{filled-at}
 use Rattle.lists.proofs.AnyOf.{none-of}
@@ -197,16 +197,22 @@ unfolding aboveCap mapped highAbove
 cap-some e (is p) = refl
 cap-some e (refused n) = refl
 
+broken-some : (o : Outcome Pair) → isRefused (mapped (λ (q : Pair). some q) o) ≡ isRefused o
+unfolding isRefused mapped
+broken-some (is p) = refl
+broken-some (refused n) = refl
+
 -- a figure that is worked from its reference value, where there is one
 module _ (e : Effect) (f : Optional Pair → Outcome (Optional Pair)) (o : Pair → Outcome Pair) (without : f none ≡ is none) (with-one : (v : Pair) → f (some v) ≡ mapped (λ (q : Pair). some q) (o v)) where
   figure-columns : (v : Value) →
       (columnsOf e (f (optional v)) ≡ cond (isGiven v) (countedIn (unitOf e) (o (pairOf v))) Cols.Absent)
       × (aboveCap e (f (optional v)) ≡ (isGiven v && highAbove (capOf e) (o (pairOf v))))
-  unfolding optional isGiven columnsOf aboveCap
-  figure-columns Absent = (rw without refl, rw without refl)
+      × (isRefused (f (optional v)) ≡ (isGiven v && isRefused (o (pairOf v))))
+  unfolding optional isGiven columnsOf aboveCap isRefused
+  figure-columns Absent = (rw without refl, rw without refl, rw without refl)
   figure-columns (Given power digits) =
       let v : Pair = pairOf (Given power digits) in
-      (ap (columnsOf e) (with-one v) ∙ columns-some e (o v), ap (aboveCap e) (with-one v) ∙ cap-some e (o v))
+      (ap (columnsOf e) (with-one v) ∙ columns-some e (o v), ap (aboveCap e) (with-one v) ∙ cap-some e (o v), ap isRefused (with-one v) ∙ broken-some (o v))
 
 -- ---- pathway 1 by the guidance of 2009
 time-read : (e : Effect) (scenario : Scenario) (j i : ℕ) → workedOf (receptorIn scenario j .values) (page.timeShare e) ≡ worked (pairsAt scenario j i) (page.timeShare e)
@@ -242,6 +248,7 @@ abbrev Agrees : Scenario → ℕ → ℕ → Effect → Pathway → Figured → 
 Agrees scenario j i e p f g =
     (columnsOf e (figureFor e f) ≡ cond (hasReference e scenario i p) (countedIn (unitOf e) (worked (pairsAt scenario j i) g)) Cols.Absent)
     × (aboveCap e (figureFor e f) ≡ (hasReference e scenario i p && highAbove (capOf e) (worked (pairsAt scenario j i) g)))
+    × (isRefused (figureFor e f) ≡ (hasReference e scenario i p && isRefused (worked (pairsAt scenario j i) g)))
 
 module _ (scenario : Scenario) (j i : ℕ) (e : Effect) (ground : Ground) (laid : groundFor scenario i ≡ is ground) (mean : Media) (mean-is : meanFor scenario i j ground ≡ is mean) where
   site′ : Values
@@ -290,6 +297,7 @@ module _ (scenario : Scenario) (j i : ℕ) (e : Effect) (ground : Ground) (laid 
         let c = figure-columns e (figureIfGiven e dose) (λ v. ofTwo (figureBy e) (mapped (λ (g : Dose). g .0) dose) (is v)) refl (λ v. refl) value in (
           ap (columnsOf e) figured ∙ c .0 ∙ ap (λ (o : Outcome Pair). cond (isGiven value) (countedIn (unitOf e) o) Cols.Absent) figure-is,
           ap (aboveCap e) figured ∙ c .1 ∙ ap (λ (o : Outcome Pair). isGiven value && highAbove (capOf e) o) figure-is,
+          ap isRefused figured ∙ c .2 ∙ ap (λ (o : Outcome Pair). isGiven value && isRefused o) figure-is,
         )
 
   -- of a concentration in air
@@ -324,6 +332,7 @@ module _ (scenario : Scenario) (j i : ℕ) (e : Effect) (ground : Ground) (laid 
       refl (λ v. air-figure-page e (workedOf receptor′ (page.timeShare e)) (air .0) v) inhaled in (
         ap (columnsOf e) air-figured ∙ c .0 ∙ ap (λ (o : Outcome Pair). cond (isGiven inhaled) (countedIn (unitOf e) o) Cols.Absent) air-is,
         ap (aboveCap e) air-figured ∙ c .1 ∙ ap (λ (o : Outcome Pair). isGiven inhaled && highAbove (capOf e) o) air-is,
+        ap isRefused air-figured ∙ c .2 ∙ ap (λ (o : Outcome Pair). isGiven inhaled && isRefused o) air-is,
       )
 
   -- by the year's guidance
@@ -369,5 +378,6 @@ module _ (scenario : Scenario) (j i : ℕ) (p : Pathway) (here : j < scenario .r
 pub line-figures : (scenario : Scenario) (j i : ℕ) (p : Pathway) → j < scenario .receptors .count → stopsAt (groundFor scenario i) (meanFor scenario i) (scenario .receptors .count) ≡ false → (e : Effect) →
     (columnsOf e (figureFor e (figuresFrom (siteOf (scenario .site)) j (receptorIn scenario j .values) (sourceOf (valuesOf (scenario .site)) (scenario .receptors) (chemicalIn scenario i)) p)) ≡ columnsAt e scenario j i p)
     × (aboveCap e (figureFor e (figuresFrom (siteOf (scenario .site)) j (receptorIn scenario j .values) (sourceOf (valuesOf (scenario .site)) (scenario .receptors) (chemicalIn scenario i)) p)) ≡ overCap e scenario j i p)
-unfolding source columnsAt overCap figureAt
+    × (isRefused (figureFor e (figuresFrom (siteOf (scenario .site)) j (receptorIn scenario j .values) (sourceOf (valuesOf (scenario .site)) (scenario .receptors) (chemicalIn scenario i)) p)) ≡ unworked e scenario j i p)
+unfolding source columnsAt overCap unworked figureAt
 line-figures scenario j i p here told e = line-agrees scenario j i p here told e

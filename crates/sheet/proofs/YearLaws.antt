@@ -30,7 +30,7 @@ use Rattle.cases.specs.declared.Case.{Case}
 use Rattle.cases.specs.Cases.{noSlot, valueAt, receptorAt, guidanceOf, clearYear, caseWithoutYear}
 use Rattle.totals.specs.declared.Columns.the-variants as Cols
 use Rattle.scenario.specs.Scenario.{Scenario, scenarioFrom, pairOf, restOf, valuesOf, chemicalIn, receptorIn, stayIn, guidanceIn, givenIn, pairsAt, timeGiven, depositionOf, enteredFrom}
-use Rattle.sheet.specs.Sheet.{isGiven, hasReference, figureAt, unitOf, countedIn, columnsAt, totalAt, linesPerReceptor, overCap, lineTooLarge, largeLines}
+use Rattle.sheet.specs.Sheet.{isGiven, hasReference, figureAt, unitOf, countedIn, columnsAt, totalAt, linesPerReceptor, overCap, reportLine, lineTooLarge, overLines, largeLines}
 use Rattle.lists.specs.Lists.{chained}
 use Rattle.scenario.proofs.InputLaws.{value-at}
 use Rattle.lists.proofs.ListLaws.{blank-at}
@@ -118,11 +118,11 @@ module _ (s : Scenario) where
     total-same e j = simp columns-same
 
     too-large-same : (j i p : ℕ) → lineTooLarge (yearBlank s) j i p ≡ lineTooLarge s j i p
-    unfolding lineTooLarge overCap linesPerReceptor
+    unfolding lineTooLarge reportLine overCap linesPerReceptor
     too-large-same j i p = simp (reference-same, figure-same)
 
     pub large-same : largeLines (yearBlank s) ≡ largeLines s
-    unfolding largeLines chained
+    unfolding largeLines overLines chained
     large-same = simp too-large-same
 
 -- ---- the receptors of a case do not hang on it

@@ -9,6 +9,9 @@ use Rattle.pair.specs.Calls.{Outcome, is, refused}
 use Rattle.equations.specs.declared.Effect.{Effect}
 use Rattle.equations.specs.declared.Effect.the-variants.{Hazard, Cancer}
 use Rattle.slots.specs.Slots.{placeOf}
+use Rattle.slots.specs.declared.Owner.the-variants.{Site, Chemical}
+use Rattle.slots.specs.declared.Sort.the-variants.{Ordinary}
+use Rattle.cases.specs.CaseConditions.{lacks}
 use Rattle.equations.specs.declared.Values.{Values}
 use Rattle.equations.specs.Readings.{valueIn}
 use Rattle.media.specs.declared.Media.{Media}
@@ -23,18 +26,14 @@ use Rattle.lists.specs.Lists.{tabulate, chained, anyOf}
 use Rattle.totals.specs.declared.Columns.{Columns}
 use Rattle.totals.specs.declared.Columns.the-variants as Cols
 use Rattle.totals.specs.Totals.{totalOf}
-use Rattle.scenario.specs.Scenario.{Scenario, valuesOf, particlesOf, chemicalIn, receptorIn, noGuidance}
-use Rattle.sheet.specs.Sheet.{pathwayAt, columnsAt, largeLines}
+use Rattle.scenario.specs.Scenario.{Scenario, valuesOf, particlesOf, chemicalIn, receptorIn, noGuidance, isRefused, scenarioConditions, unpairedIn}
+use Rattle.sheet.specs.Sheet.{pathwayAt, columnsAt, refusedLines, largeLines, faultyLines}
 
--- ---- what stops a scenario: more records than a deck holds (21), a year of no guidance (33), a chemical whose media are refused (53), those of
--- one receptor's cancer among them, a line above its cap (42). In a scenario whose values lie in their ranges there is no such year and no media
--- are refused (`none-refused`).
+-- ---- what stops a scenario, however it was made. Its receptors are pairs, so that of them only counts and ids are asked; the rest of it is as
+-- a deck's must be: 21, 22, then 32 and 33 by slot. After that 53 where a value has no pair or the pair rule refuses something, and 42.
+-- more records than a sheet has room for
 unfoldable pub tooMany : Scenario → Bool
 tooMany scenario = ltb maxChemicals (scenario .chemicals .count) || ltb mostReceptors (scenario .receptors .count)
-
-unfoldable pub isRefused : {A : Type 0} → Outcome A → Bool
-isRefused (is m) = false
-isRefused (refused n) = true
 
 unfoldable pub groundFor : Scenario → ℕ → Outcome Ground
 groundFor scenario i = groundOf (mediaInputs (valuesOf (scenario .site)) (valuesOf (chemicalIn scenario i)) (particlesOf (chemicalIn scenario i)))
@@ -51,11 +50,22 @@ unfoldable pub stopsAt : Outcome Ground → (ℕ → Ground → Outcome Media) �
 stopsAt (is ground) means n = anyOf (λ j. isRefused (means j ground)) n
 stopsAt (refused k) means n = true
 
+-- 53 by chemical: a value that it needs is missing, or its media are refused, those of one receptor's cancer among them
 unfoldable pub noMediaAt : Scenario → ℕ → List Condition
-noMediaAt scenario i = at 53 (suc i) 0 (stopsAt (groundFor scenario i) (meanFor scenario i) (scenario .receptors .count)) ∷ []
+noMediaAt scenario i =
+    at 53 (suc i) 0 (lacks Ordinary Chemical (chemicalIn scenario i) || stopsAt (groundFor scenario i) (meanFor scenario i) (scenario .receptors .count)) ∷ []
 
+unfoldable pub unmade : Scenario → List Condition
+unmade scenario = at 53 0 0 (lacks Ordinary Site (scenario .site)) ∷ chained (noMediaAt scenario) (scenario .chemicals .count)
+
+-- the list of a call on memory
 unfoldable pub sheetConditions : Scenario → List Condition
-sheetConditions scenario = at 21 0 0 (tooMany scenario) ∷ at 33 0 0 (noGuidance scenario) ∷ chained (noMediaAt scenario) (scenario .chemicals .count) ++ largeLines scenario
+sheetConditions scenario =
+    scenarioConditions scenario ++ (at 53 0 0 (unpairedIn (scenario .site) (scenario .chemicals)) ∷ (unmade scenario ++ (refusedLines scenario ++ largeLines scenario)))
+
+-- and of what a deck's reading has tested already, which is not tested again: what has no pair is refused here too, and no value is read as 1
+unfoldable pub enteredConditions : Scenario → List Condition
+enteredConditions scenario = at 21 0 0 (tooMany scenario) ∷ at 33 0 0 (noGuidance scenario) ∷ (unmade scenario ++ faultyLines scenario)
 
 -- ---- cells: a receptor has six columns of as many cells as it may have lines, hazard's and cancer's: 1 for each line that has counts, the low and
 -- the high counts; all three are 0 for -, and where there is no line
@@ -106,12 +116,18 @@ unfoldable pub cellsFor : Status → Scenario → List ℕ
 cellsFor Passed scenario = cellsOf scenario
 cellsFor (Stopped number line field) scenario = noCells
 
--- the call: the first condition that holds, and no counts; or every line's
+-- a call: the first condition that holds, and no counts; or every line's
 unfoldable pub sheetStatus : Scenario → Status
 sheetStatus scenario = first (sheetConditions scenario)
 
 unfoldable pub sheetCells : Scenario → List ℕ
 sheetCells scenario = cellsFor (sheetStatus scenario) scenario
+
+unfoldable pub enteredStatus : Scenario → Status
+enteredStatus scenario = first (enteredConditions scenario)
+
+unfoldable pub enteredCells : Scenario → List ℕ
+enteredCells scenario = cellsFor (enteredStatus scenario) scenario
 
 -- ---- read from cells
 unfoldable pub columnsFrom : ℕ → ℕ → ℕ → Columns

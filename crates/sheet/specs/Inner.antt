@@ -2,13 +2,16 @@
 -- the chemicals' sources. proofs/ shows that they are those of Counts.antt, of which alone the calls speak.
 use mathlib.Core.Path.{_≡_}
 use Prim.Native.Nat.{ℕ, suc, _+_, _*_, _-_, _/_, _%_, _<_}
-use mathlib.Core.Bool.{Bool, false, _||_}
+use mathlib.Core.Bool.{Bool, true, false, _&&_, _||_}
 use mathlib.Core.List.{List, [], _∷_, _++_}
 use mathlib.Core.Logic.{_≢_}
 use lib.ListN.{getD, set, replicate}
 use Rattle.pair.specs.declared.Pair.{Pair}
 use Rattle.pair.specs.Calls.{Outcome, is, refused}
 use Rattle.slots.specs.Slots.{placeOf}
+use Rattle.slots.specs.declared.Owner.the-variants.{Chemical}
+use Rattle.slots.specs.declared.Sort.the-variants.{Ordinary}
+use Rattle.cases.specs.CaseConditions.{lacks}
 use Rattle.equations.specs.declared.Pathway.{Pathway}
 use Rattle.equations.specs.declared.Effect.{Effect}
 use Rattle.equations.specs.declared.Effect.the-variants.{Hazard, Cancer}
@@ -37,9 +40,9 @@ use Rattle.scenario.specs.declared.Receptors.{Receptors}
 use Rattle.scenario.specs.declared.Site.{Site}
 use Rattle.sheet.specs.declared.Source.{Source}
 use Rattle.sheet.specs.declared.Sources.{Sources}
-use Rattle.scenario.specs.Scenario.{pairOf, valuesOf, particlesOf, noReceptor}
-use Rattle.sheet.specs.Sheet.{pathwayAt, unitOf, capOf, countedIn, highAbove}
-use Rattle.sheet.specs.Counts.{Part, Mark, Low, High, cellOf, sideOf, effectCells, receptorCells, meanWith, stopsAt}
+use Rattle.scenario.specs.Scenario.{Scenario, pairOf, valuesOf, particlesOf, noReceptor, isRefused}
+use Rattle.sheet.specs.Sheet.{pathwayAt, unitOf, capOf, countedIn, highAbove, overCap, reportLine, lineRefused, overLines, refusedLines, largeLines}
+use Rattle.sheet.specs.Counts.{Part, Mark, Low, High, cellOf, sideOf, effectCells, receptorCells, meanWith, stopsAt, unmade}
 
 -- for each of 4 receptors at most six lines for each of 16 chemicals, and a total line: 388
 abbrev pub maxRows : ℕ
@@ -116,7 +119,7 @@ sourceAt sources i = getD (sources .list) i noSource
 -- 53, by chemical
 unfoldable pub stopsWith : Values → Receptors → Record → Bool
 stopsWith site′ receptors′ chemical′ =
-    stopsAt (groundWith site′ chemical′) (λ j ground. meanWith site′ (valuesOf chemical′) (getD (receptors′ .list) j noReceptor) ground) (receptors′ .count)
+    lacks Ordinary Chemical chemical′ || stopsAt (groundWith site′ chemical′) (λ j ground. meanWith site′ (valuesOf chemical′) (getD (receptors′ .list) j noReceptor) ground) (receptors′ .count)
 
 unfoldable pub refusedSource : Values → Receptors → List Record → ℕ → List Condition
 refusedSource site′ receptors′ records i = at 53 (suc i) 0 (stopsWith site′ receptors′ (getD records i noRecord)) ∷ []
@@ -146,21 +149,40 @@ sourceColumns site′ j r source p e = columnsOf e (figureFor e (figuresFrom sit
 unfoldable pub isLarge : Figured → Bool
 isLarge f = aboveCap Hazard (f .hazard) || aboveCap Cancer (f .cancer)
 
--- 42 at a chemical's line, after so many report lines
-unfoldable pub largeLine : Site → ℕ → Values → Source → ℕ → ℕ → List Condition
-largeLine site′ j r source before p = at 42 (before + suc p) 0 (isLarge (figuresFrom site′ j r source (pathwayAt p))) ∷ []
+unfoldable pub isBroken : Figured → Bool
+isBroken f = isRefused (f .hazard) || isRefused (f .cancer)
 
-unfoldable pub largeChemical : Site → ℕ → Values → Source → ℕ → List Condition
-largeChemical site′ j r source before = chained (largeLine site′ j r source before) pathwaysPerChemical
+-- 53 and, where caps are held, 42 at a chemical's line, after so many report lines
+unfoldable pub faultAt : Bool → Figured → ℕ → List Condition
+faultAt capped f l = at 53 l 0 (isBroken f) ∷ at 42 l 0 (capped && isLarge f) ∷ []
 
-unfoldable pub largeWorked : Site → Sources → ℕ → Values → ℕ → List Condition
-largeWorked site′ sources j r before = chained (λ i. largeChemical site′ j r (sourceAt sources i) (before + i * pathwaysPerChemical)) (sources .count)
+unfoldable pub faultyLine : Bool → Site → ℕ → Values → Source → ℕ → ℕ → List Condition
+faultyLine capped site′ j r source before p = faultAt capped (figuresFrom site′ j r source (pathwayAt p)) (before + suc p)
+
+unfoldable pub faultyChemical : Bool → Site → ℕ → Values → Source → ℕ → List Condition
+faultyChemical capped site′ j r source before = chained (faultyLine capped site′ j r source before) pathwaysPerChemical
+
+unfoldable pub faultyWorked : Bool → Site → Sources → ℕ → Values → ℕ → List Condition
+faultyWorked capped site′ sources j r before = chained (λ i. faultyChemical capped site′ j r (sourceAt sources i) (before + i * pathwaysPerChemical)) (sources .count)
 
 abbrev pub perReceptor : ℕ → ℕ
 perReceptor n = n * pathwaysPerChemical + 1
 
-unfoldable pub allLarge : Site → Sources → List Receptor → ℕ → List Condition
-allLarge site′ sources receptors′ n = chained (λ j. largeWorked site′ sources j (getD receptors′ j noReceptor .values) (j * perReceptor (sources .count))) n
+unfoldable pub allFaulty : Bool → Site → Sources → List Receptor → ℕ → List Condition
+allFaulty capped site′ sources receptors′ n = chained (λ j. faultyWorked capped site′ sources j (getD receptors′ j noReceptor .values) (j * perReceptor (sources .count))) n
+
+-- ---- what stops a scenario as it is worked: 53 by chemical, then each line in turn, with its cap or without
+unfoldable pub linesFaulty : Bool → Scenario → List Condition
+linesFaulty capped scenario =
+    overLines scenario
+    (λ j i p. lineRefused scenario j i p ++ (at 42 (reportLine scenario j i p) 0 (capped && (overCap Hazard scenario j i (pathwayAt p) || overCap Cancer scenario j i (pathwayAt p))) ∷ []))
+
+unfoldable pub workedBy : Bool → Scenario → List Condition
+workedBy capped scenario = unmade scenario ++ linesFaulty capped scenario
+
+-- what stops it on memory, after its slots: 53 before 42
+unfoldable pub strictly : Scenario → List Condition
+strictly scenario = unmade scenario ++ (refusedLines scenario ++ largeLines scenario)
 
 -- ---- cells
 unfoldable pub withCounts : List ℕ → ℕ → Columns → List ℕ

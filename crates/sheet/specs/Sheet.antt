@@ -1,7 +1,7 @@
--- The lines of a scenario, their counts and totals (document 01, "Units and totals"), and 42 of "Where a deck stops". Receptor j,
+-- The lines of a scenario, their counts and totals (document 01, "Units and totals"), and 53 and 42 of "Where a deck stops". Receptor j,
 -- chemical i and pathway p come in this order and are counted from 0.
 use mathlib.Core.Bool.{Bool, true, false, cond, not, _&&_, _||_}
-use mathlib.Core.List.{List, [], _∷_}
+use mathlib.Core.List.{List, [], _∷_, _++_}
 use Prim.Native.Nat.{ℕ, zero, suc, _+_, _*_}
 use lib.IntN.{ℤ, negsuc}
 use Rattle.pair.specs.declared.Number.{Number}
@@ -20,7 +20,7 @@ use Rattle.cases.specs.Conditions.{Condition, at}
 use Rattle.totals.specs.declared.Columns.{Columns}
 use Rattle.totals.specs.declared.Columns.the-variants as Cols
 use Rattle.totals.specs.Totals.{_added_}
-use Rattle.scenario.specs.Scenario.{Scenario, stayIn, guidanceIn, givenIn, pairsAt}
+use Rattle.scenario.specs.Scenario.{Scenario, stayIn, guidanceIn, givenIn, pairsAt, isRefused}
 use Rattle.sizes.specs.Sizes.{pathwaysPerChemical}
 use Rattle.lists.specs.Lists.{chained}
 
@@ -70,7 +70,7 @@ addedOver f (suc n) = addedOver f n added f n
 unfoldable pub totalAt : Effect → Scenario → ℕ → Columns
 totalAt e scenario j = addedOver (λ i. addedOver (λ p. columnsAt e scenario j i (pathwayAt p)) pathwaysPerChemical) (scenario .chemicals .count)
 
--- ---- 42
+-- ---- 53 and 42, by line
 -- lines of one receptor, its total line included
 unfoldable pub linesPerReceptor : Scenario → ℕ
 linesPerReceptor scenario = scenario .chemicals .count * pathwaysPerChemical + 1
@@ -89,15 +89,33 @@ unfoldable pub capOf : Effect → Number
 capOf Hazard = record { significand = 100000000; exponent = negsuc 3 }
 capOf Cancer = record { significand = 100000000; exponent = negsuc 7 }
 
+-- a figure that the pair rule refuses, which never prints -
+unfoldable pub unworked : Effect → Scenario → ℕ → ℕ → Pathway → Bool
+unworked e scenario j i p = hasReference e scenario i p && isRefused (figureAt e scenario j i p)
+
 unfoldable pub overCap : Effect → Scenario → ℕ → ℕ → Pathway → Bool
 overCap e scenario j i p = hasReference e scenario i p && highAbove (capOf e) (figureAt e scenario j i p)
 
 -- told as the report line, total lines counted too
+unfoldable pub reportLine : Scenario → ℕ → ℕ → ℕ → ℕ
+reportLine scenario j i p = j * linesPerReceptor scenario + i * pathwaysPerChemical + suc p
+
+unfoldable pub lineRefused : Scenario → ℕ → ℕ → ℕ → List Condition
+lineRefused scenario j i p = at 53 (reportLine scenario j i p) 0 (unworked Hazard scenario j i (pathwayAt p) || unworked Cancer scenario j i (pathwayAt p)) ∷ []
+
 unfoldable pub lineTooLarge : Scenario → ℕ → ℕ → ℕ → List Condition
-lineTooLarge scenario j i p =
-    at 42 (j * linesPerReceptor scenario + i * pathwaysPerChemical + suc p) 0
-    (overCap Hazard scenario j i (pathwayAt p) || overCap Cancer scenario j i (pathwayAt p))
-    ∷ []
+lineTooLarge scenario j i p = at 42 (reportLine scenario j i p) 0 (overCap Hazard scenario j i (pathwayAt p) || overCap Cancer scenario j i (pathwayAt p)) ∷ []
+
+-- of every line
+unfoldable pub overLines : Scenario → (ℕ → ℕ → ℕ → List Condition) → List Condition
+overLines scenario f = chained (λ j. chained (λ i. chained (f j i) pathwaysPerChemical) (scenario .chemicals .count)) (scenario .receptors .count)
+
+unfoldable pub refusedLines : Scenario → List Condition
+refusedLines scenario = overLines scenario (lineRefused scenario)
 
 unfoldable pub largeLines : Scenario → List Condition
-largeLines scenario = chained (λ j. chained (λ i. chained (lineTooLarge scenario j i) pathwaysPerChemical) (scenario .chemicals .count)) (scenario .receptors .count)
+largeLines scenario = overLines scenario (lineTooLarge scenario)
+
+-- each line in turn
+unfoldable pub faultyLines : Scenario → List Condition
+faultyLines scenario = overLines scenario (λ j i p. lineRefused scenario j i p ++ lineTooLarge scenario j i p)

@@ -2,6 +2,7 @@
 use cases::Chemicals;
 use cases::Record;
 use cases::Status;
+use cases::lacks;
 use equations::Values;
 use media::Found;
 use media::Ground;
@@ -21,6 +22,8 @@ use scenario::particles_of;
 use scenario::values_of;
 use sizes::MAX_CHEMICALS;
 use sizes::MAX_RECEPTORS;
+use slots::Owner;
+use slots::Sort;
 use slots::T2;
 ghost use mathlib.Core.Path.{_≡_};
 ghost use mathlib.Core.Bool.{true, false, not};
@@ -31,17 +34,15 @@ ghost use Rattle.cases.specs.declared.Status.the-variants as Statuses;
 ghost use Rattle.cases.specs.Conditions.{first};
 ghost use Rattle.media.specs.Media as media;
 ghost use Rattle.pair.specs.Calls.{is};
-ghost use Rattle.scenario.specs.Scenario.{valuesOf, noReceptor};
+ghost use Rattle.scenario.specs.Scenario.{valuesOf, noReceptor, isRefused};
 ghost use Rattle.lists.specs.Lists.{chained, anyOf};
-ghost use Rattle.sheet.specs.Counts.{isRefused, meanWith};
+ghost use Rattle.sheet.specs.Counts.{meanWith};
 ghost use Rattle.sheet.specs.Inner.{meansOf, noSource, sourceFrom, sourceOf, sourcesOf, stopsWith, refusedSource};
 use crate::Prepared;
 use crate::Source;
 use crate::Sources;
+use crate::lines::REFUSED;
 use crate::references::references_of;
-
-// A pair that is none, or an exponent out of reach.
-const REFUSED: u32 = 53;
 
 // The media of each receptor's cancer, or that those of one are refused.
 struct Means {
@@ -149,12 +150,15 @@ fn source_from(
     }
 }
 
-// What a chemical's lines take, or nothing where its media are refused.
+// What a chemical's lines take, or nothing where a value that it needs is missing or its media are refused.
 fn source_of(site: Values, chemical: Record, receptors: Receptors) -> Sourced
     requires { ⌜ receptors .count ≤ mostReceptors ⌝ }
     ensures { λ r. ⌜ r .worked ≡ not (stopsWith site receptors chemical) ⌝ }
     ensures { λ r. ⌜ (r .worked ≡ true → r .source ≡ sourceOf site receptors chemical) ⌝ }
 {
+    if lacks(Sort::Ordinary, Owner::Chemical, chemical) {
+        return not_sourced();
+    }
     let values = values_of(chemical);
     let Grounded::Is(ground) = ground_of(site, values, particles_of(chemical)) else {
         return not_sourced();

@@ -9,6 +9,7 @@ use totals::Columns;
 ghost use mathlib.Core.Path.{_≡_};
 ghost use Rattle.pair.specs.Calls.{is};
 ghost use Rattle.pathway.specs.Lines as lines;
+ghost use Rattle.scenario.specs.Scenario.{isRefused};
 ghost use Rattle.sheet.specs.Sheet.{unitOf, capOf, countedIn, highAbove};
 ghost use Rattle.sheet.specs.Inner.{columnsOf, aboveCap};
 
@@ -76,6 +77,17 @@ pub(crate) fn columns_of(figure: Figure, effect: Effect) -> Columns
         Figure::Is(p) => counted(p, unit_of(effect)),
         Figure::Absent => Columns::Absent,
         Figure::Refused => Columns::Absent,
+    }
+}
+
+// Whether the pair rule refused a figure.
+pub(crate) fn is_refused(figure: Figure) -> bool
+    ensures { λ r. ⌜ r ≡ isRefused (lines.figure figure) ⌝ }
+{
+    match figure {
+        Figure::Is(_) => false,
+        Figure::Absent => false,
+        Figure::Refused => true,
     }
 }
 

@@ -6,6 +6,8 @@ mod reading;
 mod references;
 
 use crate::chemicals::sources_of;
+use crate::lines::REFUSED;
+use crate::lines::TOO_LARGE;
 use crate::lines::clear;
 use crate::lines::put_all;
 use crate::reading::columns_found;
@@ -13,20 +15,29 @@ use crate::reading::total_found;
 use cases::Chemicals;
 use cases::Record;
 use cases::Status;
+use cases::lacks;
 use equations::Effect;
 use media::Media;
 use pathway::Absorbed;
 use pathway::References;
 use scenario::Receptors;
 use scenario::has_no_guidance;
+use scenario::scenario_status;
 use scenario::site_of;
+use scenario::unpaired_in;
 use sizes::MAX_CHEMICALS;
 use sizes::MAX_RECEPTORS;
 use sizes::MOST_LINES;
+use slots::Owner;
+use slots::Sort;
 use totals::Columns;
 ghost use mathlib.Core.Path.{_≡_};
 ghost use Rattle.scenario.specs.Scenario.{scenarioFrom};
-ghost use Rattle.sheet.specs.Counts.{sheetStatus, sheetCells, sideOf, columnsIn, totalIn};
+ghost use Prim.Native.Nat.{_≤_};
+ghost use Rattle.sizes.specs.Sizes.{maxChemicals, mostReceptors};
+ghost use Rattle.cases.specs.Conditions.{first};
+ghost use Rattle.sheet.specs.Counts.{noCells, cellsFor, sheetStatus, sheetCells, enteredStatus, enteredCells, sideOf, columnsIn, totalIn};
+ghost use Rattle.sheet.specs.Inner.{workedBy, strictly};
 
 // The counts of a scenario's lines stand in cells. An effect has three columns of 96 cells: 1 for each line that has counts, the low and the
 // high counts; all three are 0 where the line has -, and where there is none. A receptor has hazard's columns, then cancer's.
@@ -61,8 +72,62 @@ const TOO_MANY: u32 = 21;
 
 const OUT_OF_RANGE: u32 = 33;
 
-// The counts of a scenario's lines into the cells, or where it stops, and 0 in every cell: more records than a sheet has room for, a year of no
-// guidance, a chemical whose media are refused, a line above its cap.
+// The counts of a scenario's lines into the cells, which are all 0; or where it stops, and 0 in every cell.
+fn work(
+    site: Record,
+    chemicals: Chemicals,
+    receptors: Receptors,
+    cells: &mut [u64; CELLS],
+    capped: bool,
+) -> Status
+    requires { ⌜ (chemicals .count ≤ maxChemicals) × (receptors .count ≤ mostReceptors) × (now cells ≡ noCells) ⌝ }
+    ensures { λ r. ⌜ r ≡ first (workedBy capped (scenarioFrom site chemicals receptors)) ⌝ }
+    ensures { λ r. ⌜ now (cells .exit) ≡ cellsFor r (scenarioFrom site chemicals receptors) ⌝ }
+{
+    if lacks(Sort::Ordinary, Owner::Site, site) {
+        return Status::Stopped(REFUSED, 0, 0);
+    }
+    let worked = site_of(site);
+    let prepared = sources_of(worked.values, chemicals, receptors);
+    let ready = prepared.status;
+    let Status::Passed = ready else {
+        return ready;
+    };
+    let status = put_all(cells, worked, receptors, prepared.sources, capped);
+    let Status::Passed = status else {
+        clear(cells);
+        return status;
+    };
+    status
+}
+
+// The same with every 53 before 42: where a line is above its cap, the others are asked whether they are refused.
+fn work_strictly(
+    site: Record,
+    chemicals: Chemicals,
+    receptors: Receptors,
+    cells: &mut [u64; CELLS],
+) -> Status
+    requires { ⌜ (chemicals .count ≤ maxChemicals) × (receptors .count ≤ mostReceptors) × (now cells ≡ noCells) ⌝ }
+    ensures { λ r. ⌜ r ≡ first (strictly (scenarioFrom site chemicals receptors)) ⌝ }
+    ensures { λ r. ⌜ now (cells .exit) ≡ cellsFor r (scenarioFrom site chemicals receptors) ⌝ }
+{
+    let status = work(site, chemicals, receptors, cells, true);
+    let Status::Stopped(number, _, _) = status else {
+        return status;
+    };
+    if number != TOO_LARGE {
+        return status;
+    }
+    let refused = work(site, chemicals, receptors, cells, false);
+    clear(cells);
+    let Status::Passed = refused else {
+        return refused;
+    };
+    status
+}
+
+// The counts of a scenario's lines into the cells; or where it stops, whatever its values are, and 0 in every cell.
 pub fn counts_of(
     site: Record,
     chemicals: Chemicals,
@@ -71,6 +136,27 @@ pub fn counts_of(
 ) -> Status
     ensures { λ r. ⌜ r ≡ sheetStatus (scenarioFrom site chemicals receptors) ⌝ }
     ensures { λ _. ⌜ now (cells .exit) ≡ sheetCells (scenarioFrom site chemicals receptors) ⌝ }
+{
+    clear(cells);
+    let told = scenario_status(site, chemicals, receptors);
+    let Status::Passed = told else {
+        return told;
+    };
+    if unpaired_in(site, chemicals) {
+        return Status::Stopped(REFUSED, 0, 0);
+    }
+    work_strictly(site, chemicals, receptors, cells)
+}
+
+// The same of values that were tested where they were read, and are not tested again: every value that has a pair is worked.
+pub fn counts_entered(
+    site: Record,
+    chemicals: Chemicals,
+    receptors: Receptors,
+    cells: &mut [u64; CELLS],
+) -> Status
+    ensures { λ r. ⌜ r ≡ enteredStatus (scenarioFrom site chemicals receptors) ⌝ }
+    ensures { λ _. ⌜ now (cells .exit) ≡ enteredCells (scenarioFrom site chemicals receptors) ⌝ }
 {
     clear(cells);
     if MAX_CHEMICALS < chemicals.count {
@@ -82,18 +168,7 @@ pub fn counts_of(
     if has_no_guidance(site) {
         return Status::Stopped(OUT_OF_RANGE, 0, 0);
     }
-    let worked = site_of(site);
-    let prepared = sources_of(worked.values, chemicals, receptors);
-    let ready = prepared.status;
-    let Status::Passed = ready else {
-        return ready;
-    };
-    let status = put_all(cells, worked, receptors, prepared.sources);
-    let Status::Passed = status else {
-        clear(cells);
-        return status;
-    };
-    status
+    work(site, chemicals, receptors, cells, true)
 }
 
 fn side_of(effect: Effect) -> usize

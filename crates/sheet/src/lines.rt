@@ -21,7 +21,7 @@ ghost use Rattle.pathway.specs.Lines as specs;
 ghost use Rattle.sheet.specs.Sheet.{pathwayAt};
 ghost use Rattle.sizes.specs.Sizes.{mostLines, maxChemicals, mostReceptors, pathwaysPerChemical};
 ghost use Rattle.sheet.specs.Counts.{effectCells, receptorCells, allCells, noCells};
-ghost use Rattle.sheet.specs.Inner.{maxRows, isLarge, withCounts, sourceColumns, columnsWorked, largeChemical, largeWorked, allLarge, CellsHold, CellsEmpty, CellsFilled, SameBelow, SameBut, ZeroFrom};
+ghost use Rattle.sheet.specs.Inner.{maxRows, isLarge, isBroken, faultAt, withCounts, sourceColumns, columnsWorked, faultyChemical, faultyWorked, allFaulty, CellsHold, CellsEmpty, CellsFilled, SameBelow, SameBut, ZeroFrom};
 use crate::CELLS;
 use crate::EFFECT_CELLS;
 use crate::RECEPTOR_CELLS;
@@ -29,8 +29,12 @@ use crate::Source;
 use crate::Sources;
 use crate::counting::above_cap;
 use crate::counting::columns_of;
+use crate::counting::is_refused;
 
-const TOO_LARGE: u32 = 42;
+// A refused figure, and one above its cap.
+pub(crate) const REFUSED: u32 = 53;
+
+pub(crate) const TOO_LARGE: u32 = 42;
 
 fn pathway_at(p: usize) -> Pathway
     ensures { λ r. ⌜ r ≡ pathwayAt p ⌝ }
@@ -55,6 +59,34 @@ fn is_large(line: Line) -> bool
     }
     let cancer = line.cancer;
     above_cap(cancer, Effect::Cancer)
+}
+
+// Whether a figure of the line is refused.
+fn is_broken(line: Line) -> bool
+    ensures { λ r. ⌜ r ≡ isBroken (specs.figured line) ⌝ }
+{
+    let hazard = line.hazard;
+    if is_refused(hazard) {
+        return true;
+    }
+    let cancer = line.cancer;
+    is_refused(cancer)
+}
+
+// 53 at report line l, or 42 where caps are held.
+fn fault_at(capped: bool, line: Line, l: usize) -> Status
+    ensures { λ s. ⌜ s ≡ first (faultAt capped (specs.figured line) l) ⌝ }
+{
+    if is_broken(line) {
+        return Status::Stopped(REFUSED, l, 0);
+    }
+    if !capped {
+        return Status::Passed;
+    }
+    if is_large(line) {
+        return Status::Stopped(TOO_LARGE, l, 0);
+    }
+    Status::Passed
 }
 
 // 0 in every cell.
@@ -88,7 +120,7 @@ fn put_counts(cells: &mut [u64], at: usize, columns: Columns)
     }
 }
 
-// The counts of a chemical's six lines, for the receptor at a place, into their cells, from base on, or the first line above a cap.
+// The counts of a chemical's lines, for the receptor at a place, into their cells, from base on, or the first line that stops.
 fn put_chemical(
     cells: &mut [u64],
     base: usize,
@@ -98,9 +130,10 @@ fn put_chemical(
     habits: Habits,
     source: Source,
     before: usize,
+    capped: bool,
 ) -> Status
     requires { ⌜ (base + effectCells + 2 * mostLines + pathwaysPerChemical ≤ length (now cells)) × (before ≤ maxRows + mostLines) × (place < mostReceptors) × (specs.shared habits ≡ specs.habitsOf (site .guidance) receptor) ⌝ }
-    ensures { λ s. ⌜ s ≡ first (largeChemical site place receptor source before) ⌝ }
+    ensures { λ s. ⌜ s ≡ first (faultyChemical capped site place receptor source before) ⌝ }
     ensures { λ s. ⌜ (s ≡ Statuses.Passed → CellsHold (sourceColumns site place receptor source) pathwaysPerChemical (now (cells .exit)) base) ⌝ }
     ensures { λ _. ⌜ SameBut pathwaysPerChemical base (now (cells .entry)) (now (cells .exit)) ⌝ }
 {
@@ -119,8 +152,9 @@ fn put_chemical(
             mean,
             references,
         );
-        if is_large(line) {
-            return Status::Stopped(TOO_LARGE, before + next, 0);
+        let status = fault_at(capped, line, before + next);
+        if let Status::Stopped(_, _, _) = status {
+            return status;
         }
         let hazard = line.hazard;
         let cancer = line.cancer;
@@ -132,7 +166,7 @@ fn put_chemical(
     Status::Passed
 }
 
-// The counts of a receptor's lines into its cells, from base on, or the first line above a cap.
+// The counts of a receptor's lines into its cells, from base on, or the first line that stops.
 fn put_lines(
     cells: &mut [u64],
     base: usize,
@@ -141,9 +175,10 @@ fn put_lines(
     receptor: Values,
     sources: Sources,
     before: usize,
+    capped: bool,
 ) -> Status
     requires { ⌜ (base + receptorCells ≤ length (now cells)) × (sources .count ≤ maxChemicals) × (before ≤ maxRows) × (place < mostReceptors) ⌝ }
-    ensures { λ s. ⌜ s ≡ first (largeWorked site sources place receptor before) ⌝ }
+    ensures { λ s. ⌜ s ≡ first (faultyWorked capped site sources place receptor before) ⌝ }
     ensures { λ s. ⌜ (s ≡ Statuses.Passed → CellsHold (columnsWorked site sources place receptor) (sources .count * pathwaysPerChemical) (now (cells .exit)) base) ⌝ }
     ensures { λ _. ⌜ SameBelow base (now (cells .entry)) (now (cells .exit)) ⌝ }
     ensures { λ s. ⌜ (ZeroFrom base (now (cells .entry)) → CellsEmpty (sources .count * pathwaysPerChemical) (now (cells .exit)) base × ZeroFrom (base + receptorCells) (now (cells .exit))) ⌝ }
@@ -165,6 +200,7 @@ fn put_lines(
             habits,
             source,
             before + done,
+            capped,
         );
         if let Status::Stopped(_, _, _) = status {
             return status;
@@ -174,10 +210,16 @@ fn put_lines(
     Status::Passed
 }
 
-// Every receptor's counts, or the first line above a cap.
-fn put_receptors(cells: &mut [u64], site: Site, receptors: Receptors, sources: Sources) -> Status
+// Every receptor's counts, or the first line that stops.
+fn put_receptors(
+    cells: &mut [u64],
+    site: Site,
+    receptors: Receptors,
+    sources: Sources,
+    capped: bool,
+) -> Status
     requires { ⌜ (length (now cells) ≡ allCells) × (receptors .count ≤ mostReceptors) × (sources .count ≤ maxChemicals) ⌝ }
-    ensures { λ s. ⌜ s ≡ first (allLarge site sources (receptors .list) (receptors .count)) ⌝ }
+    ensures { λ s. ⌜ s ≡ first (allFaulty capped site sources (receptors .list) (receptors .count)) ⌝ }
     ensures { λ s. ⌜ (s ≡ Statuses.Passed → ZeroFrom 0 (now (cells .entry)) → CellsFilled site sources (receptors .list) (receptors .count) (now (cells .exit)) × ZeroFrom (receptorCells * receptors .count) (now (cells .exit))) ⌝ }
 {
     let count = receptors.count;
@@ -194,6 +236,7 @@ fn put_receptors(cells: &mut [u64], site: Site, receptors: Receptors, sources: S
             receptor.values,
             sources,
             j * per,
+            capped,
         );
         if let Status::Stopped(_, _, _) = status {
             return status;
@@ -209,11 +252,12 @@ pub(crate) fn put_all(
     site: Site,
     receptors: Receptors,
     sources: Sources,
+    capped: bool,
 ) -> Status
     requires { ⌜ (receptors .count ≤ mostReceptors) × (sources .count ≤ maxChemicals) ⌝ }
-    ensures { λ s. ⌜ s ≡ first (allLarge site sources (receptors .list) (receptors .count)) ⌝ }
+    ensures { λ s. ⌜ s ≡ first (allFaulty capped site sources (receptors .list) (receptors .count)) ⌝ }
     ensures { λ s. ⌜ (s ≡ Statuses.Passed → ZeroFrom 0 (now (cells .entry)) → CellsFilled site sources (receptors .list) (receptors .count) (now (cells .exit)) × ZeroFrom (receptorCells * receptors .count) (now (cells .exit))) ⌝ }
     ensures { λ _. ⌜ length (now (cells .exit)) ≡ allCells ⌝ }
 {
-    put_receptors(cells, site, receptors, sources)
+    put_receptors(cells, site, receptors, sources, capped)
 }

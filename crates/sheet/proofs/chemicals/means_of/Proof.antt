@@ -10,8 +10,8 @@ use Rattle.sizes.specs.Sizes.{mostReceptors}
 use Rattle.lists.specs.Lists.{tabulate, anyOf}
 use Rattle.lists.proofs.Tabulated.{filled-start, filled-more}
 use Rattle.media.specs.Media.{found, noMedia}
-use Rattle.scenario.specs.Scenario.{noReceptor}
-use Rattle.sheet.specs.Counts.{isRefused, meanWith}
+use Rattle.scenario.specs.Scenario.{isRefused, noReceptor}
+use Rattle.sheet.specs.Counts.{meanWith}
 use Rattle.sheet.specs.Inner.{mediaFrom, meansOf}
 use Rattle.sheet.proofs.ChemicalLaws.{mean-at, mean-on, mean-stops}
 use Rattle.sheet.proofs.chemicals.means_of.Statement.{statement}

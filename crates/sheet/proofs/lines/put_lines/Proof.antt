@@ -1,4 +1,4 @@
--- `sheet::lines::put_lines` meets its contract. The invariant: the cells hold the lines of the chemicals so far, none above a cap, the cells
+-- `sheet::lines::put_lines` meets its contract. The invariant: the cells hold the lines of the chemicals so far, none of which stops, the cells
 -- below are as they were, and the others stay 0. Assumes nothing.
 use mathlib.Core.Path.{_≡_, refl, sym, ap, _∙_}
 use Prim.Native.Nat.{_+_, _*_, _-_, _≤_, _<_}
@@ -12,23 +12,23 @@ use Rattle.cases.specs.Conditions.{first}
 use Rattle.cases.proofs.FirstMet.{never}
 use Rattle.lists.specs.Lists.{chained}
 use Rattle.sheet.specs.Counts.{cellOf, receptorCells}
-use Rattle.sheet.specs.Inner.{sourceAt, columnsWorked, largeChemical, largeWorked, CellsHold, CellsEmpty, SameBelow, ZeroFrom}
+use Rattle.sheet.specs.Inner.{sourceAt, columnsWorked, faultyChemical, faultyWorked, CellsHold, CellsEmpty, SameBelow, ZeroFrom}
 use Rattle.sheet.proofs.ReceptorLaws.{lines-are, chemical-on, chemical-stops}
 use Rattle.sheet.proofs.CellLaws.{chemical-below, chemical-empty, chemical-zero, chemical-held}
 use Rattle.sheet.proofs.lines.put_lines.Statement.{statement}
 use Rattle.sheet.proofs.lines.put_lines.Tie as tie
 
 abbrev Inv-loop : tie.InvT-loop
-Inv-loop cells₀ base site place receptor before sources habits count i₀ cells i =
+Inv-loop cells₀ base site place receptor before capped sources habits count i₀ cells i =
     (i ≤ count)
     × (length cells ≡ length cells₀)
     × CellsHold (columnsWorked site sources place receptor) (i * pathwaysPerChemical) cells base
     × SameBelow base cells₀ cells
-    × (first (chained (λ k. largeChemical site place receptor (sourceAt sources k) (before + k * pathwaysPerChemical)) i) ≡ Passed)
+    × (first (chained (λ k. faultyChemical capped site place receptor (sourceAt sources k) (before + k * pathwaysPerChemical)) i) ≡ Passed)
     × (ZeroFrom base cells₀ → CellsEmpty (i * pathwaysPerChemical) cells base × ZeroFrom (base + receptorCells) cells)
 
 abbrev μ-loop : tie.MeasureT-loop
-μ-loop cells₀ base site place receptor before sources habits count i₀ cells i = count - i
+μ-loop cells₀ base site place receptor before capped sources habits count i₀ cells i = count - i
 
 habits-of-requires : tie.Need-habits-of-requires Inv-loop μ-loop
 habits-of-requires c κs = search needs
@@ -76,7 +76,7 @@ returns c =
     let put = c .before .before .before .before .put-chemical in
     let same = put .ensures .1 .1 in
     let stop = c .enum-told .given .1 in (
-      chemical-stops (a .site) (a .place) (a .receptor) (a .t6) _ (l .i) here (a .before) (put .result) (put .ensures .0) (l .inv .4) test _ _ _ stop,
+      chemical-stops (a .capped) (a .site) (a .place) (a .receptor) (a .t6) _ (l .i) here (a .before) (put .result) (put .ensures .0) (l .inv .4) test _ _ _ stop,
       (
         λ e. absurd (never _ _ _ _ stop e),
         (
@@ -110,13 +110,13 @@ loop-again c =
     let read = c .enum-told2 .given .1 in
     let columns = columnsWorked (a .site) (a .t6) (a .place) (a .receptor) in
     let filled : CellsHold (λ p. columns (l .i * pathwaysPerChemical + p)) pathwaysPerChemical (put .last .0) (a .base + l .i * pathwaysPerChemical) =
-    λ e w p h. put .ensures .1 .0 read e w p h ∙ ap (cellOf w) (lines-are (a .site) (a .place) (a .receptor) (a .t6) _ (l .i) here p h e)
+    λ e w p h. put .ensures .1 .0 read e w p h ∙ ap (cellOf w) (lines-are (a .capped) (a .site) (a .place) (a .receptor) (a .t6) _ (l .i) here p h e)
     in (
       omega (arith, test),
       put .kept .0 ∙ l .inv .1,
       chemical-held (a .base) (l .i) (l .cells) (put .last .0) few same columns (l .inv .2) filled,
       chemical-below (a .base) (l .i) (l .cells) (put .last .0) few same (a .cells .now) (l .inv .3),
-      chemical-on (a .site) (a .place) (a .receptor) (a .t6) _ (l .i) here (a .before) (put .result) (put .ensures .0) (l .inv .4) read,
+      chemical-on (a .capped) (a .site) (a .place) (a .receptor) (a .t6) _ (l .i) here (a .before) (put .result) (put .ensures .0) (l .inv .4) read,
       λ z.
           let kept = l .inv .5 z in (
             chemical-empty (a .base) (l .i) (l .cells) (put .last .0) few same ((l .i + 1) * pathwaysPerChemical) (omega arith) (kept .0),
@@ -128,7 +128,7 @@ same-length-2 : tie.Need-same-length-2 Inv-loop μ-loop
 same-length-2 c = c .before .loop .inv .1
 
 returns-2 : tie.Need-returns-2 Inv-loop μ-loop
-unfolding largeWorked
+unfolding faultyWorked
 returns-2 c =
     let s = c .before .before .before .before in
     let l = c .before .loop in

@@ -1,4 +1,4 @@
--- `sheet::lines::put_receptors` meets its contract. The invariant: no line so far is above a cap, and where all cells were 0, they hold
+-- `sheet::lines::put_receptors` meets its contract. The invariant: no line so far stops, and where all cells were 0, they hold
 -- the lines of the receptors so far and 0 for the others. Assumes nothing.
 use mathlib.Core.Path.{_≡_, refl, sym, _∙_}
 use Prim.Native.Nat.{_+_, _*_, _-_, _≤_, _<_}
@@ -12,21 +12,21 @@ use Rattle.cases.specs.declared.Status.the-variants.{Passed}
 use Rattle.cases.specs.Conditions.{first}
 use Rattle.cases.proofs.FirstMet.{never}
 use Rattle.lists.specs.Lists.{chained}
-use Rattle.sheet.specs.Inner.{allLarge, CellsFilled, ZeroFrom}
-use Rattle.sheet.proofs.ReceptorLaws.{receptor-is, large-on, large-stops}
+use Rattle.sheet.specs.Inner.{allFaulty, CellsFilled, ZeroFrom}
+use Rattle.sheet.proofs.ReceptorLaws.{receptor-is, fault-on, fault-stops}
 use Rattle.sheet.proofs.CellLaws.{receptor-held}
 use Rattle.sheet.proofs.lines.put_receptors.Statement.{statement}
 use Rattle.sheet.proofs.lines.put_receptors.Tie as tie
 
 abbrev Inv-loop : tie.InvT-loop
-Inv-loop cells₀ site sources receptors count per j₀ cells j =
+Inv-loop cells₀ site sources capped receptors count per j₀ cells j =
     (j ≤ count)
     × (length cells ≡ length cells₀)
-    × (first (allLarge site sources (receptors .list) j) ≡ Passed)
+    × (first (allFaulty capped site sources (receptors .list) j) ≡ Passed)
     × (ZeroFrom 0 cells₀ → CellsFilled site sources (receptors .list) j cells × ZeroFrom (receptorCells * j) cells)
 
 abbrev μ-loop : tie.MeasureT-loop
-μ-loop cells₀ site sources receptors count per j₀ cells j = count - j
+μ-loop cells₀ site sources capped receptors count per j₀ cells j = count - j
 
 mul-per : tie.Need-mul-per Inv-loop μ-loop
 mul-per c = search needs
@@ -35,7 +35,7 @@ add-per : tie.Need-add-per Inv-loop μ-loop
 add-per c = search needs
 
 loop-holds : tie.Need-loop-holds Inv-loop μ-loop
-unfolding allLarge chained first
+unfolding allFaulty chained first
 loop-holds c = (omega arith, refl, refl, λ z. (λ j h. absurd (not-suc-le-zero h), λ k h. z k (omega arith)))
 
 add-next : tie.Need-add-next Inv-loop μ-loop
@@ -77,7 +77,7 @@ returns c =
     let test = c .before .before .before .before .before .before .before .loop-test .taken in
     let here : l .j < length (s .args .t3 .list) = omega (arith, test, s .pre) in
     let stop = c .enum-told .given .1 in (
-      large-stops (s .args .site) (s .args .sources) (s .args .t3 .list) _ (l .j) here _ refl _ (c .before .before .before .before .put-lines .ensures .0) (l .inv .2) (s .args .t3 .count) test _ _ _ stop,
+      fault-stops (s .args .capped) (s .args .site) (s .args .sources) (s .args .t3 .list) _ (l .j) here _ refl _ (c .before .before .before .before .put-lines .ensures .0) (l .inv .2) (s .args .t3 .count) test _ _ _ stop,
       λ e. absurd (never _ _ _ _ stop e),
     )
 
@@ -98,12 +98,12 @@ loop-again c =
     let lines = c .before .before .before .before .put-lines in (
       omega (arith, test),
       lines .kept .0 ∙ l .inv .1,
-      large-on (s .args .site) (s .args .sources) (s .args .t3 .list) _ (l .j) here _ refl _ (lines .ensures .0) (l .inv .2) read,
+      fault-on (s .args .capped) (s .args .site) (s .args .sources) (s .args .t3 .list) _ (l .j) here _ refl _ (lines .ensures .0) (l .inv .2) read,
       λ z.
           let kept = l .inv .3 z in
           let left = lines .ensures .1 .1 .1 (kept .1) in (
             receptor-held (s .args .site) (s .args .sources) (s .args .t3 .list) (l .j) (l .cells) (lines .last .0) (s .pre .2) _
-                (receptor-is (s .args .site) (s .args .sources) (s .args .t3 .list) _ (l .j) here _ refl) (kept .0) (lines .ensures .1 .1 .0) (lines .ensures .1 .0 read) (left .0),
+                (receptor-is (s .args .capped) (s .args .site) (s .args .sources) (s .args .t3 .list) _ (l .j) here _ refl) (kept .0) (lines .ensures .1 .1 .0) (lines .ensures .1 .0 read) (left .0),
             λ k h. left .1 k (omega arith),
           ),
     )
