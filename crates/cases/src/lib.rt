@@ -20,8 +20,8 @@ ghost use mathlib.Core.Path.{_≡_};
 ghost use Rattle.cases.specs.Cases.{maxReceptors};
 ghost use Rattle.cases.specs.Conditions.{toldOf};
 
-// A slot's value, read from a deck or given by a caller: digits × 10 ^ power. Absent where a lone - stands, and in slots that no record has. The
-// power stands first, so that a value takes 16 bytes and not 24.
+// A slot's value, read from a deck or given by a caller: digits × 10 ^ power. Absent where a lone - stands, where the year is blank, and in later
+// slots. The power stands first, so that a value takes 16 bytes and not 24.
 pub enum Value {
     Absent,
     Given { power: i32, digits: u64 },
