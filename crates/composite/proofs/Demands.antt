@@ -35,7 +35,7 @@ use Rattle.cases.specs.Cases.{valueAt, chemicalAt, receptorAt, ownersRecord, gi
 use Rattle.cases.specs.Ranged.{Fits, Ranged}
 use Rattle.deck.proofs.Accepted.{accepted}
 use Rattle.lists.proofs.Tabulated.{tabulated}
-use Rattle.scenario.specs.Scenario.{orOne, orNone, pairOf, fractionOf, noReceptor, chemicalIn, receptorIn, stayIn, pairsAt, scenarioWith, exactWith, timeGiven, depositionOf, receptorWith}
+use Rattle.scenario.specs.Scenario.{orNoPair, orNoTime, pairOf, fractionOf, noReceptor, chemicalIn, receptorIn, stayIn, pairsAt, scenarioWith, exactWith, timeGiven, depositionOf, receptorWith}
 use Rattle.scenario.proofs.Sound.{Sound}
 use Rattle.scenario.proofs.InputLaws.{value-good, value-entered, receptor-fits, made-sound}
 use Rattle.scenario.proofs.DepositionLaws.{time-told, deposition-told, later-good}
@@ -52,9 +52,9 @@ use Rattle.composite.proofs.Weighing.{composed-good}
 use Rattle.composite.proofs.StageTimes.{Lasting, printed-lasts, together-lasts, together-is, pair-good}
 
 -- an answer is what is taken of it
-answer-taken : (P : Profile) (o : Outcome Pair) (x : Fraction) → Good P o x → o ≡ is (orOne o)
-unfolding orOne
-answer-taken P o x g = g .told ∙ ap (λ (q : Outcome Pair). is (orOne q)) (sym (g .told))
+answer-taken : (P : Profile) (o : Outcome Pair) (x : Fraction) → Good P o x → o ≡ is (orNoPair o)
+unfolding orNoPair
+answer-taken P o x g = g .told ∙ ap (λ (q : Outcome Pair). is (orNoPair q)) (sym (g .told))
 
 years-owner : ownerOf "years" ≡ Receptor
 unfolding ownerOf isIn same table
@@ -117,7 +117,7 @@ module _ (case : Case) (ranged : Ranged Composite case) where
   slot-taken s e =
       let k : placeOf s < slotsPerRecord = subst (λ (o : Owner). placeOf s < places o) e (inside s) in
       answer-taken (ofSlot s) (pairComposite case (placeOf s)) (composed fractions (exactStage case) exact-sum (lastStage case) (placeOf s)) (slot-good s e)
-      ∙ ap (λ (p : Pair). is p) (sym (tabulated (λ i. orOne (pairComposite case i)) onePair slotsPerRecord (placeOf s) k))
+      ∙ ap (λ (p : Pair). is p) (sym (tabulated (λ i. orNoPair (pairComposite case i)) onePair slotsPerRecord (placeOf s) k))
 
   receptor-good : (j : ℕ) → j < 1 → (s : Slot) → ownerOf s ≡ Receptor
       → Good (ofSlot s) (is (valueIn (getD (compositeFrom case .list) j noReceptor .values) (placeOf s))) (exactComposite case j s)

@@ -23,7 +23,7 @@ use Rattle.lists.specs.Lists.{tabulate}
 use Rattle.cases.specs.Cases.{noRecord, valueAt, receptorAt}
 use Rattle.scenario.specs.declared.Receptor.{Receptor}
 use Rattle.scenario.specs.declared.Receptors.{Receptors}
-use Rattle.scenario.specs.Scenario.{orOne, pairOf, noReceptor, orNone, timeGiven, depositionOf, receptorWith}
+use Rattle.scenario.specs.Scenario.{orNoPair, pairOf, noReceptor, orNoTime, timeGiven, depositionOf, receptorWith}
 use Rattle.lists.proofs.Tabulated.{tabulated}
 use Rattle.composite.specs.Composite.{summed, sumOfYears, mean, composed, yearsTogether, pairStage, lastStage, stageYears, timeExposed, pairComposite, compositeReceptor, compositeFrom}
 use Rattle.composite.specs.Inner.{pairIn, stageIn, yearsIn, yearAt, weightAt, timeIn, composedIn}
@@ -76,9 +76,9 @@ pub printed-is : (records : List Record) (blank : Record) (j : ℕ) → j < leng
 unfolding timeIn
 printed-is records blank j h = ap (λ (r : Record). timeGiven (valueAt r (placeOf "years"))) (read-any records j h blank noRecord)
 
-pub next-years : (f : ℕ → Years) (so-far new term : Years) (n : ℕ) → so-far ≡ yearsTogether f n → term ≡ f (n + 1) → new ≡ orNone (together so-far term) → new ≡ yearsTogether f (n + 1)
+pub next-years : (f : ℕ → Years) (so-far new term : Years) (n : ℕ) → so-far ≡ yearsTogether f n → term ≡ f (n + 1) → new ≡ orNoTime (together so-far term) → new ≡ yearsTogether f (n + 1)
 unfolding yearsTogether
-next-years f so-far new term n a b e = e ∙ ap orNone (ap₂ together a (b ∙ ap f (add-one n))) ∙ sym (ap (yearsTogether f) (add-one n))
+next-years f so-far new term n a b e = e ∙ ap orNoTime (ap₂ together a (b ∙ ap f (add-one n))) ∙ sym (ap (yearsTogether f) (add-one n))
 
 -- ---- the composite's value at a place
 module _ (stage : ℕ → ℕ → Outcome Pair) (exposure : Outcome Pair) (last k : ℕ) (total : Answer) (total-is : answer total ≡ sumOfYears pairs stage last) where
@@ -111,7 +111,7 @@ module _ (case : Case) (blank : Record) (h : 0 < length (case .receptors .record
   unfolding timeExposed stageYears timeIn lastStage receptorAt
   exposure-made = exposure-is
 
-  values-made : _≡_ {A = Values} values′ (record { list = tabulate slotsPerRecord (λ k. orOne (pairComposite case k)) })
+  values-made : _≡_ {A = Values} values′ (record { list = tabulate slotsPerRecord (λ k. orNoPair (pairComposite case k)) })
   unfolding pairComposite composedIn stageIn pairIn pairStage lastStage receptorAt
   values-made =
       let e = values-are ∙ ap (λ (o : Outcome Pair). composedIn (case .receptors .records) o (case .receptors .count - 1)) (rounded-is ∙ ap asPair exposure-made) in

@@ -17,7 +17,7 @@ use Rattle.pair.proofs.Promises.{_=ᶠ_, equal-turned, equal-through, plus-equa
 use Rattle.times.specs.declared.Years.{Years}
 use Rattle.times.specs.Times as years
 use Rattle.times.specs.Times.{amount, inYears}
-use Rattle.times.proofs.TimePromises.{none-is, amount-below, together-told, together-is-years, together-amount, together-same, years-proper, years-sized, pair-around, pair-answered}
+use Rattle.times.proofs.TimePromises.{amount-below, together-told, together-is-years, together-amount, together-same, years-proper, years-sized, pair-around, pair-answered}
 use Rattle.slots.specs.declared.Sort.{Sort}
 use Rattle.slots.specs.declared.Rule.{Rule}
 use Rattle.slots.specs.Slots.{Slot, positive, ruleFor}
@@ -28,7 +28,7 @@ use Rattle.cases.specs.declared.Value.the-variants.{Given}
 use Rattle.powers.specs.Powers.{above, below}
 use Rattle.cases.specs.Ranged.{Fits}
 use Rattle.cases.proofs.FitsLaws.{needed, range-positive, range-most, finest}
-use Rattle.scenario.specs.Scenario.{orNone, fractionOf, timeGiven}
+use Rattle.scenario.specs.Scenario.{orNoTime, fractionOf, timeGiven}
 use Rattle.scenario.proofs.InputLaws.{ten-above, place-power}
 use Rattle.scenario.proofs.DepositionLaws.{Exactly, printed-exactly}
 use Rattle.composite.specs.Composite.{summed, yearsTogether}
@@ -74,12 +74,6 @@ printed-lasts sort s v above-zero f =
           (place-power (g .power) (omega arith)) (ten-above depth) (ten-above (below (g .power))) (range-most rule (g .digits) (g .power) (g .ranged) 1000000000 m);
     }
 
--- a time above 0 is no refused one
-told-if : (o : Outcome Years) → 0 < amount (orNone o) → o ≡ is (orNone o)
-unfolding orNone
-told-if (is y) h = refl
-told-if (refused n) h = absurd (omega (arith, none-is .1))
-
 -- ---- sums
 proper-plus : {x y : Fraction} → Proper x → Proper y → Proper (plus x y)
 unfolding plus
@@ -89,14 +83,14 @@ module _ (a b : Years) (x y : Fraction) (m n : ℕ) (few : m + n < 10) (p : Last
   small : amount a + amount b < 10 ^ 37
   small = omega (arith, p .most, q .most)
 
-  pub added-told : years.together a b ≡ is (orNone (years.together a b))
-  unfolding orNone
+  pub added-told : years.together a b ≡ is (orNoTime (years.together a b))
+  unfolding orNoTime
   added-told = let h = together-told a b (p .exact .time) (q .exact .time) small in rw h refl
 
-  added-lasts : Lasting (m + n) (orNone (years.together a b)) (plus x y)
+  added-lasts : Lasting (m + n) (orNoTime (years.together a b)) (plus x y)
   unfolding inYears
   added-lasts =
-      let c : Years = orNone (years.together a b) in
+      let c : Years = orNoTime (years.together a b) in
       let e = together-amount a b c added-told in
       record {
         exact =
@@ -114,7 +108,7 @@ module _ (y : ℕ → Years) (x : ℕ → Fraction) (last : ℕ) (few : last < m
   unfolding yearsTogether summed fractions
   together-lasts zero h = each 0 (omega arith)
   together-lasts (suc n) h =
-      subst (λ (k : ℕ). Lasting k (orNone (years.together (yearsTogether y n) (y (suc n)))) (plus (summed fractions x n) (x (suc n)))) (omega arith)
+      subst (λ (k : ℕ). Lasting k (orNoTime (years.together (yearsTogether y n) (y (suc n)))) (plus (summed fractions x n) (x (suc n)))) (omega arith)
       (added-lasts (yearsTogether y n) (y (suc n)) (summed fractions x n) (x (suc n)) (suc n) 1 (omega arith) (together-lasts n (omega arith)) (each (suc n) h))
 
   pub together-is : (n : ℕ) → suc n ≤ last → years.together (yearsTogether y n) (y (suc n)) ≡ is (yearsTogether y (suc n))

@@ -24,7 +24,7 @@ use Rattle.lists.specs.Lists.{tabulate}
 use Rattle.cases.specs.Cases.{valueAt, receptorAt}
 use Rattle.scenario.specs.declared.Receptor.{Receptor}
 use Rattle.scenario.specs.declared.Receptors.{Receptors}
-use Rattle.scenario.specs.Scenario.{Scenario, orOne, pairOf, noReceptor, fractionOf, stayIn, pairsAt, scenarioWith, orNone, timeGiven, depositionOf, receptorWith}
+use Rattle.scenario.specs.Scenario.{Scenario, orNoPair, pairOf, noReceptor, fractionOf, stayIn, pairsAt, scenarioWith, orNoTime, timeGiven, depositionOf, receptorWith}
 use Rattle.report.specs.Forms.{Call}
 use Rattle.report.specs.Report.{rowsOf}
 use Rattle.report.specs.DemandTwo.{Timed, Exposed}
@@ -53,7 +53,7 @@ composed alg stage exposure last k =
 -- ---- the exposure of stages 0 to last, exact: f 0 + f 1 + .. + f n, in deck order
 unfoldable pub yearsTogether : (ℕ → Years) → ℕ → Years
 yearsTogether f zero = f 0
-yearsTogether f (suc n) = orNone (years.together (yearsTogether f n) (f (suc n)))
+yearsTogether f (suc n) = orNoTime (years.together (yearsTogether f n) (f (suc n)))
 
 -- ---- a case's stages, as pairs and exactly
 unfoldable pub pairStage : Case → ℕ → ℕ → Outcome Pair
@@ -77,7 +77,7 @@ pairComposite case k = composed pairs (pairStage case) (years.asPair (timeExpose
 
 unfoldable pub compositeReceptor : Case → Receptor
 compositeReceptor case =
-    receptorWith (receptorAt case 0 .id) (record { list = tabulate slotsPerRecord (λ k. orOne (pairComposite case k)) }) (timeExposed case) (depositionOf (case .site))
+    receptorWith (receptorAt case 0 .id) (record { list = tabulate slotsPerRecord (λ k. orNoPair (pairComposite case k)) }) (timeExposed case) (depositionOf (case .site))
 
 -- a single receptor
 unfoldable pub compositeFrom : Case → Receptors

@@ -11,7 +11,7 @@ use Rattle.cases.specs.declared.Record.{Record}
 use Rattle.sizes.specs.Sizes.{mostStages, slotsPerRecord}
 use Rattle.lists.specs.Lists.{tabulate}
 use Rattle.cases.specs.Cases.{noRecord, valueAt}
-use Rattle.scenario.specs.Scenario.{orOne, pairOf, timeGiven}
+use Rattle.scenario.specs.Scenario.{orNoPair, pairOf, timeGiven}
 use Rattle.composite.specs.Composite.{composed}
 
 -- the pair at place k of record j
@@ -37,4 +37,4 @@ timeIn records j = timeGiven (valueAt (getD records j noRecord) (placeOf "years"
 
 -- the composite's values, place by place
 unfoldable pub composedIn : List Record → Outcome Pair → ℕ → List Pair
-composedIn records exposure last = tabulate slotsPerRecord (λ k. orOne (composed pairs (stageIn records) exposure last k))
+composedIn records exposure last = tabulate slotsPerRecord (λ k. orNoPair (composed pairs (stageIn records) exposure last k))

@@ -26,5 +26,5 @@ pub fn report(deck: &[u8], out: &mut [u8]) -> Told
         return cases::tell(status);
     };
     let receptors = composite_of(reading.case);
-    report::write_report(reading.case.site, reading.case.chemicals, receptors, out)
+    report::write_entered(reading.case.site, reading.case.chemicals, receptors, out)
 }

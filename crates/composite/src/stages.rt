@@ -13,7 +13,6 @@ use slots::ATC;
 use slots::ED;
 use slots::T2;
 use slots::YEARS;
-use times::Time;
 use times::Years;
 ghost use mathlib.Core.Path.{_≡_};
 ghost use Prim.Native.Nat.{_<_, _≤_};
@@ -23,7 +22,7 @@ ghost use Rattle.times.specs.Times.{together};
 ghost use Rattle.slots.specs.Slots.{placeOf};
 ghost use Rattle.equations.specs.Formula.{pairs};
 ghost use Rattle.cases.specs.Cases.{valueAt};
-ghost use Rattle.scenario.specs.Scenario.{pairOf, noReceptor, orNone, timeGiven};
+ghost use Rattle.scenario.specs.Scenario.{pairOf, noReceptor, orNoTime, timeGiven};
 ghost use Rattle.composite.specs.Composite.{summed, sumOfYears, composed, yearsTogether, compositeFrom};
 ghost use Rattle.composite.specs.Inner.{stageIn, yearsIn, yearAt, weightAt, timeIn, composedIn};
 
@@ -99,14 +98,11 @@ fn time_in(stage: Record) -> Years
     scenario::time_given(v)
 }
 
-// The sum of two times; 0 for one that is refused, which printed years in range never come to.
+// The sum of two times, which printed years in range always have.
 fn added(sum: Years, next: Years) -> Years
-    ensures { λ y. ⌜ y ≡ orNone (together sum next) ⌝ }
+    ensures { λ y. ⌜ y ≡ orNoTime (together sum next) ⌝ }
 {
-    let Time::Is(y) = sum.together(next) else {
-        return Years::NONE;
-    };
-    y
+    scenario::or_no_time(sum.together(next))
 }
 
 // The exposure of stages 0 to last, exact.
@@ -156,7 +152,7 @@ fn composed_values(stages: Receptors, exposure: Answer, last: usize) -> Values
     let mut list = [Pair::ONE; SLOTS];
     let mut k: usize = 0;
     while k < SLOTS {
-        list[k] = scenario::or_one(composed_at(stages, years, total, exposure, last, k));
+        list[k] = scenario::or_no_pair(composed_at(stages, years, total, exposure, last, k));
         k += 1;
     }
     Values { list }
@@ -165,12 +161,11 @@ fn composed_values(stages: Receptors, exposure: Answer, last: usize) -> Values
 fn no_receptor() -> Receptor
     ensures { λ r. ⌜ r ≡ noReceptor ⌝ }
 {
-    let list = [Pair::ONE; SLOTS];
     Receptor {
         id: 0,
-        values: Values { list },
+        values: scenario::no_values(),
         stay: Stay::Within,
-        later: Pair::ONE,
+        later: scenario::NO_PAIR,
     }
 }
 

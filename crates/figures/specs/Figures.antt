@@ -31,7 +31,7 @@ use Rattle.totals.specs.declared.Columns.{Columns}
 use Rattle.totals.specs.declared.Columns.the-variants.{Absent, Counted}
 use Rattle.text.specs.declared.Row.{Row}
 use Rattle.text.specs.Text.{linesText}
-use Rattle.scenario.specs.Scenario.{orNone, stayIn, pairsAt}
+use Rattle.scenario.specs.Scenario.{orNoTime, stayIn, pairsAt}
 use Rattle.sheet.specs.Sheet.{columnsAt}
 use Rattle.composite.specs.Composite.{composed, yearsTogether, composite}
 use Rattle.report.specs.Forms.{scenarioOf, allConditions, outcomeOf}
@@ -200,7 +200,7 @@ fiveStages j k =
 -- their years as they are printed
 unfoldable pub fiveYears : ℕ → Years
 fiveYears j =
-    orNone (getD (years.printed 5 (negsuc 0) ∷ years.printed 45 (negsuc 0) ∷ years.printed 7 (pos 0) ∷ years.printed 8 (pos 0) ∷ years.printed 56 (pos 0) ∷ []) j (years.printed 0 (pos 0)))
+    orNoTime (getD (years.printed 5 (negsuc 0) ∷ years.printed 45 (negsuc 0) ∷ years.printed 7 (pos 0) ∷ years.printed 8 (pos 0) ∷ years.printed 56 (pos 0) ∷ []) j (years.printed 0 (pos 0)))
 
 -- every one of a list holds
 abbrev pub All : List (Type 0) → Type 0

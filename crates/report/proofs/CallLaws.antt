@@ -19,12 +19,12 @@ use Rattle.cases.proofs.FirstMet.{orElse, first-append, first-read}
 use Rattle.text.specs.declared.Row.{Row}
 use Rattle.sizes.specs.Sizes.{maxChemicals, mostReceptors}
 use Rattle.text.specs.Text.{reportLineWidth, linesText}
-use Rattle.scenario.specs.Scenario.{Scenario, scenarioWith, Exact}
+use Rattle.scenario.specs.Scenario.{Scenario, scenarioWith, Exact, scenarioConditions}
 use Rattle.scenario.specs.declared.Receptors.{Receptors}
 use Rattle.sheet.specs.Sheet.{largeLines}
-use Rattle.sheet.specs.Counts.{tooMany, cellsOf, cellsFor, sheetStatus, sheetCells}
+use Rattle.sheet.specs.Counts.{tooMany, refusals, sheetConditions, cellsOf, cellsFor, sheetStatus, sheetCells, enteredStatus, enteredCells}
 use Rattle.report.specs.Forms.{Form, lengthOf, tooShort, formConditions, Call, scenarioOf, exactOf, rowsFor, allConditions, statusOf, outcomeFor, outcomeOf, bufferFor, bufferOf}
-use Rattle.report.specs.InMemory.{writtenConditions, writtenStatus, writtenOutcome, writtenBuffer}
+use Rattle.report.specs.InMemory.{Road, onMemory, asRead, writtenStatus, writtenOutcome, writtenBuffer}
 use Rattle.scenario.proofs.Sound.{Sound}
 use Rattle.sheet.proofs.SheetCaseLaws.{few-records, conditions-agree}
 
@@ -41,30 +41,40 @@ first-passes : (xs ys : List Condition) (s : Status) → first xs ≡ Passed →
 unfolding orElse
 first-passes xs ys s e q = q ∙ sym (first-append xs ys ∙ ap (λ (x : Status). orElse x (first ys)) e)
 
--- ---- a form, a scenario and a buffer
-module _ (form : Form) (scenario : Scenario) (buffer : List ℕ) where
-  refused : (s : Status) (number line field : ℕ) (told : Told) → s ≡ writtenStatus form scenario (length buffer) → s ≡ Stopped number line field → told ≡ toldOf s
-      → (told ≡ writtenOutcome form scenario (length buffer)) × (buffer ≡ writtenBuffer form scenario buffer)
+-- ---- a road, a form, a scenario and a buffer
+module _ (road : Road) (form : Form) (scenario : Scenario) (buffer : List ℕ) where
+  -- what is told, and the buffer then
+  abbrev pub Answered : Told → List ℕ → Type 0
+  Answered told out = (told ≡ writtenOutcome road form scenario (length buffer)) × (out ≡ writtenBuffer road form scenario buffer)
+
+  refused : (s : Status) (number line field : ℕ) (told : Told) → s ≡ writtenStatus road form scenario (length buffer) → s ≡ Stopped number line field → told ≡ toldOf s → Answered told buffer
   unfolding toldOf writtenOutcome outcomeFor writtenBuffer bufferFor
   refused s number line field told e q t = (t ∙ rw (← e, q) refl, rw (← e, q) refl)
 
+  -- the rows are made from cells
+  rows-written : writtenStatus road form scenario (length buffer) ≡ Passed → (cells : List ℕ) → cells ≡ cellsOf scenario → (from : List ℕ → List Row) → form scenario ≡ from (cellsOf scenario)
+      → (out : List ℕ) (n : ℕ) → n ≡ lengthOf (form scenario) → out ≡ linesText (from cells) ++ drop (lengthOf (form scenario)) buffer → Answered (record { number = 0; line = n; field = 0 }) out
+  unfolding writtenOutcome outcomeFor writtenBuffer bufferFor
+  rows-written s cells cells-are from made out n m o =
+      (rw (s, m) refl, rw s (o ∙ ap (λ (rows : List Row). linesText rows ++ drop (lengthOf (form scenario)) buffer) (ap from cells-are ∙ sym made)))
+
+refusal : (number : ℕ) (told : Told) → (told .number ≡ number) × (told .line ≡ 0) × (told .field ≡ 0) → told ≡ toldOf (Stopped number 0 0)
+unfolding toldOf
+refusal number told e = λ i. record { number = e .0 i; line = e .1 i; field = e .2 i }
+
+-- ---- of values that were tested where they were read
+module _ (form : Form) (scenario : Scenario) (buffer : List ℕ) where
   -- 21
-  many : tooMany scenario ≡ true → (told : Told) → told ≡ toldOf (Stopped 21 0 0) → (told ≡ writtenOutcome form scenario (length buffer)) × (buffer ≡ writtenBuffer form scenario buffer)
-  unfolding writtenStatus writtenConditions first
-  many h told t = refused (Stopped 21 0 0) 21 0 0 told (rw h refl) refl t
+  many : tooMany scenario ≡ true → (told : Told) → told ≡ toldOf (Stopped 21 0 0) → Answered asRead form scenario buffer told buffer
+  unfolding writtenStatus asRead first
+  many h told t = refused asRead form scenario buffer (Stopped 21 0 0) 21 0 0 told (rw h refl) refl t
 
-  refusal : (number : ℕ) (told : Told) → (told .number ≡ number) × (told .line ≡ 0) × (told .field ≡ 0) → told ≡ toldOf (Stopped number 0 0)
-  unfolding toldOf
-  refusal number told e = λ i. record { number = e .0 i; line = e .1 i; field = e .2 i }
-
-  pub many-chemicals : maxChemicals < scenario .chemicals .count → (told : Told) → (told .number ≡ 21) × (told .line ≡ 0) × (told .field ≡ 0)
-      → (told ≡ writtenOutcome form scenario (length buffer)) × (buffer ≡ writtenBuffer form scenario buffer)
+  pub many-chemicals : maxChemicals < scenario .chemicals .count → (told : Told) → (told .number ≡ 21) × (told .line ≡ 0) × (told .field ≡ 0) → Answered asRead form scenario buffer told buffer
   unfolding tooMany
   many-chemicals h told t = many (rw (lt-ltb maxChemicals (scenario .chemicals .count) h) refl) told (refusal 21 told t)
 
   module _ (few-chemicals : scenario .chemicals .count ≤ maxChemicals) where
-    pub many-receptors : mostReceptors < scenario .receptors .count → (told : Told) → (told .number ≡ 21) × (told .line ≡ 0) × (told .field ≡ 0)
-        → (told ≡ writtenOutcome form scenario (length buffer)) × (buffer ≡ writtenBuffer form scenario buffer)
+    pub many-receptors : mostReceptors < scenario .receptors .count → (told : Told) → (told .number ≡ 21) × (told .line ≡ 0) × (told .field ≡ 0) → Answered asRead form scenario buffer told buffer
     unfolding tooMany
     many-receptors h told t = many (rw (le-ltb maxChemicals (scenario .chemicals .count) few-chemicals, lt-ltb mostReceptors (scenario .receptors .count) h) refl) told (refusal 21 told t)
 
@@ -74,38 +84,59 @@ module _ (form : Form) (scenario : Scenario) (buffer : List ℕ) where
       few = rw (le-ltb maxChemicals (scenario .chemicals .count) few-chemicals, le-ltb mostReceptors (scenario .receptors .count) few-receptors) refl
 
       -- 51
-      pub too-short : length buffer < lengthOf (form scenario) → (told : Told) → (told .number ≡ 51) × (told .line ≡ 0) × (told .field ≡ 0)
-          → (told ≡ writtenOutcome form scenario (length buffer)) × (buffer ≡ writtenBuffer form scenario buffer)
-      unfolding writtenStatus writtenConditions tooShort first
-      too-short h told t = refused (Stopped 51 0 0) 51 0 0 told (rw (few, lt-ltb _ _ h) refl) refl (refusal 51 told t)
+      pub too-short : length buffer < lengthOf (form scenario) → (told : Told) → (told .number ≡ 51) × (told .line ≡ 0) × (told .field ≡ 0) → Answered asRead form scenario buffer told buffer
+      unfolding writtenStatus asRead tooShort first
+      too-short h told t = refused asRead form scenario buffer (Stopped 51 0 0) 51 0 0 told (rw (few, lt-ltb _ _ h) refl) refl (refusal 51 told t)
 
       -- the report has room
-      module _ (room : lengthOf (form scenario) ≤ length buffer) (status : Status) (is-status : status ≡ sheetStatus scenario) where
-        status-is : status ≡ writtenStatus form scenario (length buffer)
-        unfolding writtenStatus writtenConditions tooShort first sheetStatus
+      module _ (room : lengthOf (form scenario) ≤ length buffer) (status : Status) (is-status : status ≡ enteredStatus scenario) where
+        status-is : status ≡ writtenStatus asRead form scenario (length buffer)
+        unfolding writtenStatus asRead tooShort first enteredStatus
         status-is = is-status ∙ rw (few, le-ltb _ _ room) refl
 
         -- the sheet stops
-        pub sheet-stops : (number line field : ℕ) (told : Told) → status ≡ Stopped number line field → told ≡ toldOf status
-            → (told ≡ writtenOutcome form scenario (length buffer)) × (buffer ≡ writtenBuffer form scenario buffer)
-        sheet-stops number line field told q t = refused status number line field told status-is q t
+        pub sheet-stops : (number line field : ℕ) (told : Told) → status ≡ Stopped number line field → told ≡ toldOf status → Answered asRead form scenario buffer told buffer
+        sheet-stops number line field told q t = refused asRead form scenario buffer status number line field told status-is q t
 
         -- and the report is written
-        module _ (none : status ≡ Passed) (cells : List ℕ) (held : cells ≡ sheetCells scenario) where
-          cells-are : cells ≡ cellsOf scenario
-          unfolding sheetCells cellsFor
-          cells-are = held ∙ ap (λ (x : Status). cellsFor x scenario) (sym is-status ∙ none)
+        pub written : status ≡ Passed → (cells : List ℕ) → cells ≡ enteredCells scenario → (from : List ℕ → List Row) → form scenario ≡ from (cellsOf scenario) → (out : List ℕ) (n : ℕ) → n ≡ lengthOf (form scenario)
+            → out ≡ linesText (from cells) ++ drop (lengthOf (form scenario)) buffer → Answered asRead form scenario buffer (record { number = 0; line = n; field = 0 }) out
+        unfolding enteredCells cellsFor
+        written none cells held = rows-written asRead form scenario buffer (sym status-is ∙ none) cells (held ∙ ap (λ (x : Status). cellsFor x scenario) (sym is-status ∙ none))
 
-          -- its rows are made from cells
-          pub written : (from : List ℕ → List Row) → form scenario ≡ from (cellsOf scenario) → (out : List ℕ) (n : ℕ) → n ≡ lengthOf (form scenario)
-              → out ≡ linesText (from cells) ++ drop (lengthOf (form scenario)) buffer
-              → (_≡_ {A = Told} (record { number = 0; line = n; field = 0 }) (writtenOutcome form scenario (length buffer))) × (out ≡ writtenBuffer form scenario buffer)
-          unfolding writtenOutcome outcomeFor writtenBuffer bufferFor
-          written from made out n m o =
-              let s : writtenStatus form scenario (length buffer) ≡ Passed = sym status-is ∙ none in (
-                rw (s, m) refl,
-                rw s (o ∙ ap (λ (rows : List Row). linesText rows ++ drop (lengthOf (form scenario)) buffer) (ap from cells-are ∙ sym made)),
-              )
+-- ---- of a scenario in memory, whatever its values are
+module _ (form : Form) (scenario : Scenario) (buffer : List ℕ) (s : Status) (is-first : s ≡ first (scenarioConditions scenario)) where
+  -- 21, 22, 32, 33
+  pub memory-stops : (number line field : ℕ) → s ≡ Stopped number line field → (told : Told) → told ≡ toldOf s → Answered onMemory form scenario buffer told buffer
+  unfolding writtenStatus onMemory
+  memory-stops number line field q told t = refused onMemory form scenario buffer s number line field told (first-stops (scenarioConditions scenario) _ s number line field is-first q) q t
+
+  module _ (none : s ≡ Passed) where
+    passed : first (scenarioConditions scenario) ≡ Passed
+    passed = sym is-first ∙ none
+
+    -- 51
+    pub memory-short : length buffer < lengthOf (form scenario) → (told : Told) → (told .number ≡ 51) × (told .line ≡ 0) × (told .field ≡ 0) → Answered onMemory form scenario buffer told buffer
+    unfolding writtenStatus onMemory tooShort first
+    memory-short h told t =
+        refused onMemory form scenario buffer (Stopped 51 0 0) 51 0 0 told (first-passes (scenarioConditions scenario) _ (Stopped 51 0 0) passed (rw (lt-ltb _ _ h) refl)) refl (refusal 51 told t)
+
+    -- the report has room: 53 and 42 are the sheet's
+    module _ (room : lengthOf (form scenario) ≤ length buffer) (status : Status) (is-status : status ≡ sheetStatus scenario) where
+      counts-are : status ≡ writtenStatus onMemory form scenario (length buffer)
+      unfolding writtenStatus onMemory tooShort first sheetStatus sheetConditions
+      counts-are =
+          is-status
+          ∙ sym (first-passes (scenarioConditions scenario) (refusals scenario) (first (refusals scenario)) passed refl)
+          ∙ first-passes (scenarioConditions scenario) _ (first (refusals scenario)) passed (rw (le-ltb _ _ room) refl)
+
+      pub counts-stop : (number line field : ℕ) (told : Told) → status ≡ Stopped number line field → told ≡ toldOf status → Answered onMemory form scenario buffer told buffer
+      counts-stop number line field told q t = refused onMemory form scenario buffer status number line field told counts-are q t
+
+      pub counts-written : status ≡ Passed → (cells : List ℕ) → cells ≡ sheetCells scenario → (from : List ℕ → List Row) → form scenario ≡ from (cellsOf scenario) → (out : List ℕ) (n : ℕ) → n ≡ lengthOf (form scenario)
+          → out ≡ linesText (from cells) ++ drop (lengthOf (form scenario)) buffer → Answered onMemory form scenario buffer (record { number = 0; line = n; field = 0 }) out
+      unfolding sheetCells cellsFor
+      counts-written done cells held = rows-written onMemory form scenario buffer (sym counts-are ∙ done) cells (held ∙ ap (λ (x : Status). cellsFor x scenario) (sym is-status ∙ done))
 
 -- ---- a sound scenario, of which a form in memory prints what a call's form does: where no line is too large, its rows; and always as many of them
 pub record Prints (memory form : Form) (scenario : Scenario) : Type 0 where
@@ -117,8 +148,8 @@ module _ (memory form : Form) (scenario : Scenario) {exact : Exact} (sound : Sou
   unfolding lengthOf
   same-length = ap (λ (n : ℕ). reportLineWidth * n) (prints .many)
 
-  status-agrees : writtenStatus memory scenario (length buffer) ≡ first (formConditions (form scenario) scenario (length buffer))
-  unfolding writtenStatus writtenConditions formConditions tooShort first
+  status-agrees : writtenStatus asRead memory scenario (length buffer) ≡ first (formConditions (form scenario) scenario (length buffer))
+  unfolding writtenStatus asRead formConditions tooShort first
   status-agrees = rw (few-records scenario sound, conditions-agree scenario sound, same-length) refl
 
   told-if : (s : Status) → outcomeFor s (memory scenario) ≡ outcomeFor s (form scenario)
@@ -154,7 +185,7 @@ module _ (call : Call) (deck buffer : List ℕ) where
 
     pub answers : Sound (scenarioOf call deck) (exactOf call deck) → (memory : Form) → Prints memory (call .form) (scenarioOf call deck)
         → (receptors′ : Receptors) → receptors′ ≡ call .receptors (reading .case)
-        → (told : Told) (out : List ℕ) → told ≡ writtenOutcome memory (scenarioWith (reading .case) receptors′) (length buffer) → out ≡ writtenBuffer memory (scenarioWith (reading .case) receptors′) buffer
+        → (told : Told) (out : List ℕ) → told ≡ writtenOutcome asRead memory (scenarioWith (reading .case) receptors′) (length buffer) → out ≡ writtenBuffer asRead memory (scenarioWith (reading .case) receptors′) buffer
         → (told ≡ outcomeOf call deck (length buffer)) × (out ≡ bufferOf call deck buffer)
     unfolding writtenOutcome writtenBuffer outcomeOf bufferOf statusOf allConditions scenarioOf rowsFor
     answers sound memory prints receptors′ made told out t o =
@@ -163,13 +194,13 @@ module _ (call : Call) (deck buffer : List ℕ) where
         let here : first (formConditions (call .form scenario) scenario (length buffer)) ≡ statusOf call deck (length buffer) =
         first-passes (conditions (call .sort) deck) (formConditions (call .form scenario) scenario (length buffer)) _ deck-read refl
         in
-        let agreed : writtenStatus memory scenario (length buffer) ≡ statusOf call deck (length buffer) = status-agrees memory (call .form) scenario sound prints buffer ∙ here in (
+        let agreed : writtenStatus asRead memory scenario (length buffer) ≡ statusOf call deck (length buffer) = status-agrees memory (call .form) scenario sound prints buffer ∙ here in (
           t
-              ∙ ap (λ (x : Scenario). writtenOutcome memory x (length buffer)) same
+              ∙ ap (λ (x : Scenario). writtenOutcome asRead memory x (length buffer)) same
               ∙ ap (λ (s : Status). outcomeFor s (memory scenario)) agreed
               ∙ told-if memory (call .form) scenario sound prints buffer (statusOf call deck (length buffer)),
           o
-              ∙ ap (λ (x : Scenario). writtenBuffer memory x buffer) same
+              ∙ ap (λ (x : Scenario). writtenBuffer asRead memory x buffer) same
               ∙ ap (λ (s : Status). bufferFor s (memory scenario) buffer) agreed
               ∙ buffer-if memory (call .form) scenario sound prints buffer (statusOf call deck (length buffer)) here,
         )

@@ -11,12 +11,12 @@ use Rattle.times.specs.declared.Years.{Years}
 use Rattle.times.specs.Times as years
 use Rattle.times.specs.Times.{amount, isYears}
 use Rattle.times.proofs.TimePromises.{at-most-told, beyond-answered}
-use Rattle.scenario.specs.Scenario.{orOne, stayIf, laterIf}
+use Rattle.scenario.specs.Scenario.{orNoPair, stayIf, laterIf}
 use Rattle.report.specs.DemandTwo.{isBeyond, Exposed}
 
-taken : (o : Outcome Pair) (p : Pair) → o ≡ is p → o ≡ is (orOne o)
-unfolding orOne
-taken o p e = e ∙ ap (λ (a : Outcome Pair). is (orOne a)) (sym e)
+taken : (o : Outcome Pair) (p : Pair) → o ≡ is p → o ≡ is (orNoPair o)
+unfolding orNoPair
+taken o p e = e ∙ ap (λ (a : Outcome Pair). is (orNoPair a)) (sym e)
 
 module _ (exposure deposition : Years) (T2 : isYears exposure ≡ true) (tD : isYears deposition ≡ true) where
   by-order : (t : Bool) → leb (amount exposure) (amount deposition) ≡ t → years.atMost exposure deposition ≡ is t → Exposed exposure deposition (stayIf (is t)) (laterIf (stayIf (is t)) exposure deposition)

@@ -1,4 +1,4 @@
--- No call on a deck tells 41, nor does the call on a scenario in memory. Assumes nothing.
+-- No call on a deck tells 41, nor do the calls on a scenario in memory. Assumes nothing.
 use Prim.Native.Nat.{ℕ}
 use native.Mathlib.Omega.{arith}
 use mathlib.Core.Path.{_≡_, refl}
@@ -10,11 +10,11 @@ use Rattle.cases.specs.Conditions.{Condition, Without, first, toldOf}
 use Rattle.deck.specs.DeckConditions.{conditions}
 use Rattle.cases.proofs.FirstMet.{without-append, told-without}
 use Rattle.deck.proofs.DeckWithout.{deck-without}
-use Rattle.scenario.specs.Scenario.{Scenario}
-use Rattle.sheet.proofs.SheetWithout.{large-without, sheet-without}
+use Rattle.scenario.specs.Scenario.{Scenario, scenarioConditions}
+use Rattle.sheet.proofs.SheetWithout.{large-without, scenario-without, refusals-without, entered-without}
 use Rattle.text.specs.declared.Row.{Row}
 use Rattle.report.specs.Forms.{Form, tooShort, formConditions, Call, scenarioOf, rowsFor, allConditions, statusOf, outcomeFor, outcomeOf}
-use Rattle.report.specs.InMemory.{writtenConditions, writtenStatus, writtenOutcome}
+use Rattle.report.specs.InMemory.{onMemory, asRead, writtenStatus, writtenOutcome}
 
 same-number : (s : Status) (rows : List Row) → outcomeFor s rows .number ≡ toldOf s .number
 unfolding outcomeFor toldOf
@@ -39,7 +39,12 @@ pub report-never : (call : Call) (deck : List ℕ) (room : ℕ) → outcomeOf ca
 unfolding outcomeOf statusOf
 report-never call deck room = outcome-without (allConditions call deck room) (rowsFor call deck) (conditions-without call deck room)
 
-pub written-never : (form : Form) (scenario : Scenario) (room : ℕ) → writtenOutcome form scenario room .number ≢ 41
-unfolding writtenOutcome writtenStatus writtenConditions tooShort
+pub written-never : (form : Form) (scenario : Scenario) (room : ℕ) → writtenOutcome onMemory form scenario room .number ≢ 41
+unfolding writtenOutcome writtenStatus onMemory tooShort
 written-never form scenario room =
-    outcome-without (writtenConditions (form scenario) scenario room) (form scenario) (λ e. omega arith, (λ e. omega arith, sheet-without scenario))
+    outcome-without (onMemory (form scenario) scenario room) (form scenario) (without-append 41 (scenarioConditions scenario) _ (scenario-without scenario) (λ e. omega arith, refusals-without scenario))
+
+pub entered-never : (form : Form) (scenario : Scenario) (room : ℕ) → writtenOutcome asRead form scenario room .number ≢ 41
+unfolding writtenOutcome writtenStatus asRead tooShort
+entered-never form scenario room =
+    outcome-without (asRead (form scenario) scenario room) (form scenario) (λ e. omega arith, (λ e. omega arith, entered-without scenario))

@@ -12,10 +12,10 @@ use Rattle.cases.specs.Cases.{noRecord}
 use Rattle.text.specs.declared.Row.{Row}
 use Rattle.sizes.specs.Sizes.{pathwaysPerChemical}
 use Rattle.lists.specs.Lists.{chained}
-use Rattle.sheet.specs.Counts.{tooMany, sheetConditions, cellsOf, columnsIn, totalIn}
+use Rattle.sheet.specs.Counts.{tooMany, refusals, enteredConditions, cellsOf, columnsIn, totalIn}
 pub use Rattle.sheet.specs.Inner.{perReceptor}
 use Rattle.scenario.specs.declared.Receptor.{Receptor}
-use Rattle.scenario.specs.Scenario.{Scenario, noReceptor}
+use Rattle.scenario.specs.Scenario.{Scenario, noReceptor, scenarioConditions}
 use Rattle.report.specs.Forms.{Form, tooShort, outcomeFor, bufferFor}
 
 -- receptor j's line q, counted from 0, and the total line of its first n lines
@@ -42,15 +42,23 @@ reportIn cells chemicals′ list = chained (λ j. rowsIn cells j (getD list j no
 unfoldable pub writtenRows : Form
 writtenRows scenario = reportIn (cellsOf scenario) (scenario .chemicals) (scenario .receptors .list) (scenario .receptors .count)
 
--- 21 for more records than a sheet has room for, 51, then the sheet's own conditions
-unfoldable pub writtenConditions : List Row → Scenario → ℕ → List Condition
-writtenConditions rows scenario room = at 21 0 0 (tooMany scenario) ∷ tooShort rows room ∷ sheetConditions scenario
+-- ---- where a report stops: by which list
+abbrev pub Road : Type 0
+Road = List Row → Scenario → ℕ → List Condition
 
-unfoldable pub writtenStatus : Form → Scenario → ℕ → Status
-writtenStatus form scenario room = first (writtenConditions (form scenario) scenario room)
+-- a scenario in memory, whatever its values are: 21, 22, then 32 and 33 by slot; 51; then 53 and 42
+unfoldable pub onMemory : Road
+onMemory rows scenario room = scenarioConditions scenario ++ (tooShort rows room ∷ refusals scenario)
 
-unfoldable pub writtenOutcome : Form → Scenario → ℕ → Told
-writtenOutcome form scenario room = outcomeFor (writtenStatus form scenario room) (form scenario)
+-- one whose values a deck's reading has tested, which are not tested again: 21 for more records than there is room for, 51, then the sheet's own
+unfoldable pub asRead : Road
+asRead rows scenario room = at 21 0 0 (tooMany scenario) ∷ tooShort rows room ∷ enteredConditions scenario
 
-unfoldable pub writtenBuffer : Form → Scenario → List ℕ → List ℕ
-writtenBuffer form scenario buffer = bufferFor (writtenStatus form scenario (length buffer)) (form scenario) buffer
+unfoldable pub writtenStatus : Road → Form → Scenario → ℕ → Status
+writtenStatus road form scenario room = first (road (form scenario) scenario room)
+
+unfoldable pub writtenOutcome : Road → Form → Scenario → ℕ → Told
+writtenOutcome road form scenario room = outcomeFor (writtenStatus road form scenario room) (form scenario)
+
+unfoldable pub writtenBuffer : Road → Form → Scenario → List ℕ → List ℕ
+writtenBuffer road form scenario buffer = bufferFor (writtenStatus road form scenario (length buffer)) (form scenario) buffer

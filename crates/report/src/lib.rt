@@ -21,7 +21,7 @@ ghost use Rattle.text.specs.Text.{reportLineWidth};
 ghost use Rattle.scenario.specs.Scenario.{scenarioFrom};
 ghost use Rattle.report.specs.Forms.{outcomeOf, bufferOf};
 ghost use Rattle.report.specs.Report.{ordinary};
-ghost use Rattle.report.specs.InMemory.{perReceptor, writtenRows, writtenOutcome, writtenBuffer};
+ghost use Rattle.report.specs.InMemory.{perReceptor, writtenRows, onMemory, asRead, writtenOutcome, writtenBuffer};
 
 // The longest report: 388 lines.
 pub const MAX_REPORT: usize = LINE_WIDTH * MAX_RECEPTORS * (MAX_CHEMICALS * PATHWAYS + 1);
@@ -49,16 +49,48 @@ fn refused(number: u32) -> Told
     }
 }
 
-// The report of a scenario into the buffer: 0, the report's length, 0; or the number, line and field of the first condition that stops it,
-// and the buffer as it was. Every call on a deck ends here, however it made its receptors.
+// The report of a scenario into the buffer, whatever its values are: 0, the report's length, 0; or the number, line and field of the first
+// condition that stops it, and the buffer as it was.
 pub fn write_report(
     site: Record,
     chemicals: Chemicals,
     receptors: Receptors,
     out: &mut [u8],
 ) -> Told
-    ensures { λ r. ⌜ r ≡ writtenOutcome writtenRows (scenarioFrom site chemicals receptors) (length (now (out .entry))) ⌝ }
-    ensures { λ _. ⌜ now (out .exit) ≡ writtenBuffer writtenRows (scenarioFrom site chemicals receptors) (now (out .entry)) ⌝ }
+    ensures { λ r. ⌜ r ≡ writtenOutcome onMemory writtenRows (scenarioFrom site chemicals receptors) (length (now (out .entry))) ⌝ }
+    ensures { λ _. ⌜ now (out .exit) ≡ writtenBuffer onMemory writtenRows (scenarioFrom site chemicals receptors) (now (out .entry)) ⌝ }
+{
+    let status = scenario::scenario_status(site, chemicals, receptors);
+    let Status::Passed = status else {
+        return cases::tell(status);
+    };
+    let length = length_of(chemicals.count, receptors.count);
+    if out.len() < length {
+        return refused(TOO_SHORT);
+    }
+    let mut cells = [0u64; CELLS];
+    let worked = sheet::counts_of(site, chemicals, receptors, &mut cells);
+    let Status::Passed = worked else {
+        return cases::tell(worked);
+    };
+    write_rows(out, &cells, chemicals, receptors);
+    Told {
+        number: 0,
+        line: length,
+        field: 0,
+    }
+}
+
+// The same of values that a deck's reading has tested, and that are not tested again. Every call on a deck ends here, however it made its
+// receptors.
+pub fn write_entered(
+    site: Record,
+    chemicals: Chemicals,
+    receptors: Receptors,
+    out: &mut [u8],
+) -> Told
+    ensures { λ r. ⌜ r ≡ writtenOutcome asRead writtenRows (scenarioFrom site chemicals receptors) (length (now (out .entry))) ⌝ }
+    ensures { λ _. ⌜ now (out .exit) ≡ writtenBuffer asRead writtenRows (scenarioFrom site chemicals receptors) (now (out .entry)) ⌝ }
 {
     if MAX_CHEMICALS < chemicals.count {
         return refused(TOO_MANY);
@@ -71,7 +103,7 @@ pub fn write_report(
         return refused(TOO_SHORT);
     }
     let mut cells = [0u64; CELLS];
-    let worked = sheet::counts_of(site, chemicals, receptors, &mut cells);
+    let worked = sheet::counts_entered(site, chemicals, receptors, &mut cells);
     let Status::Passed = worked else {
         return cases::tell(worked);
     };
@@ -94,5 +126,5 @@ pub fn report(deck: &[u8], out: &mut [u8]) -> Told
         return cases::tell(status);
     };
     let receptors = scenario::entered_from(reading.case);
-    write_report(reading.case.site, reading.case.chemicals, receptors, out)
+    write_entered(reading.case.site, reading.case.chemicals, receptors, out)
 }

@@ -32,7 +32,7 @@ use Rattle.sheet.specs.declared.Source.{Source}
 use Rattle.sheet.specs.declared.Sources.{Sources}
 use Rattle.lists.specs.Lists.{chained}
 use Rattle.sheet.specs.Sheet.{pathwayAt, columnsAt, unworked, overCap, linesPerReceptor, reportLine, lineRefused, lineTooLarge, overLines, refusedLines, largeLines, faultyLines}
-use Rattle.sheet.specs.Counts.{tooMany, groundFor, meanFor, stopsAt, noMediaAt, unmade, sheetConditions, enteredConditions, Part, cellOf, sideOf, effectAt, partAt, lineColumns, cellAt, cellsOf, noCells, cellsFor, allCells, effectCells, receptorCells}
+use Rattle.sheet.specs.Counts.{tooMany, groundFor, meanFor, stopsAt, noMediaAt, unmade, refusals, sheetConditions, enteredConditions, Part, cellOf, sideOf, effectAt, partAt, lineColumns, cellAt, cellsOf, noCells, cellsFor, allCells, effectCells, receptorCells}
 use Rattle.sheet.specs.Inner.{columnsOf, aboveCap, groundWith, sourceOf, sourcesOf, sourceAt, stopsWith, refusedSource, figuresFrom, figureFor, figuresWorked, columnsWorked, isLarge, isBroken, faultAt, faultyLine, faultyChemical, faultyWorked, perReceptor, allFaulty, linesFaulty, workedBy, strictly, partOf, CellsFilled, ZeroFrom}
 use Rattle.lists.proofs.Chained.{chained-same}
 use Rattle.sheet.proofs.ChemicalLaws.{source-at}
@@ -281,7 +281,7 @@ module _ (scenario : Scenario) where
 
   -- on memory
   pub memory-stops : (s : Status) → s ≡ first (scenarioConditions scenario) → (number line field : ℕ) → s ≡ Stopped number line field → (cells : List ℕ) → cells ≡ noCells → Called (sheetConditions scenario) s cells
-  unfolding sheetConditions strictly orElse
+  unfolding sheetConditions refusals strictly orElse
   memory-stops s is-first number line field stop cells none =
       called (sheetConditions scenario) s cells
       (stopped (sheetConditions scenario) s number line field stop
@@ -289,13 +289,13 @@ module _ (scenario : Scenario) where
 
   module _ (s : Status) (is-first : s ≡ first (scenarioConditions scenario)) (passed : s ≡ Passed) where
     rest-is : first (sheetConditions scenario) ≡ first (at 53 0 0 (unpairedIn (scenario .site) (scenario .chemicals)) ∷ strictly scenario)
-    unfolding sheetConditions orElse strictly
+    unfolding sheetConditions refusals orElse strictly
     rest-is = first-append (scenarioConditions scenario) _ ∙ ap (λ (t : Status). orElse t (first (at 53 0 0 (unpairedIn (scenario .site) (scenario .chemicals)) ∷ strictly scenario))) (sym is-first ∙ passed)
 
     -- there is room for its records
-    pub few-records : (scenario .chemicals .count ≤ maxChemicals) × (scenario .receptors .count ≤ mostReceptors)
+    pub room-in-memory : (scenario .chemicals .count ≤ maxChemicals) × (scenario .receptors .count ≤ mostReceptors)
     unfolding scenarioConditions memoryConditions idsOf
-    few-records =
+    room-in-memory =
         let counts = first-read _ _ (sym is-first ∙ passed) .0 in
         let t = counts-inside Ordinary (scenario .chemicals .count) (scenario .receptors .count) counts in
         (t .1, t .3)

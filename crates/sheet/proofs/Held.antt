@@ -24,7 +24,7 @@ use Rattle.totals.specs.Totals.{_added_, totalOf, listSum, allAtMost}
 use Rattle.scenario.specs.Scenario.{Scenario}
 use Rattle.lists.specs.Lists.{chained}
 use Rattle.sheet.specs.Sheet.{pathwayAt, columnsAt, addedOver, totalAt}
-use Rattle.sheet.specs.Counts.{Part, Mark, Low, High, cellOf, effectAt, partAt, lineColumns, cellAt, cellsOf, noCells, cellsFor, sheetStatus, sheetCells, columnsFrom, sideOf, isHeld, columnsFound, columnsIn, totalledFrom, totalFound, totalIn, allCells, effectCells, receptorCells}
+use Rattle.sheet.specs.Counts.{Part, Mark, Low, High, cellOf, effectAt, partAt, lineColumns, cellAt, cellsOf, noCells, cellsFor, sheetStatus, sheetCells, enteredStatus, enteredCells, columnsFrom, sideOf, isHeld, columnsFound, columnsIn, totalledFrom, totalFound, totalIn, allCells, effectCells, receptorCells}
 use Rattle.sheet.specs.Inner.{partOf, CellsHold}
 use Rattle.lists.proofs.Chained.{chained-length, flat}
 use Rattle.sheet.proofs.CellLaws.{side-small, part-small}
@@ -222,3 +222,7 @@ many-for (Stopped number line field) scenario = length-tabulate (λ k. 0) 0 0 al
 pub cells-many : (scenario : Scenario) → length (sheetCells scenario) ≡ allCells
 unfolding sheetCells
 cells-many scenario = many-for (sheetStatus scenario) scenario
+
+pub entered-many : (scenario : Scenario) → length (enteredCells scenario) ≡ allCells
+unfolding enteredCells
+entered-many scenario = many-for (enteredStatus scenario) scenario

@@ -5,7 +5,7 @@ mod SourceLaws
 mod ChemicalLaws
 mod ReceptorLaws
 mod CellLaws
-mod CountLaws
+pub mod CountLaws
 pub mod FaultLaws
 pub mod Held
 mod TotalLaws

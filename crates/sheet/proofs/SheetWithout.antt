@@ -15,8 +15,8 @@ use Rattle.cases.specs.CaseConditions.{slotConditions, recordConditions, chemic
 use Rattle.scenario.specs.Scenario.{Scenario, scenarioConditions}
 use Rattle.sizes.specs.Sizes.{pathwaysPerChemical, slotsPerRecord}
 use Rattle.lists.specs.Lists.{chained}
-use Rattle.sheet.specs.Sheet.{lineRefused, lineTooLarge, overLines, refusedLines, largeLines}
-use Rattle.sheet.specs.Counts.{noMediaAt, unmade, sheetConditions}
+use Rattle.sheet.specs.Sheet.{lineRefused, lineTooLarge, overLines, refusedLines, largeLines, faultyLines}
+use Rattle.sheet.specs.Counts.{noMediaAt, unmade, refusals, enteredConditions}
 
 line-without : (scenario : Scenario) (j i p : ℕ) → Without 41 (lineTooLarge scenario j i p)
 unfolding lineTooLarge
@@ -49,11 +49,14 @@ unfolding scenarioConditions memoryConditions sourceConditions chemicalCondition
 scenario-without scenario =
     (λ e. omega arith, (λ e. omega arith, without-append 41 (recordConditions Ordinary Site (scenario .site)) _ (record-without Site (scenario .site)) (without-chained 41 _ (λ i. record-without Chemical (getD (scenario .chemicals .records) i noRecord)) (scenario .chemicals .count))))
 
-pub worked-without : (scenario : Scenario) → Without 41 (unmade scenario ++ (refusedLines scenario ++ largeLines scenario))
-worked-without scenario =
-    without-append 41 (unmade scenario) (refusedLines scenario ++ largeLines scenario) (unmade-without 41 (λ e. omega arith) scenario)
-    (without-append 41 (refusedLines scenario) (largeLines scenario) (refused-without scenario) (large-without scenario))
+pub refusals-without : (scenario : Scenario) → Without 41 (refusals scenario)
+unfolding refusals
+refusals-without scenario =
+    (λ e. omega arith, without-append 41 (unmade scenario) (refusedLines scenario ++ largeLines scenario) (unmade-without 41 (λ e. omega arith) scenario)
+    (without-append 41 (refusedLines scenario) (largeLines scenario) (refused-without scenario) (large-without scenario)))
 
-pub sheet-without : (scenario : Scenario) → Without 41 (sheetConditions scenario)
-unfolding sheetConditions
-sheet-without scenario = without-append 41 (scenarioConditions scenario) _ (scenario-without scenario) (λ e. omega arith, worked-without scenario)
+pub entered-without : (scenario : Scenario) → Without 41 (enteredConditions scenario)
+unfolding enteredConditions faultyLines overLines lineRefused lineTooLarge
+entered-without scenario =
+    (λ e. omega arith, (λ e. omega arith, without-append 41 (unmade scenario) _ (unmade-without 41 (λ e. omega arith) scenario)
+    (without-chained 41 _ (λ j. without-chained 41 _ (λ i. without-chained 41 _ (λ p. (λ e. omega arith, (λ e. omega arith, tt))) pathwaysPerChemical) (scenario .chemicals .count)) (scenario .receptors .count))))

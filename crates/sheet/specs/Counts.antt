@@ -58,10 +58,13 @@ noMediaAt scenario i =
 unfoldable pub unmade : Scenario → List Condition
 unmade scenario = at 53 0 0 (lacks Ordinary Site (scenario .site)) ∷ chained (noMediaAt scenario) (scenario .chemicals .count)
 
+-- 53 wherever something has no pair or the pair rule refuses, then 42 by line
+unfoldable pub refusals : Scenario → List Condition
+refusals scenario = at 53 0 0 (unpairedIn (scenario .site) (scenario .chemicals)) ∷ (unmade scenario ++ (refusedLines scenario ++ largeLines scenario))
+
 -- the list of a call on memory
 unfoldable pub sheetConditions : Scenario → List Condition
-sheetConditions scenario =
-    scenarioConditions scenario ++ (at 53 0 0 (unpairedIn (scenario .site) (scenario .chemicals)) ∷ (unmade scenario ++ (refusedLines scenario ++ largeLines scenario)))
+sheetConditions scenario = scenarioConditions scenario ++ refusals scenario
 
 -- and of what a deck's reading has tested already, which is not tested again: what has no pair is refused here too, and no value is read as 1
 unfoldable pub enteredConditions : Scenario → List Condition

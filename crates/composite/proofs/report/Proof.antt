@@ -37,8 +37,8 @@ composite-of-requires c κs =
     let a = c .before .before .before .before .before .args in
     stages-few (now (a .deck)) (now (a .out)) _ (c .before .before .read .ensures .0) (c .enum-told .given .1)
 
-write-report-requires : tie.Need-write-report-requires
-write-report-requires c κs = search needs
+write-entered-requires : tie.Need-write-entered-requires
+write-entered-requires c κs = search needs
 
 same-length : tie.Need-same-length
 same-length c = search needs
@@ -50,7 +50,7 @@ returns-2 c =
     let reading = c .before .before .before .before .before .before .before .read .ensures .0 in
     let none = c .before .before .before .before .before .enum-told .given .1 in
     answers composite (now (a .deck)) (now (a .out)) _ reading none (composite-sounds .sound (now (a .deck)) (deck-read composite (now (a .deck)) (now (a .out)) _ reading none))
-    writtenRows (report-prints _ (composite-sounds .sound (now (a .deck)) (deck-read composite (now (a .deck)) (now (a .out)) _ reading none))) _ (c .before .before .before .before .composite-of .ensures) _ _ (c .before .before .write-report .ensures .0) (c .before .before .write-report .ensures .1)
+    writtenRows (report-prints _ (composite-sounds .sound (now (a .deck)) (deck-read composite (now (a .deck)) (now (a .out)) _ reading none))) _ (c .before .before .before .before .composite-of .ensures) _ _ (c .before .before .write-entered .ensures .0) (c .before .before .write-entered .ensures .1)
 
 pub report-spec : {M : Type 1} → statement M
 report-spec =
@@ -62,6 +62,6 @@ report-spec =
     tell-requires
     returns
     composite-of-requires
-    write-report-requires
+    write-entered-requires
     same-length
     returns-2)

@@ -34,8 +34,8 @@ returns c =
 entered-from-requires : tie.Need-entered-from-requires
 entered-from-requires c κs = search needs
 
-write-report-requires : tie.Need-write-report-requires
-write-report-requires c κs = search needs
+write-entered-requires : tie.Need-write-entered-requires
+write-entered-requires c κs = search needs
 
 same-length : tie.Need-same-length
 same-length c = search needs
@@ -47,7 +47,7 @@ returns-2 c =
     let reading = c .before .before .before .before .before .before .before .read .ensures .0 in
     let none = c .before .before .before .before .before .enum-told .given .1 in
     answers ordinary (now (a .deck)) (now (a .out)) _ reading none (ordinary-sounds .sound (now (a .deck)) (deck-read ordinary (now (a .deck)) (now (a .out)) _ reading none))
-    writtenRows (report-prints _ (ordinary-sounds .sound (now (a .deck)) (deck-read ordinary (now (a .deck)) (now (a .out)) _ reading none))) _ (c .before .before .before .before .entered-from .ensures) _ _ (c .before .before .write-report .ensures .0) (c .before .before .write-report .ensures .1)
+    writtenRows (report-prints _ (ordinary-sounds .sound (now (a .deck)) (deck-read ordinary (now (a .deck)) (now (a .out)) _ reading none))) _ (c .before .before .before .before .entered-from .ensures) _ _ (c .before .before .write-entered .ensures .0) (c .before .before .write-entered .ensures .1)
 
 pub report-spec : {M : Type 1} → statement M
 report-spec =
@@ -59,6 +59,6 @@ report-spec =
     tell-requires
     returns
     entered-from-requires
-    write-report-requires
+    write-entered-requires
     same-length
     returns-2)

@@ -6,40 +6,14 @@ use lib.ListN.{length}
 use Rattle.scenario.specs.Scenario.{scenarioFrom}
 use Rattle.report.specs.InMemory.{reportIn, writtenRows}
 use Rattle.sheet.proofs.Held.{cells-many}
+use Rattle.sheet.proofs.CountLaws.{room-in-memory}
 use Rattle.report.proofs.ReportLaws.{length-is, rows-from, past-rows}
-use Rattle.report.proofs.CallLaws.{many-chemicals, many-receptors, too-short, sheet-stops, written}
+use Rattle.report.proofs.CallLaws.{memory-stops, memory-short, counts-stop, counts-written}
 use Rattle.report.proofs.write_report.Statement.{statement}
 use Rattle.report.proofs.write_report.Tie as tie
 
-refused-requires : tie.Need-refused-requires
-refused-requires c κs = search needs
-
-returns : tie.Need-returns
-returns c =
-    let a = c .before .before .before .before .args in
-    many-chemicals writtenRows (scenarioFrom (a .site) (a .chemicals) (a .receptors)) (now (a .out)) (c .before .if1 .taken) (c .refused .result) (c .refused .ensures)
-
-refused-requires-2 : tie.Need-refused-requires-2
-refused-requires-2 c κs = search needs
-
-returns-2 : tie.Need-returns-2
-returns-2 c =
-    let a = c .before .before .before .before .before .before .args in
-    many-receptors writtenRows (scenarioFrom (a .site) (a .chemicals) (a .receptors)) (now (a .out)) (c .before .before .before .if1 .left) (c .before .if2 .taken) (c .refused2 .result) (c .refused2 .ensures)
-
-length-of-requires : tie.Need-length-of-requires
-length-of-requires c κs = search needs
-
-refused-requires-3 : tie.Need-refused-requires-3
-refused-requires-3 c κs = search needs
-
-returns-3 : tie.Need-returns-3
-returns-3 c =
-    let a = c .before .before .before .before .before .before .before .before .args in
-    too-short writtenRows (scenarioFrom (a .site) (a .chemicals) (a .receptors)) (now (a .out)) (c .before .before .before .before .before .if1 .left) (c .before .before .before .if2 .left) (rw (length-is (scenarioFrom (a .site) (a .chemicals) (a .receptors)) _ (c .before .before .length-of .ensures)) at (c .before .if3 .taken)) (c .refused3 .result) (c .refused3 .ensures)
-
-counts-of-requires : tie.Need-counts-of-requires
-counts-of-requires c κs = search needs
+scenario-status-requires : tie.Need-scenario-status-requires
+scenario-status-requires c κs = search needs
 
 enum-told : tie.Need-enum-told
 enum-told c = search needs
@@ -50,50 +24,84 @@ enum-told-2 c = search needs
 tell-requires : tie.Need-tell-requires
 tell-requires c κs = search needs
 
-returns-4 : tie.Need-returns-4
-returns-4 c =
-    let a = c .before .before .before .before .before .before .before .before .before .before .before .before .args in
-    let room = rw (length-is (scenarioFrom (a .site) (a .chemicals) (a .receptors)) _ (c .before .before .before .before .before .before .length-of .ensures)) at (c .before .before .before .before .before .if3 .left) in
-    sheet-stops writtenRows (scenarioFrom (a .site) (a .chemicals) (a .receptors)) (now (a .out)) (c .before .before .before .before .before .before .before .before .before .if1 .left) (c .before .before .before .before .before .before .before .if2 .left) room _ (c .before .before .before .counts-of .ensures .0) _ _ _ _ (c .before .enum-told2 .given .1) (c .tell .ensures)
+returns : tie.Need-returns
+returns c =
+    let a = c .before .before .before .before .before .args in
+    memory-stops writtenRows (scenarioFrom (a .site) (a .chemicals) (a .receptors)) (now (a .out)) _ (c .before .before .before .scenario-status .ensures) _ _ _ (c .before .enum-told2 .given .1) _ (c .tell .ensures)
+
+length-of-requires : tie.Need-length-of-requires
+length-of-requires c κs =
+    let a = c .before .before .before .before .args in
+    room-in-memory (scenarioFrom (a .site) (a .chemicals) (a .receptors)) _ (c .before .before .scenario-status .ensures) (c .enum-told .given .1)
+
+refused-requires : tie.Need-refused-requires
+refused-requires c κs = search needs
+
+returns-2 : tie.Need-returns-2
+returns-2 c =
+    let a = c .before .before .before .before .before .before .before .args in
+    memory-short writtenRows (scenarioFrom (a .site) (a .chemicals) (a .receptors)) (now (a .out)) _ (c .before .before .before .before .before .scenario-status .ensures) (c .before .before .before .enum-told .given .1) (rw (length-is (scenarioFrom (a .site) (a .chemicals) (a .receptors)) _ (c .before .before .length-of .ensures)) at (c .before .if1 .taken)) (c .refused .result) (c .refused .ensures)
+
+counts-of-requires : tie.Need-counts-of-requires
+counts-of-requires c κs = search needs
+
+enum-told-3 : tie.Need-enum-told-3
+enum-told-3 c = search needs
+
+enum-told-4 : tie.Need-enum-told-4
+enum-told-4 c = search needs
+
+tell-requires-2 : tie.Need-tell-requires-2
+tell-requires-2 c κs = search needs
+
+returns-3 : tie.Need-returns-3
+returns-3 c =
+    let a = c .before .before .before .before .before .before .before .before .before .before .before .args in
+    let room = rw (length-is (scenarioFrom (a .site) (a .chemicals) (a .receptors)) _ (c .before .before .before .before .before .before .length-of .ensures)) at (c .before .before .before .before .before .if1 .left) in
+    counts-stop writtenRows (scenarioFrom (a .site) (a .chemicals) (a .receptors)) (now (a .out)) _ (c .before .before .before .before .before .before .before .before .before .scenario-status .ensures) (c .before .before .before .before .before .before .before .enum-told .given .1) room _ (c .before .before .before .counts-of .ensures .0) _ _ _ _ (c .before .enum-told4 .given .1) (c .tell2 .ensures)
 
 slice-aggregate-write-rows : tie.Need-slice-aggregate-write-rows
 slice-aggregate-write-rows c =
-    let a = c .before .before .before .before .before .before .before .before .before .before .before .before .before .args in
+    let a = c .before .before .before .before .before .before .before .before .before .before .before .before .args in
     sym (ap length (c .before .before .before .before .counts-of .ensures .1) ∙ cells-many (scenarioFrom (a .site) (a .chemicals) (a .receptors)))
 
 write-rows-requires : tie.Need-write-rows-requires
-write-rows-requires c κs = search needs
+write-rows-requires c κs =
+    let a = c .before .before .before .before .before .before .before .before .before .before .before .before .args in
+    let few = room-in-memory (scenarioFrom (a .site) (a .chemicals) (a .receptors)) _ (c .before .before .before .before .before .before .before .before .before .before .scenario-status .ensures) (c .before .before .before .before .before .before .before .before .enum-told .given .1) in
+    (few, rw (c .before .before .before .before .before .before .before .length-of .ensures) at (c .before .before .before .before .before .before .if1 .left))
 
 same-length : tie.Need-same-length
 same-length c = search needs
 
-returns-5 : tie.Need-returns-5
-returns-5 c =
-    let a = c .before .before .before .before .before .before .before .before .before .before .before .before .before .before .before .before .args in
+returns-4 : tie.Need-returns-4
+returns-4 c =
+    let a = c .before .before .before .before .before .before .before .before .before .before .before .before .before .before .before .args in
     let scenario = scenarioFrom (a .site) (a .chemicals) (a .receptors) in
     let long = length-is scenario _ (c .before .before .before .before .before .before .before .before .before .before .length-of .ensures) in
-    let room = rw long at (c .before .before .before .before .before .before .before .before .before .if3 .left) in
+    let room = rw long at (c .before .before .before .before .before .before .before .before .before .if1 .left) in
     let worked = c .before .before .before .before .before .before .before .counts-of in
-    written writtenRows (scenarioFrom (a .site) (a .chemicals) (a .receptors)) (now (a .out)) (c .before .before .before .before .before .before .before .before .before .before .before .before .before .if1 .left) (c .before .before .before .before .before .before .before .before .before .before .before .if2 .left) room _ (worked .ensures .0) (c .before .before .before .before .before .enum-told .given .1) _ (worked .ensures .1)
+    counts-written writtenRows scenario (now (a .out)) _ (c .before .before .before .before .before .before .before .before .before .before .before .before .before .scenario-status .ensures) (c .before .before .before .before .before .before .before .before .before .before .before .enum-told .given .1) room _ (worked .ensures .0) (c .before .before .before .before .before .enum-told3 .given .1) _ (worked .ensures .1)
     (λ cells. reportIn cells (a .chemicals) (a .receptors .list) (a .receptors .count)) (rows-from scenario) _ _ long (past-rows scenario _ _ (now (a .out)) (c .before .before .write-rows .ensures))
 
 pub write-report-spec : {M : Type 1} → statement M
 write-report-spec =
     tie.close
     (tie.spec
-    refused-requires
-    returns
-    refused-requires-2
-    returns-2
-    length-of-requires
-    refused-requires-3
-    returns-3
-    counts-of-requires
+    scenario-status-requires
     enum-told
     enum-told-2
     tell-requires
-    returns-4
+    returns
+    length-of-requires
+    refused-requires
+    returns-2
+    counts-of-requires
+    enum-told-3
+    enum-told-4
+    tell-requires-2
+    returns-3
     slice-aggregate-write-rows
     write-rows-requires
     same-length
-    returns-5)
+    returns-4)

@@ -3,7 +3,7 @@ use borrow.Author.Needs.{needs}
 use mathlib.Core.Path.{sym, _∙_}
 use Rattle.scenario.specs.Scenario.{scenarioFrom}
 use Rattle.sheet.specs.Counts.{sheetStatus, sheetCells}
-use Rattle.sheet.proofs.CountLaws.{memory-stops, few-records, unpaired-stops, counted-strictly}
+use Rattle.sheet.proofs.CountLaws.{memory-stops, room-in-memory, unpaired-stops, counted-strictly}
 use Rattle.sheet.proofs.counts_of.Statement.{statement}
 use Rattle.sheet.proofs.counts_of.Tie as tie
 
@@ -37,7 +37,7 @@ returns-2 c =
 work-strictly-requires : tie.Need-work-strictly-requires
 work-strictly-requires c κs =
     let a = c .before .before .before .before .before .before .before .before .args in
-    let few = few-records (scenarioFrom (a .site) (a .chemicals) (a .receptors)) _ (c .before .before .before .before .before .scenario-status .ensures) (c .before .before .before .enum-told .given .1) in
+    let few = room-in-memory (scenarioFrom (a .site) (a .chemicals) (a .receptors)) _ (c .before .before .before .before .before .scenario-status .ensures) (c .before .before .before .enum-told .given .1) in
     (few .0, few .1, c .before .before .before .before .before .before .clear .ensures)
 
 returns-3 : tie.Need-returns-3

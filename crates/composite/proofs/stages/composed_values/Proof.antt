@@ -11,7 +11,7 @@ use Rattle.pair.specs.Calls.{onePair, answer}
 use Rattle.equations.specs.Formula.{pairs}
 use Rattle.lists.specs.Lists.{tabulate}
 use Rattle.lists.proofs.Tabulated.{filled-start, filled-more}
-use Rattle.scenario.specs.Scenario.{orOne}
+use Rattle.scenario.specs.Scenario.{orNoPair}
 use Rattle.composite.specs.Composite.{composed}
 use Rattle.composite.specs.Inner.{stageIn, composedIn}
 use Rattle.composite.proofs.StageLaws.{years-summed}
@@ -19,7 +19,7 @@ use Rattle.composite.proofs.stages.composed_values.Statement.{statement
 use Rattle.composite.proofs.stages.composed_values.Tie as tie
 
 abbrev Inv-loop : tie.InvT-loop
-Inv-loop stages exposure last years total list₀ k₀ list k = (k ≤ slotsPerRecord) × (list ≡ tabulate k (λ i. orOne (composed pairs (stageIn (stages .records)) (answer exposure) last i)) ++ replicate (slotsPerRecord - k) onePair)
+Inv-loop stages exposure last years total list₀ k₀ list k = (k ≤ slotsPerRecord) × (list ≡ tabulate k (λ i. orNoPair (composed pairs (stageIn (stages .records)) (answer exposure) last i)) ++ replicate (slotsPerRecord - k) onePair)
 
 abbrev μ-loop : tie.MeasureT-loop
 μ-loop stages exposure last years total list₀ k₀ list k = slotsPerRecord - k
@@ -34,14 +34,14 @@ loop-holds : tie.Need-loop-holds Inv-loop μ-loop
 unfolding onePair one
 loop-holds c =
     let s = c .before .before in
-    (omega arith, filled-start (λ i. orOne (composed pairs (stageIn (s .args .stages .records)) (answer (s .args .exposure)) (s .args .last) i)) onePair slotsPerRecord)
+    (omega arith, filled-start (λ i. orNoPair (composed pairs (stageIn (s .args .stages .records)) (answer (s .args .exposure)) (s .args .last) i)) onePair slotsPerRecord)
 
 composed-at-requires : tie.Need-composed-at-requires Inv-loop μ-loop
 composed-at-requires c κs =
     ((c .before .before .before .before .pre, c .loop-test .taken, c .before .before .before .years-of .ensures), c .before .before .sum-of-years .ensures ∙ years-summed (c .before .before .before .before .args .stages .records) (c .before .before .before .years-of .result .list) (c .before .before .before .years-of .ensures) (c .before .before .before .before .args .last) (c .before .before .before .before .pre))
 
-or-one-requires : tie.Need-or-one-requires Inv-loop μ-loop
-or-one-requires c κs = search needs
+or-no-pair-requires : tie.Need-or-no-pair-requires Inv-loop μ-loop
+or-no-pair-requires c κs = search needs
 
 mul-list : tie.Need-mul-list Inv-loop μ-loop
 mul-list c = search needs
@@ -60,7 +60,7 @@ loop-again c =
     let s = c .before .before .before .before .before .before in
     let l = c .before .before .before .loop in (
       omega (arith, c .before .before .loop-test .taken),
-      filled-more (λ i. orOne (composed pairs (stageIn (s .args .stages .records)) (answer (s .args .exposure)) (s .args .last) i)) onePair slotsPerRecord (l .k) (omega (arith, c .before .before .loop-test .taken)) (l .list) (l .inv .1) (c .or-one .result) (c .or-one .ensures ∙ ap orOne {y = composed pairs (stageIn (s .args .stages .records)) (answer (s .args .exposure)) (s .args .last) (l .k)} (c .before .composed-at .ensures)),
+      filled-more (λ i. orNoPair (composed pairs (stageIn (s .args .stages .records)) (answer (s .args .exposure)) (s .args .last) i)) onePair slotsPerRecord (l .k) (omega (arith, c .before .before .loop-test .taken)) (l .list) (l .inv .1) (c .or-no-pair .result) (c .or-no-pair .ensures ∙ ap orNoPair {y = composed pairs (stageIn (s .args .stages .records)) (answer (s .args .exposure)) (s .args .last) (l .k)} (c .before .composed-at .ensures)),
     )
 
 returns : tie.Need-returns Inv-loop μ-loop
@@ -69,7 +69,7 @@ returns c =
     let s = c .before .before .before .before in
     let l = c .before .loop in
     let all : l .k ≡ slotsPerRecord = omega (arith, c .loop-test .left) in
-    (rw all at (l .inv .1)) ∙ append-nil (tabulate slotsPerRecord (λ i. orOne (composed pairs (stageIn (s .args .stages .records)) (answer (s .args .exposure)) (s .args .last) i)))
+    (rw all at (l .inv .1)) ∙ append-nil (tabulate slotsPerRecord (λ i. orNoPair (composed pairs (stageIn (s .args .stages .records)) (answer (s .args .exposure)) (s .args .last) i)))
 
 pub composed-values-spec : {M : Type 1} → statement M
 composed-values-spec =
@@ -81,7 +81,7 @@ composed-values-spec =
     sum-of-years-requires
     loop-holds
     composed-at-requires
-    or-one-requires
+    or-no-pair-requires
     mul-list
     array-set-from-list
     add-k

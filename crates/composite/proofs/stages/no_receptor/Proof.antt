@@ -1,14 +1,16 @@
 -- `composite::stages::no_receptor` meets its contract. Assumes nothing.
+use borrow.Author.Needs.{needs}
 use mathlib.Core.Path.{refl}
-use Rattle.pair.specs.Number.{one}
-use Rattle.pair.specs.Calls.{onePair}
-use Rattle.scenario.specs.Scenario.{pairOf, valuesOf, noReceptor}
+use Rattle.scenario.specs.Scenario.{noPair, noReceptor}
 use Rattle.composite.proofs.stages.no_receptor.Statement.{statement}
 use Rattle.composite.proofs.stages.no_receptor.Tie as tie
 
+no-values-requires : tie.Need-no-values-requires
+no-values-requires c κs = search needs
+
 returns : tie.Need-returns
-unfolding noReceptor valuesOf pairOf onePair one
-returns c = refl
+unfolding noReceptor noPair
+returns c = rw (c .no-values .ensures) refl
 
 pub no-receptor-spec : {M : Type 1} → statement M
-no-receptor-spec = tie.close (tie.spec returns)
+no-receptor-spec = tie.close (tie.spec no-values-requires returns)
