@@ -1,17 +1,16 @@
 -- The numbers of a refusal, written one after the other into nineteen line feeds, of which the last stays. Assumes nothing.
 use mathlib.Core.Path.{_≡_, refl, sym, ap, _∙_}
-use mathlib.Core.List.{List, _++_, append-assoc}
+use mathlib.Core.List.{List, [], _∷_, _++_, append-assoc}
 use Prim.Native.Nat.{ℕ, _+_, _≤_}
 use native.Mathlib.Omega.{arith}
 use borrow.Rule.Slice.PartMut.{midOf, putMid}
 use lib.Dec.{lit<, lit≤}
 use lib.ListN.{length, take, drop, replicate, length-append, length-drop}
 use lib.Seq.{drop-drop, length-take-le}
-use Rattle.cases.specs.declared.Told.{Told}
 use Rattle.spelling.specs.Columns.{number, numberIn}
 use Rattle.spelling.proofs.Filling.{number-in, length-number}
 use Rattle.lists.proofs.Placed.{grown}
-use Rattle.answers.specs.Answers.{toldWidth, refusalText}
+use Rattle.answers.specs.Answers.{toldWidth}
 
 abbrev fresh : List ℕ
 fresh = replicate 19 10
@@ -31,19 +30,19 @@ module _ (text list part : List ℕ) (at n : ℕ) (e : list ≡ text ++ drop at 
       ∙ sym (append-assoc (take at list) (number toldWidth n) (drop (at + toldWidth) list))
       ∙ grown fresh text list (number toldWidth n) at toldWidth e lt (length-number toldWidth n (lit< tt))
 
-module _ (told : Told) (p₁ p₂ : List ℕ) (e₁ : p₁ ≡ numberIn (take toldWidth fresh) (told .number)) (e₂ : p₂ ≡ numberIn (midOf 6 toldWidth (p₁ ++ drop 6 fresh)) (told .line)) where
-  first : p₁ ++ drop 6 fresh ≡ number toldWidth (told .number) ++ drop 6 fresh
-  first = ap (λ (x : List ℕ). x ++ drop 6 fresh) (number-in (take toldWidth fresh) p₁ toldWidth refl (lit< tt) (told .number) e₁)
+module _ (m n : ℕ) (p₁ p₂ : List ℕ) (e₁ : p₁ ≡ numberIn (take toldWidth fresh) m) (e₂ : p₂ ≡ numberIn (midOf 6 toldWidth (p₁ ++ drop 6 fresh)) n) where
+  first : p₁ ++ drop 6 fresh ≡ number toldWidth m ++ drop 6 fresh
+  first = ap (λ (x : List ℕ). x ++ drop 6 fresh) (number-in (take toldWidth fresh) p₁ toldWidth refl (lit< tt) m e₁)
 
-  second : putMid 6 toldWidth (p₁ ++ drop 6 fresh) p₂ ≡ (number toldWidth (told .number) ++ number toldWidth (told .line)) ++ drop 12 fresh
-  second = step (number toldWidth (told .number)) (p₁ ++ drop 6 fresh) p₂ 6 (told .line) first (length-number toldWidth (told .number) (lit< tt)) (lit≤ tt) e₂
+  second : putMid 6 toldWidth (p₁ ++ drop 6 fresh) p₂ ≡ (number toldWidth m ++ number toldWidth n) ++ drop 12 fresh
+  second = step (number toldWidth m) (p₁ ++ drop 6 fresh) p₂ 6 n first (length-number toldWidth m (lit< tt)) (lit≤ tt) e₂
+
+  two-long : length (number toldWidth m ++ number toldWidth n) ≡ 12
+  two-long = simp (length-append, length-number toldWidth m (lit< tt), length-number toldWidth n (lit< tt))
 
   pub second-long : length (putMid 6 toldWidth (p₁ ++ drop 6 fresh) p₂) ≡ 19
-  second-long = ap length second ∙ simp (length-append, length-number toldWidth (told .number) (lit< tt), length-number toldWidth (told .line) (lit< tt))
+  second-long = ap length second ∙ length-append (number toldWidth m ++ number toldWidth n) (drop 12 fresh) ∙ omega (arith, two-long)
 
-  pub third : (p₃ : List ℕ) → p₃ ≡ numberIn (midOf 12 toldWidth (putMid 6 toldWidth (p₁ ++ drop 6 fresh) p₂)) (told .field)
-      → putMid 12 toldWidth (putMid 6 toldWidth (p₁ ++ drop 6 fresh) p₂) p₃ ≡ refusalText told
-  unfolding refusalText
-  third p₃ e₃ =
-      step (number toldWidth (told .number) ++ number toldWidth (told .line)) (putMid 6 toldWidth (p₁ ++ drop 6 fresh) p₂) p₃ 12 (told .field) second
-      (simp (length-append, length-number toldWidth (told .number) (lit< tt), length-number toldWidth (told .line) (lit< tt))) (lit≤ tt) e₃
+  pub third : (p₃ : List ℕ) (o : ℕ) → p₃ ≡ numberIn (midOf 12 toldWidth (putMid 6 toldWidth (p₁ ++ drop 6 fresh) p₂)) o
+      → putMid 12 toldWidth (putMid 6 toldWidth (p₁ ++ drop 6 fresh) p₂) p₃ ≡ number toldWidth m ++ number toldWidth n ++ number toldWidth o ++ (10 ∷ [])
+  third p₃ o e₃ = step (number toldWidth m ++ number toldWidth n) (putMid 6 toldWidth (p₁ ++ drop 6 fresh) p₂) p₃ 12 o second two-long (lit≤ tt) e₃

@@ -2,6 +2,7 @@
 use native.Mathlib.Omega.{arith}
 use lib.ListN.{length-append}
 use borrow.Author.Needs.{needs}
+use Rattle.answers.specs.Answers.{refusalText}
 use Rattle.answers.proofs.ThreeNumbers.{second-long, third}
 use Rattle.answers.proofs.refusal.Statement.{statement}
 use Rattle.answers.proofs.refusal.Tie as tie
@@ -48,16 +49,17 @@ part-text-start-2 c = search needs
 part-text-end-2 : tie.Need-part-text-end-2
 part-text-end-2 c =
     let b = c .before .before .before .before in
-    omega (arith, second-long (b .before .before .before .args .told) (b .put-number .last .0) (c .before .put-number2 .last .0) (b .put-number .ensures) (c .before .put-number2 .ensures))
+    omega (arith, second-long _ _ (b .put-number .last .0) (c .before .put-number2 .last .0) (b .put-number .ensures) (c .before .put-number2 .ensures))
 
 put-number-requires-3 : tie.Need-put-number-requires-3
 put-number-requires-3 c κs = search needs
 
 returns : tie.Need-returns
+unfolding refusalText
 returns c =
     let b = c .before .before .before .before .before .before .before in
-    third (b .before .before .before .args .told) (b .put-number .last .0) (c .before .before .before .before .put-number2 .last .0) (b .put-number .ensures) (c .before .before .before .before .put-number2 .ensures)
-    (c .before .put-number3 .last .0) (c .before .put-number3 .ensures)
+    third _ _ (b .put-number .last .0) (c .before .before .before .before .put-number2 .last .0) (b .put-number .ensures) (c .before .before .before .before .put-number2 .ensures)
+    (c .before .put-number3 .last .0) _ (c .before .put-number3 .ensures)
 
 pub refusal-spec : {M : Type 1} → statement M
 refusal-spec =
