@@ -27,7 +27,8 @@
  * call writes what another reads or writes.
  *
  * Results. What each call returns and leaves in memory is proved, for every input, to equal a definition in crates/zilmorga/specs.
- * Nothing proves that this header declares the calls as they are, or what the C compiler makes of it.
+ * Nothing proves that this header declares the calls as they are, or what the C compiler makes of it; the gate compares the prototypes
+ * with the functions' own parameters, and runs the C example.
  */
 #ifndef ZILMORGA_H
 #define ZILMORGA_H

@@ -4,6 +4,7 @@ use native.Mathlib.Omega.{arith}
 use mathlib.Core.Path.{_≡_, refl}
 use mathlib.Core.List.{List}
 use mathlib.Core.Logic.{_≢_}
+use lib.Dec.{lit<}
 use Rattle.cases.specs.declared.Status.{Status}
 use Rattle.cases.specs.declared.Status.the-variants.{Passed, Stopped}
 use Rattle.cases.specs.Conditions.{Condition, Without, first, toldOf}
@@ -16,7 +17,7 @@ use Rattle.text.specs.declared.Row.{Row}
 use Rattle.report.specs.Forms.{Form, tooShort, formConditions, Call, scenarioOf, rowsFor, allConditions, statusOf, outcomeFor, outcomeOf}
 use Rattle.report.specs.InMemory.{onMemory, asRead, writtenStatus, writtenOutcome}
 
-same-number : (s : Status) (rows : List Row) → outcomeFor s rows .number ≡ toldOf s .number
+pub same-number : (s : Status) (rows : List Row) → outcomeFor s rows .number ≡ toldOf s .number
 unfolding outcomeFor toldOf
 same-number Passed rows = refl
 same-number (Stopped number line field) rows = refl
@@ -26,13 +27,13 @@ outcome-without cs rows h = rw (same-number (first cs) rows) (told-without 41 (�
 
 form-without : (rows : List Row) (scenario : Scenario) (room : ℕ) → Without 41 (formConditions rows scenario room)
 unfolding formConditions tooShort
-form-without rows scenario room = (λ e. omega arith, large-without scenario)
+form-without rows scenario room = (λ e. omega arith, large-without 41 (λ e. omega arith) scenario)
 
 -- no condition of a call's list has this number
 pub conditions-without : (call : Call) (deck : List ℕ) (room : ℕ) → Without 41 (allConditions call deck room)
 unfolding allConditions
 conditions-without call deck room =
-    without-append 41 (conditions (call .sort) deck) (formConditions (rowsFor call deck) (scenarioOf call deck) room) (deck-without (call .sort) deck)
+    without-append 41 (conditions (call .sort) deck) (formConditions (rowsFor call deck) (scenarioOf call deck) room) (deck-without 41 (lit< tt) (call .sort) deck)
     (form-without (rowsFor call deck) (scenarioOf call deck) room)
 
 pub report-never : (call : Call) (deck : List ℕ) (room : ℕ) → outcomeOf call deck room .number ≢ 41

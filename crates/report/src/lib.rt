@@ -15,16 +15,21 @@ use slots::Sort;
 use text::LINE_WIDTH;
 ghost use mathlib.Core.Path.{_≡_};
 ghost use Prim.Native.Nat.{_*_, _≤_};
-ghost use lib.ListN.{length};
+ghost use lib.ListN.{length, take};
 ghost use Rattle.sizes.specs.Sizes.{maxChemicals, mostReceptors};
 ghost use Rattle.text.specs.Text.{reportLineWidth};
+ghost use Rattle.slots.specs.declared.Sort.the-variants.{Ordinary};
 ghost use Rattle.scenario.specs.Scenario.{scenarioFrom};
 ghost use Rattle.report.specs.Forms.{outcomeOf, bufferOf};
 ghost use Rattle.report.specs.Report.{ordinary};
 ghost use Rattle.report.specs.InMemory.{perReceptor, writtenRows, onMemory, asRead, writtenOutcome, writtenBuffer};
+ghost use Rattle.report.specs.Rooms.{deckRoom, longestReport};
 
 // The longest report: 388 lines.
 pub const MAX_REPORT: usize = LINE_WIDTH * MAX_RECEPTORS * (MAX_CHEMICALS * PATHWAYS + 1);
+
+// A byte more than the longest deck: input that fills it is no deck, whatever is in it.
+pub const DECK_ROOM: usize = deck::MAX_LENGTH + 1;
 
 const TOO_MANY: u32 = 21;
 
@@ -127,4 +132,15 @@ pub fn report(deck: &[u8], out: &mut [u8]) -> Told
     };
     let receptors = scenario::entered_from(reading.case);
     write_entered(reading.case.site, reading.case.chemicals, receptors, out)
+}
+
+// The report of the first n bytes of the input, with room for every deck and a byte more and for every report: 51 is never told
+// (specs/Rooms.antt), and a program has no room of its own to choose.
+pub fn report_with_room(input: &[u8; DECK_ROOM], n: usize, out: &mut [u8; MAX_REPORT]) -> Told
+    ensures { λ _. ⌜ length (now (input .entry)) ≡ deckRoom Ordinary ⌝ }
+    ensures { λ _. ⌜ longestReport ≡ length (now (out .exit)) ⌝ }
+    ensures { λ r. ⌜ r ≡ outcomeOf ordinary (take n (now (input .entry))) longestReport ⌝ }
+    ensures { λ _. ⌜ now (out .exit) ≡ bufferOf ordinary (take n (now (input .entry))) (now (out .entry)) ⌝ }
+{
+    report(spelling::front(input, n), out)
 }

@@ -1,6 +1,7 @@
 -- No condition of a sheet is 41: neither that of its year, nor those of its chemicals' media, which tell 53, nor those of its lines. Assumes nothing.
 use Prim.Native.Nat.{ℕ}
 use native.Mathlib.Omega.{arith}
+use mathlib.Core.Logic.{_≢_}
 use Rattle.cases.specs.Conditions.{Without}
 use Rattle.cases.proofs.FirstMet.{without-append, without-chained}
 use mathlib.Core.List.{_++_}
@@ -18,15 +19,16 @@ use Rattle.lists.specs.Lists.{chained}
 use Rattle.sheet.specs.Sheet.{lineRefused, lineTooLarge, overLines, refusedLines, largeLines, faultyLines}
 use Rattle.sheet.specs.Counts.{noMediaAt, unmade, refusals, enteredConditions}
 
-line-without : (scenario : Scenario) (j i p : ℕ) → Without 41 (lineTooLarge scenario j i p)
+-- the lines' are 42
+line-without : (n : ℕ) → 42 ≢ n → (scenario : Scenario) (j i p : ℕ) → Without n (lineTooLarge scenario j i p)
 unfolding lineTooLarge
-line-without scenario j i p = (λ e. omega arith, tt)
+line-without n other scenario j i p = (other, tt)
 
-pub large-without : (scenario : Scenario) → Without 41 (largeLines scenario)
+pub large-without : (n : ℕ) → 42 ≢ n → (scenario : Scenario) → Without n (largeLines scenario)
 unfolding largeLines overLines
-large-without scenario =
-    without-chained 41 _
-    (λ j. without-chained 41 _ (λ i. without-chained 41 (lineTooLarge scenario j i) (line-without scenario j i) pathwaysPerChemical) (scenario .chemicals .count))
+large-without n other scenario =
+    without-chained n _
+    (λ j. without-chained n _ (λ i. without-chained n (lineTooLarge scenario j i) (line-without n other scenario j i) pathwaysPerChemical) (scenario .chemicals .count))
     (scenario .receptors .count)
 
 refused-without : (scenario : Scenario) → Without 41 (refusedLines scenario)
@@ -53,7 +55,7 @@ pub refusals-without : (scenario : Scenario) → Without 41 (refusals scenario)
 unfolding refusals
 refusals-without scenario =
     (λ e. omega arith, without-append 41 (unmade scenario) (refusedLines scenario ++ largeLines scenario) (unmade-without 41 (λ e. omega arith) scenario)
-    (without-append 41 (refusedLines scenario) (largeLines scenario) (refused-without scenario) (large-without scenario)))
+    (without-append 41 (refusedLines scenario) (largeLines scenario) (refused-without scenario) (large-without 41 (λ e. omega arith) scenario)))
 
 pub entered-without : (scenario : Scenario) → Without 41 (enteredConditions scenario)
 unfolding enteredConditions faultyLines overLines lineRefused lineTooLarge

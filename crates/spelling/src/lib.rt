@@ -3,6 +3,7 @@
 mod reading;
 mod writing;
 
+pub use reading::front;
 pub use reading::id_in;
 pub use reading::leading_bytes;
 use reading::word;

@@ -71,7 +71,7 @@ fn leading_digits(from: u64, s: &[u8]) -> Digits
 }
 
 // The first bytes of s, at most so many.
-fn front(s: &[u8], most: usize) -> &[u8]
+pub fn front(s: &[u8], most: usize) -> &[u8]
     ensures { λ r. ⌜ now r ≡ take most (now (s .entry)) ⌝ }
 {
     if most < s.len() {

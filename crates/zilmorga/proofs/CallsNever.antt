@@ -6,7 +6,7 @@ use mathlib.Core.List.{List}
 use mathlib.Core.Logic.{_≢_}
 use Prim.Native.Nat.{ℕ}
 use native.Mathlib.Omega.{arith}
-use lib.Dec.{leb}
+use lib.Dec.{leb, lit<}
 use lib.IntN.{ℤ}
 use lib.ListN.{length}
 use Rattle.pair.specs.declared.Number.{Number}
@@ -87,7 +87,7 @@ total-by list = cond-by (leb (length list) mostLines && allAtMost largestNumber 
 -- ---- a deck read alone
 read-never : (sort : Sort) (deck : List ℕ) → readTold sort deck .number ≢ 41
 unfolding readTold readOf
-read-never sort deck = told-without 41 (λ e. omega arith) (conditions sort deck) (deck-without sort deck)
+read-never sort deck = told-without 41 (λ e. omega arith) (conditions sort deck) (deck-without 41 (lit< tt) sort deck)
 
 pub never-41 : Never 41
 never-41 =

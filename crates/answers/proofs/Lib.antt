@@ -1,0 +1,2 @@
+-- The crate's laws: a refusal's numbers, written one after the other. Assumes nothing.
+mod ThreeNumbers

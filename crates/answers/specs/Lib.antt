@@ -1,0 +1,2 @@
+-- What the crate `answers` promises.
+pub mod Answers
