@@ -35,10 +35,10 @@ use Rattle.cases.specs.Cases.{valueAt, chemicalAt, receptorAt, ownersRecord, gi
 use Rattle.cases.specs.Ranged.{Fits, Ranged}
 use Rattle.deck.proofs.Accepted.{accepted}
 use Rattle.lists.proofs.Tabulated.{tabulated}
-use Rattle.scenario.specs.Scenario.{orNoPair, orNoTime, pairOf, fractionOf, noReceptor, chemicalIn, receptorIn, stayIn, pairsAt, scenarioWith, exactWith, timeGiven, depositionOf, receptorWith}
+use Rattle.scenario.specs.Scenario.{orNoPair, orNoTime, pairOf, fractionOf, noReceptor, chemicalIn, receptorIn, stayIn, pairsAt, scenarioWith, exactWith, timeGiven, depositionOf, receptorWith, stayBy}
 use Rattle.scenario.proofs.Sound.{Sound}
 use Rattle.scenario.proofs.InputLaws.{value-good, value-entered, receptor-fits, made-sound}
-use Rattle.scenario.proofs.DepositionLaws.{time-told, deposition-told, later-good}
+use Rattle.scenario.proofs.DepositionLaws.{time-told, deposition-told, later-good, stay-exact}
 use Rattle.report.specs.Forms.{scenarioOf, exactOf}
 use Rattle.report.specs.DemandTwo.{Demand2, Timed, Exposed}
 use Rattle.report.specs.DemandThree.{Demand3}
@@ -135,9 +135,14 @@ module _ (case : Case) (ranged : Ranged Composite case) where
   receptor-later zero h = later-good (timeExposed case) (depositionOf (case .site)) exact-sum tD (exposure-lasts .exact) (deposition-lasts .exact)
   receptor-later (suc j) h = absurd (omega arith)
 
+  receptor-chosen : (j : ℕ) → j < 1 → getD (compositeFrom case .list) j noReceptor .stay ≡ stayBy (exactComposite case j "T2") tD
+  unfolding compositeFrom compositeReceptor receptorWith exactComposite composed exact-sum placeOf ownerOf placeIn isIn same table
+  receptor-chosen zero h = stay-exact (timeExposed case) (depositionOf (case .site)) exact-sum tD (exposure-lasts .exact) (deposition-lasts .exact)
+  receptor-chosen (suc j) h = absurd (omega arith)
+
   composite-sound : Sound (scenarioWith case (compositeFrom case)) (exactWith case (exactComposite case))
   unfolding compositeFrom
-  composite-sound = made-sound Composite case ranged (compositeFrom case) (exactComposite case) (lit≤ tt) (lit≤ tt) receptor-good receptor-later
+  composite-sound = made-sound Composite case ranged (compositeFrom case) (exactComposite case) (lit≤ tt) (lit≤ tt) receptor-good receptor-later receptor-chosen
 
   stage-entered : (j : ℕ) → j < case .receptors .count → (s : Slot) (digits : ℕ) (power : ℤ) → ownerOf s ≡ Receptor
       → valueAt (receptorAt case j) (placeOf s) ≡ Values.Given power digits → entry digits power ≡ pairStage case j (placeOf s)
@@ -167,8 +172,11 @@ module _ (case : Case) (ranged : Ranged Composite case) where
   set-against i = exposed (timeExposed case) (depositionOf (case .site)) (exposure-lasts .exact .time) (deposition-lasts .exact .time)
 
   composite-made : Composed case
+  unfolding compositeScenario scenarioWith receptorIn compositeFrom compositeReceptor receptorWith
   composite-made =
       record {
+        alone = refl;
+        named = refl;
         entered = stage-entered;
         rule = made-rule;
         staged = stage-timed;

@@ -24,7 +24,7 @@ use Rattle.lists.specs.Lists.{tabulate}
 use Rattle.cases.specs.Cases.{valueAt, receptorAt}
 use Rattle.scenario.specs.declared.Receptor.{Receptor}
 use Rattle.scenario.specs.declared.Receptors.{Receptors}
-use Rattle.scenario.specs.Scenario.{Scenario, orNoPair, pairOf, noReceptor, fractionOf, stayIn, pairsAt, scenarioWith, orNoTime, timeGiven, depositionOf, receptorWith}
+use Rattle.scenario.specs.Scenario.{Scenario, orNoPair, pairOf, noReceptor, fractionOf, receptorIn, stayIn, pairsAt, scenarioWith, orNoTime, timeGiven, depositionOf, receptorWith}
 use Rattle.report.specs.Forms.{Call}
 use Rattle.report.specs.Report.{rowsOf}
 use Rattle.report.specs.DemandTwo.{Timed, Exposed}
@@ -97,6 +97,9 @@ compositeScenario case = scenarioWith case (compositeFrom case)
 -- What demand 2 says of its receptor: each slot's pair is the working rule's answer to the weighting, from the entries of what is printed; but
 -- T2 is the sum of the years, to their last printed digit, and rounded once to the pair.
 pub record Composed (case : Case) : Type 0 where
+  -- one receptor, under the first stage's id
+  pub alone : compositeScenario case .receptors .count ≡ 1
+  pub named : receptorIn (compositeScenario case) 0 .id ≡ receptorAt case 0 .id
   pub entered : (j : ℕ) → j < case .receptors .count → (s : Slot) (digits : ℕ) (power : ℤ) → ownerOf s ≡ owners.Receptor
       → valueAt (receptorAt case j) (placeOf s) ≡ Values.Given power digits → entry digits power ≡ pairStage case j (placeOf s)
   pub rule : (i : ℕ) (s : Slot) → ownerOf s ≡ owners.Receptor → pairComposite case (placeOf s) ≡ is (pairsAt (compositeScenario case) 0 i .value s)

@@ -185,6 +185,10 @@ module _ (sort : Sort) (deck : List ℕ) (e : first (conditions sort deck) ≡ P
       × ((1 ≤ seenIn deck (linesOf deck) .receptors) × (seenIn deck (linesOf deck) .receptors ≤ maxReceptors sort))
   counts = let s = end-stands in ((s .1, s .2), (s .3, s .4))
 
+  -- the deck has the lines of its records and EN, and no other
+  pub all-lines : linesOf deck ≡ siteLines + recordLines * (seenIn deck (linesOf deck) .chemicals + seenIn deck (linesOf deck) .receptors) + 1
+  all-lines = omega (arith, end-stands .0)
+
   later : (n j : ℕ) → n + j ≤ linesOf deck
       → (seenIn deck n .chemicals ≤ seenIn deck (n + j) .chemicals)
       × (1 ≤ seenIn deck n .receptors → (seenIn deck n .chemicals ≡ seenIn deck (n + j) .chemicals) × (1 ≤ seenIn deck (n + j) .receptors))

@@ -20,13 +20,14 @@ use Rattle.cases.specs.declared.Status.the-variants.{Passed, Stopped}
 use Rattle.cases.specs.Conditions.{Condition, at, first, NoneHolds}
 use Rattle.deck.specs.DeckConditions.{conditions}
 use Rattle.cases.specs.declared.Value.the-variants as Values
-use Rattle.deck.specs.DeckCase.{caseOf}
+use Rattle.deck.specs.Parts.{linesOf}
+use Rattle.deck.specs.DeckCase.{caseWith, caseOf}
 use Rattle.cases.specs.Cases.{valueAt, chemicalAt, receptorAt}
 use Rattle.cases.specs.Ranged.{Ranged}
 use Rattle.deck.proofs.Accepted.{accepted}
 use Rattle.cases.proofs.FirstMet.{read-none, never, first-read, append-read}
 use Rattle.text.specs.declared.Row.{Row}
-use Rattle.sizes.specs.Sizes.{pathwaysPerChemical}
+use Rattle.sizes.specs.Sizes.{siteLines, recordLines, pathwaysPerChemical}
 use Rattle.spelling.specs.Columns.{idWidth}
 use Rattle.text.specs.Text.{reportLineWidth, rowText, linesText}
 use Rattle.text.proofs.Rows.{length-row, length-lines, lines-append}
@@ -42,11 +43,12 @@ use Rattle.sheet.proofs.SheetCaseLaws.{line-by-rule}
 use Rattle.scenario.proofs.Sound.{Sound}
 use Rattle.scenario.proofs.InputLaws.{source-entered, source-rested}
 use Rattle.scenario.proofs.DepositionLaws.{deposition-told}
-use Rattle.scenario.proofs.Entered.{entered-at, exposure-told, ordinary-sound, receptor-entered}
+use Rattle.scenario.proofs.Entered.{entered-at, exposure-told, own-id, ordinary-sound, receptor-entered}
 use Rattle.report.proofs.ReportLaws.{lines, lines-many, lines-all, rows-length}
 use Rattle.report.proofs.Exposures.{exposed}
 use Rattle.lists.proofs.Chained.{chained-split, chained-length}
-use Rattle.deck.proofs.DeckIds.{small-ids}
+use Rattle.deck.proofs.DeckIds.{small-ids, chemical-named, receptor-named}
+use Rattle.deck.proofs.LinePlaces.{all-lines}
 use Rattle.report.proofs.Fitting.{SmallIds, row-fits, total-row-fits}
 
 -- ---- the first condition that holds
@@ -214,6 +216,14 @@ module _ (call : Call) (Made : Case → Type 0) (sounds : Sounds call Made) wher
   unfolding scenarioOf
   deck-sources deck e = sources-of (call .sort) (caseOf deck) (accepted (call .sort) deck e) (call .receptors (caseOf deck))
 
+  own-lines : (sort : Sort) (deck : List ℕ) → first (conditions sort deck) ≡ Passed → linesOf deck ≡ siteLines + recordLines * (caseOf deck .chemicals .count + caseOf deck .receptors .count) + 1
+  unfolding caseOf caseWith
+  own-lines sort deck e = all-lines sort deck e
+
+  chemicals-own : (call : Call) (deck : List ℕ) → scenarioOf call deck .chemicals ≡ caseOf deck .chemicals
+  unfolding scenarioOf scenarioWith
+  chemicals-own call deck = refl
+
   reported : (deck buffer : List ℕ) → statusOf call deck (length buffer) ≡ Passed → Reported call Made deck buffer
   unfolding statusOf outcomeOf outcomeFor bufferOf bufferFor lengthOf rowsFor
   reported deck buffer e =
@@ -227,6 +237,8 @@ module _ (call : Call) (Made : Case → Type 0) (sounds : Sounds call Made) wher
         printed =
             subst (Printed scenario) (sym (text ∙ ap (λ (form : Form). linesText (form scenario) ++ drop (lengthOf rows) buffer) (sounds .form)))
             (printed scenario (sounds .ids deck (none .0)) (sounds .sound deck (none .0)) (none .1) (deck-sources deck (none .0)) (drop (lengthOf rows) buffer));
+        own = record { all = own-lines (call .sort) deck (none .0); chemical = chemical-named deck; receptor = receptor-named deck };
+        chemicals = chemicals-own call deck;
         made = sounds .made deck (none .0);
         past = ap (drop (lengthOf rows)) text ∙ drop-at (linesText rows) (drop (lengthOf rows) buffer) (lengthOf rows) (length-lines rows);
       }
@@ -251,8 +263,11 @@ module _ (case : Case) (ranged : Ranged Ordinary case) where
       (exposed (timeGiven (valueAt (receptorAt case j) (placeOf "T2"))) (depositionOf (case .site)) (exposure-told case ranged j h .exact .time) (deposition-told Ordinary case ranged .exact .time))
 
   ordinary-made : Entered case
+  unfolding ordinaryOf scenarioWith enteredFrom
   ordinary-made =
       record {
+        many = refl;
+        named = own-id case ranged;
         entered = receptor-entered case ranged;
         deposition = record { taken = deposition-told Ordinary case ranged .told };
         exposure = λ j h. record { taken = exposure-told case ranged j h .told };

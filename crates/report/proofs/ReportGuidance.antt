@@ -30,7 +30,7 @@ use Rattle.deck.specs.Guidance.{yearWord, is2005, withoutYear}
 use Rattle.cases.proofs.FirstMet.{orElse, first-append}
 use Rattle.deck.proofs.WithoutYear.{case-without, status-without, year-printed, guidance-2005, guidance-2009, read-2009}
 use Rattle.scenario.specs.declared.Receptors.{Receptors}
-use Rattle.scenario.specs.Scenario.{Scenario, scenarioFrom, scenarioWith, stayIn, guidanceIn, pairsAt}
+use Rattle.scenario.specs.Scenario.{exactStay, Scenario, scenarioFrom, scenarioWith, stayIn, guidanceIn, pairsAt}
 use Rattle.sheet.specs.Sheet.{hasReference, figureAt}
 use Rattle.sheet.specs.DemandThree.{inUnitsOf, nothing, exactLine}
 use Rattle.sheet.proofs.YearLaws.{yearBlank, entered-blank}
@@ -51,12 +51,12 @@ module _ (call : Call) (deck : List ℕ) (y : Guidance) (named : guidanceOf (val
   unfolding scenarioOf scenarioWith guidanceIn
   guidance-is = ap guidanceOf (year-printed deck) ∙ named
 
-  line-is : (e : Effect) (j i : ℕ) (p : Pathway) → LineIs call deck e j i p (line y e (stayIn (scenarioOf call deck) j) p)
+  line-is : (e : Effect) (j i : ℕ) (p : Pathway) → LineIs call deck e j i p (λ stay. line y e stay p)
   unfolding figureAt exactLine
   line-is e j i p =
       record {
         figure = ap (λ (z : Guidance). worked (pairsAt (scenarioOf call deck) j i) (line z e (stayIn (scenarioOf call deck) j) p)) guidance-is;
-        exact = λ N. ap (λ (z : Guidance). cond (hasReference e (scenarioOf call deck) i p) (inUnitsOf e (exactly N (pacesOf (pairsAt (scenarioOf call deck) j i)) (exactOf call deck j i) (line z e (stayIn (scenarioOf call deck) j) p))) nothing) guidance-is;
+        exact = λ N. ap (λ (z : Guidance). cond (hasReference e (scenarioOf call deck) i p) (inUnitsOf e (exactly N (pacesOf (pairsAt (scenarioOf call deck) j i)) (exactOf call deck j i) (line z e (exactStay (exactOf call deck j i)) p))) nothing) guidance-is;
       }
 
 module _ (call : Call) (same : (case : Case) → call .receptors (caseWithoutYear case) ≡ call .receptors case)
@@ -67,7 +67,7 @@ module _ (call : Call) (same : (case : Case) → call .receptors (caseWithoutYea
   guidance : guidanceIn (scenarioOf call deck) ≡ Of2005
   guidance = guidance-is call deck Of2005 (guidance-2005 (yearWord deck) of)
 
-  line-2005 : (e : Effect) (j i : ℕ) (p : Pathway) → LineIs call deck e j i p (intakeLine e (stayIn (scenarioOf call deck) j) p)
+  line-2005 : (e : Effect) (j i : ℕ) (p : Pathway) → LineIs call deck e j i p (λ stay. intakeLine e stay p)
   unfolding line byGuidance
   line-2005 = line-is call deck Of2005 (guidance-2005 (yearWord deck) of)
 
@@ -130,8 +130,8 @@ unfolding Law2009
 law-2009-of call deck of =
     let lines = line-is call deck Of2009 (guidance-2009 (yearWord deck) of) in
     record {
-      air = λ e j i. subst (LineIs call deck e j i Air) (air-formula e (stayIn (scenarioOf call deck) j)) (lines e j i Air);
-      other = λ e j i p h. subst (LineIs call deck e j i p) (other-formula e (stayIn (scenarioOf call deck) j) p h) (lines e j i p);
+      air = λ e j i. subst (LineIs call deck e j i Air) (λ k stay. air-formula e stay k) (lines e j i Air);
+      other = λ e j i p h. subst (LineIs call deck e j i p) (λ k stay. other-formula e stay p h k) (lines e j i p);
       year = λ n f. read-2009 (yearWord deck) n f of;
     }
 

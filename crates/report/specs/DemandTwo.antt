@@ -24,12 +24,14 @@ use Rattle.cases.specs.declared.Case.{Case}
 use Rattle.cases.specs.declared.Value.{Value}
 use Rattle.cases.specs.declared.Value.the-variants as Values
 use Rattle.cases.specs.Conditions.{Condition, NoneHolds}
-use Rattle.deck.specs.DeckCase.{caseOf}
-use Rattle.cases.specs.Cases.{valueAt, receptorAt}
+use Rattle.deck.specs.Parts.{linesOf, lineOf}
+use Rattle.deck.specs.DeckConditions.{idOf}
+use Rattle.deck.specs.DeckCase.{chemicalsStart, caseOf}
+use Rattle.cases.specs.Cases.{valueAt, chemicalAt, receptorAt}
 use Rattle.totals.specs.declared.Columns.the-variants as Cols
 use Rattle.text.specs.Text.{reportLineWidth, rowText, FitsColumns}
-use Rattle.scenario.specs.Scenario.{Scenario, stayIn, givenIn, pairsAt, timeGiven, depositionOf, ordinaryOf}
-use Rattle.sizes.specs.Sizes.{pathwaysPerChemical}
+use Rattle.scenario.specs.Scenario.{Scenario, receptorIn, stayIn, givenIn, pairsAt, timeGiven, depositionOf, ordinaryOf}
+use Rattle.sizes.specs.Sizes.{siteLines, recordLines, pathwaysPerChemical}
 use Rattle.sheet.specs.Sheet.{pathwayAt, hasReference, figureAt, unitOf, columnsAt, linesPerReceptor}
 use Rattle.report.specs.Forms.{Call, scenarioOf, allConditions, lengthOf, outcomeOf, bufferOf, rowsFor}
 use Rattle.report.specs.Report.{rowAt, totalRow}
@@ -65,11 +67,21 @@ pub record Printed (scenario : Scenario) (report : List ℕ) : Type 0 where
   pub rested : (j i : ℕ) → j < scenario .receptors .count → i < scenario .chemicals .count → (s : Slot) (digits : ℕ) (power : ℤ)
       → givenIn scenario i s ≡ Values.Given power digits → atMostOne s ≡ true → oneMinusEntry digits power ≡ is (pairsAt scenario j i .rest s)
 
+-- The deck has the lines of its records and EN and no other, so that none is left out, and a record's id is that of its first line.
+pub record OwnLines (deck : List ℕ) : Type 0 where
+  pub all : linesOf deck ≡ siteLines + recordLines * (caseOf deck .chemicals .count + caseOf deck .receptors .count) + 1
+  pub chemical : (i : ℕ) → i < caseOf deck .chemicals .count → chemicalAt (caseOf deck) i .id ≡ idOf (lineOf deck (chemicalsStart + recordLines * i))
+  pub receptor : (j : ℕ) → j < caseOf deck .receptors .count
+      → receptorAt (caseOf deck) j .id ≡ idOf (lineOf deck (chemicalsStart + recordLines * caseOf deck .chemicals .count + recordLines * j))
+
 -- no condition holds: 0, the report's length, 0; the report, of receptors made so; and past it what was there before
 pub record Reported (call : Call) (Made : Case → Type 0) (deck buffer : List ℕ) : Type 0 where
   pub none : NoneHolds (allConditions call deck (length buffer))
   pub told : outcomeOf call deck (length buffer) ≡ record { number = 0; line = lengthOf (rowsFor call deck); field = 0 }
   pub printed : Printed (scenarioOf call deck) (bufferOf call deck buffer)
+  -- of the deck's records: its chemicals, under their ids, and receptors made so
+  pub own : OwnLines deck
+  pub chemicals : scenarioOf call deck .chemicals ≡ caseOf deck .chemicals
   pub made : Made (caseOf deck)
   pub past : drop (lengthOf (rowsFor call deck)) (bufferOf call deck buffer) ≡ drop (lengthOf (rowsFor call deck)) buffer
 
@@ -105,6 +117,9 @@ pub record Timed (v : Value) : Type 0 where
 -- An ordinary deck's receptors are made so: each slot's pair is the entry of the value that is printed there, and T2 is set against tD as both are
 -- printed.
 pub record Entered (case : Case) : Type 0 where
+  -- as many as the deck has, each under its own id
+  pub many : ordinaryOf case .receptors .count ≡ case .receptors .count
+  pub named : (j : ℕ) → j < case .receptors .count → receptorIn (ordinaryOf case) j .id ≡ receptorAt case j .id
   pub entered : (j i : ℕ) → j < case .receptors .count → (s : Slot) (digits : ℕ) (power : ℤ) → ownerOf s ≡ Receptor
       → valueAt (receptorAt case j) (placeOf s) ≡ Values.Given power digits → entry digits power ≡ is (pairsAt (ordinaryOf case) j i .value s)
   pub deposition : Timed (valueAt (case .site) (placeOf "tD"))

@@ -22,20 +22,21 @@ use Rattle.deck.specs.Parts.{deckLineWidth}
 use Rattle.sizes.specs.Sizes.{siteLines}
 use Rattle.deck.specs.DeckConditions.{fieldConditions}
 use Rattle.deck.specs.Guidance.{yearWord, is2005, is2009, withoutYear}
-use Rattle.scenario.specs.Scenario.{stayIn, pairsAt}
+use Rattle.equations.specs.declared.Stay.{Stay}
+use Rattle.scenario.specs.Scenario.{stayIn, pairsAt, exactStay}
 use Rattle.sheet.specs.Sheet.{hasReference, figureAt}
 use Rattle.sheet.specs.DemandThree.{inUnitsOf, nothing, exactLine}
 use Rattle.report.specs.Forms.{Call, scenarioOf, exactOf, outcomeOf, bufferOf}
 
--- the line of receptor j, chemical i and pathway p is worked by this formula, on pairs and exactly
-pub record LineIs (call : Call) (deck : List ℕ) (e : Effect) (j i : ℕ) (p : Pathway) (formula : Formula) : Type 0 where
-  pub figure : figureAt e (scenarioOf call deck) j i p ≡ worked (pairsAt (scenarioOf call deck) j i) formula
+-- the line of receptor j, chemical i and pathway p is worked by this formula of the exposure against the deposition, on pairs and exactly
+pub record LineIs (call : Call) (deck : List ℕ) (e : Effect) (j i : ℕ) (p : Pathway) (formula : Stay → Formula) : Type 0 where
+  pub figure : figureAt e (scenarioOf call deck) j i p ≡ worked (pairsAt (scenarioOf call deck) j i) (formula (stayIn (scenarioOf call deck) j))
   pub exact : (N : ℕ) → exactLine e (scenarioOf call deck) (exactOf call deck) N j i p
-      ≡ cond (hasReference e (scenarioOf call deck) i p) (inUnitsOf e (exactly N (pacesOf (pairsAt (scenarioOf call deck) j i)) (exactOf call deck j i) formula)) nothing
+      ≡ cond (hasReference e (scenarioOf call deck) i p) (inUnitsOf e (exactly N (pacesOf (pairsAt (scenarioOf call deck) j i)) (exactOf call deck j i) (formula (exactStay (exactOf call deck j i))))) nothing
 
 pub record As2005 (call : Call) (deck : List ℕ) : Type 0 where
   -- the line of every receptor, chemical and pathway is that of an intake
-  pub line : (e : Effect) (j i : ℕ) (p : Pathway) → LineIs call deck e j i p (intakeLine e (stayIn (scenarioOf call deck) j) p)
+  pub line : (e : Effect) (j i : ℕ) (p : Pathway) → LineIs call deck e j i p (λ stay. intakeLine e stay p)
   -- the call tells and writes what it does of the deck with slot 12 blank
   pub told : (room : ℕ) → outcomeOf call deck room ≡ outcomeOf call (withoutYear deck) room
   pub written : (buffer : List ℕ) → bufferOf call deck buffer ≡ bufferOf call (withoutYear deck) buffer
@@ -52,9 +53,9 @@ air2009 Hazard = ETinh ⊗ EFinh ⊗ ED ⊘ (daysPerYear ⊗ ED) ⊗ A ⊘ lette
 air2009 Cancer = ETinh ⊗ EFinh ⊗ ED ⊘ ATc ⊗ A ⊗ thousand ⊗ letter (slot "CSFi")
 
 pub record As2009 (call : Call) (deck : List ℕ) : Type 0 where
-  pub air : (e : Effect) (j i : ℕ) → LineIs call deck e j i Air (air2009 e)
+  pub air : (e : Effect) (j i : ℕ) → LineIs call deck e j i Air (λ stay. air2009 e)
   -- the line of every other pathway is that of an intake, as by 2005
-  pub other : (e : Effect) (j i : ℕ) (p : Pathway) → (p ≡ Air → ⊥) → LineIs call deck e j i p (intakeLine e (stayIn (scenarioOf call deck) j) p)
+  pub other : (e : Effect) (j i : ℕ) (p : Pathway) → (p ≡ Air → ⊥) → LineIs call deck e j i p (λ stay. intakeLine e stay p)
   -- and no condition of slot 12 holds
   pub year : (n f : ℕ) → first (fieldConditions guidanceYear (yearWord deck) n f) ≡ Passed
 

@@ -1,15 +1,15 @@
 -- A receptor's exposure against the deposition, on the printed digits: a printed time in range is exact, and where the exposure goes beyond the
 -- deposition T2 − tD is the pair around the exact difference. Assumes nothing.
 use mathlib.Core.Path.{_≡_, refl, sym, _∙_, ap, subst}
-use mathlib.Core.Bool.{Bool, true, false, false≢true}
+use mathlib.Core.Bool.{Bool, true, false, cond, false≢true}
 use Prim.Native.Nat.{ℕ, suc, _+_, _-_, _*_, _^_, _≤_, _<_}
-use native.Mathlib.Nat.{mul-pos, mul-le-mul-right, one-le-pow}
+use native.Mathlib.Nat.{mul-pos, mul-le-mul-right, le-of-mul-le-mul-right, lt-of-mul-lt-mul-right, one-le-pow}
 use native.Mathlib.Omega.{arith}
 use lib.Dec.{leb, lit<, lit≤}
 use lib.Pow.{pow-add}
 use lib.IntN.{ℤ, pos, negsuc}
 use lib.Signed.{leZ}
-use borrow.Author.Tests.{leb-false, le-leb, le-ltb}
+use borrow.Author.Tests.{leb-true, leb-false, le-leb, lt-leb, le-ltb}
 use Rattle.pair.specs.declared.Pair.{Pair}
 use Rattle.pair.specs.Fraction.{Fraction, Proper, minus}
 use Rattle.pair.specs.Calls.{Outcome, is}
@@ -31,10 +31,10 @@ use Rattle.cases.specs.Ranges.{inRange}
 use Rattle.cases.specs.Cases.{valueAt, ownersRecord, given}
 use Rattle.cases.specs.Ranged.{Spelled, Fits, Ranged}
 use Rattle.cases.proofs.FitsLaws.{range-positive, range-most, finest, needed}
-use Rattle.equations.specs.declared.Stay.the-variants.{Beyond}
+use Rattle.equations.specs.declared.Stay.the-variants.{Within, Beyond}
 use Rattle.equations.proofs.Profile.{Good, good-around, good-equal}
 use Rattle.equations.proofs.LineLaws.{ofLater}
-use Rattle.scenario.specs.Scenario.{orNoPair, told, ofValue, otherwise, orNoTime, fractionOf, timeGiven, stayIf, laterIf}
+use Rattle.scenario.specs.Scenario.{orNoPair, told, ofValue, otherwise, orNoTime, fractionOf, timeGiven, stayIf, laterIf, stayBy}
 
 -- a time, and the exact value that it is
 pub record Exactly (y : Years) (x : Fraction) : Type 0 where
@@ -117,6 +117,11 @@ unfolding minus
 proper-minus p q = record { above-zero = mul-pos (p .above-zero) (q .above-zero) }
 
 module _ (exposure deposition : Years) (x y : Fraction) (T2 : Exactly exposure x) (tD : Exactly deposition y) where
+  by-choice : (t : Bool) → stayIf (is t) ≡ cond t Within Beyond
+  unfolding stayIf
+  by-choice true = refl
+  by-choice false = refl
+
   taken : (o : Outcome Pair) (p : Pair) → o ≡ is p → orNoPair o ≡ p
   unfolding orNoPair
   taken o p e = rw e refl
@@ -134,6 +139,24 @@ module _ (exposure deposition : Years) (x y : Fraction) (T2 : Exactly exposure x
       (good-around (ofLater Beyond) (years.yearsOf n) (b .0) (years-proper n) (beyond-around exposure deposition (b .0) (b .1)) (years-sized n (omega (arith, amount-below exposure (T2 .time)))) (lit≤ tt) refl (λ z. some n (omega arith)))
       (proper-minus (T2 .proper) (tD .proper))
       (equal-turned (equal-through (proper-minus (years-proper (amount exposure)) (years-proper (amount deposition))) (minus-equal (T2 .same) (tD .same)) (minus-years exposure deposition))))
+
+  -- T2 ≤ tD of the times is T2 ≤ tD of the exact values
+  across : (a b m n c d u : ℕ) → a * u ≡ m * c → b * u ≡ n * d → 0 < u → 0 < c → 0 < d → leb (a * d) (b * c) ≡ leb m n
+  across a b m n c d u e f z k l = go (leb m n) refl
+    where
+      go : (t : Bool) → leb m n ≡ t → leb (a * d) (b * c) ≡ t
+      go true h =
+          let most = leb-true m n h in
+          le-leb (a * d) (b * c) (le-of-mul-le-mul-right {k = u} (omega (arith, ap (λ (i : ℕ). i * d) e, ap (λ (i : ℕ). i * c) f, mul-le-mul-right (c * d) most)) z)
+      go false h =
+          let more = leb-false m n h in
+          lt-leb (a * d) (b * c) (lt-of-mul-lt-mul-right u (omega (arith, ap (λ (i : ℕ). i * d) e, ap (λ (i : ℕ). i * c) f, mul-le-mul-right (c * d) more, mul-pos k l)))
+
+  pub stay-exact : stayIf (years.atMost exposure deposition) ≡ stayBy x y
+  unfolding stayBy inYears years.yearsOf
+  stay-exact =
+      rw (at-most-told exposure deposition (T2 .time) (tD .time))
+      (by-choice (leb (amount exposure) (amount deposition)) ∙ ap (λ (t : Bool). cond t Within Beyond) (sym (across (x .num) (y .num) (amount exposure) (amount deposition) (x .den) (y .den) (10 ^ 27) (T2 .same .across) (tD .same .across) (one-le-pow 27 10 (lit< tt)) (T2 .proper .above-zero) (tD .proper .above-zero))))
 
   pub later-good : ofLater (stayIf (years.atMost exposure deposition)) .answered ≡ true
       → Good (ofLater (stayIf (years.atMost exposure deposition))) (is (laterIf (stayIf (years.atMost exposure deposition)) exposure deposition)) (minus x y)

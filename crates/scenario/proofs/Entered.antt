@@ -30,11 +30,11 @@ use Rattle.equations.specs.declared.Values.{Values}
 use mathlib.Core.Bool.{Bool, cond}
 use Rattle.scenario.specs.declared.Receptor as receptors
 use Rattle.scenario.specs.declared.Receptors as many
-use Rattle.scenario.specs.Scenario.{pairOf, valuesOf, noPairs, valuesIf, noReceptor, receptorIn, pairsAt, timeGiven, depositionOf, receptorWith, entered, scenarioWith, enteredFrom, ordinaryOf, fractionOf, exactFrom, exactAt}
+use Rattle.scenario.specs.Scenario.{pairOf, valuesOf, noPairs, valuesIf, noReceptor, receptorIn, pairsAt, timeGiven, depositionOf, receptorWith, entered, scenarioWith, enteredFrom, ordinaryOf, fractionOf, exactFrom, exactAt, stayBy}
 use Rattle.scenario.proofs.Sound.{Sound}
 use Rattle.lists.proofs.Tabulated.{tabulated}
 use Rattle.scenario.proofs.InputLaws.{value-good, value-entered, value-at, receptor-fits, made-sound}
-use Rattle.scenario.proofs.DepositionLaws.{Told, time-told, deposition-told, later-good}
+use Rattle.scenario.proofs.DepositionLaws.{Told, time-told, deposition-told, later-good, stay-exact}
 
 T2-rule : ruleFor Ordinary "T2" ≡ positive
 unfolding ruleFor ruleAt ruleIn ownerOf placeOf placeIn isIn same table
@@ -92,9 +92,21 @@ module _ (case : Case) (ranged : Ranged Ordinary case) where
       (later-good (timeGiven (valueAt (receptorAt case j) (placeOf "T2"))) (depositionOf (case .site)) (exactFrom case j "T2") (fractionOf (valueAt (case .site) (placeOf "tD")))
       (exposure-told j h .exact) (deposition-told Ordinary case ranged .exact))
 
+  chosen-entered : (j : ℕ) → j < case .receptors .count → getD (enteredFrom case .list) j noReceptor .stay ≡ stayBy (exactFrom case j "T2") (fractionOf (valueAt (case .site) (placeOf "tD")))
+  unfolding entered receptorWith depositionOf exactFrom
+  chosen-entered j h =
+      rw (entered-at j h)
+      (stay-exact (timeGiven (valueAt (receptorAt case j) (placeOf "T2"))) (depositionOf (case .site)) (exactFrom case j "T2") (fractionOf (valueAt (case .site) (placeOf "tD")))
+      (exposure-told j h .exact) (deposition-told Ordinary case ranged .exact))
+
+  -- each has its own id, and none is left out
+  pub own-id : (j : ℕ) → j < case .receptors .count → receptorIn (ordinaryOf case) j .id ≡ receptorAt case j .id
+  unfolding receptorIn ordinaryOf scenarioWith entered receptorWith
+  own-id j h = ap (λ (r : receptors.Receptor). r .id) (entered-at j h)
+
   pub ordinary-sound : Sound (ordinaryOf case) (exactAt case)
   unfolding ordinaryOf exactAt enteredFrom
-  ordinary-sound = made-sound Ordinary case ranged (enteredFrom case) (exactFrom case) (ranged .some-receptors) (ranged .few-receptors) entered-good later-entered
+  ordinary-sound = made-sound Ordinary case ranged (enteredFrom case) (exactFrom case) (ranged .some-receptors) (ranged .few-receptors) entered-good later-entered chosen-entered
 
 -- the receptors as they are made: the first four records entered
 pub entered-all : (case : Case) (blank : Record) → mostReceptors ≤ length (case .receptors .records) → (a b c d : receptors.Receptor)

@@ -49,7 +49,7 @@ use Rattle.lists.specs.Lists.{tabulate}
 use Rattle.lists.proofs.ListLaws.{read-any}
 use Rattle.scenario.specs.declared.Receptor as receptors
 use Rattle.scenario.specs.declared.Receptors.{Receptors}
-use Rattle.scenario.specs.Scenario.{Scenario, orNoPair, idsOf, pairOf, restOf, valuesOf, noReceptor, chemicalIn, receptorIn, stayIn, givenIn, pairsAt, scenarioWith, fractionOf, exactWith, noGuidance}
+use Rattle.scenario.specs.Scenario.{Scenario, orNoPair, idsOf, pairOf, restOf, valuesOf, noReceptor, chemicalIn, receptorIn, stayIn, givenIn, pairsAt, scenarioWith, fractionOf, exactWith, noGuidance, stayBy, exactStay}
 use Rattle.scenario.proofs.Sound.{Sound}
 use Rattle.scenario.proofs.ValueLaws.{told-is}
 
@@ -273,9 +273,10 @@ module _ (sort : Sort) (case : Case) (ranged : Ranged sort case) where
         → ((j : ℕ) → j < receptors′ .count → (s : Slot) → ownerOf s ≡ Receptor → Good (ofSlot s) (is (valueIn (getD (receptors′ .list) j noReceptor .values) (placeOf s))) (receptor j s))
         → ((j : ℕ) → j < receptors′ .count → ofLater (getD (receptors′ .list) j noReceptor .stay) .answered ≡ true
         → Good (ofLater (getD (receptors′ .list) j noReceptor .stay)) (is (getD (receptors′ .list) j noReceptor .later)) (minus (receptor j "T2") (fractionOf (valueAt (case .site) (placeOf "tD")))))
+        → ((j : ℕ) → j < receptors′ .count → getD (receptors′ .list) j noReceptor .stay ≡ stayBy (receptor j "T2") (fractionOf (valueAt (case .site) (placeOf "tD"))))
         → Sound (scenarioWith case receptors′) (exactWith case receptor)
-    unfolding OfSource scenarioWith pairsAt stayIn receptorIn chemicalIn chemicalAt exactWith noGuidance ownersRecord byOwner ownerOf isIn same table
-    made-sound some few good later-good =
+    unfolding OfSource exactStay scenarioWith pairsAt stayIn receptorIn chemicalIn chemicalAt exactWith noGuidance ownersRecord byOwner ownerOf isIn same table
+    made-sound some few good later-good chosen =
         record {
           few-chemicals = ranged .few-chemicals;
           some-receptors = some;
@@ -284,6 +285,7 @@ module _ (sort : Sort) (case : Case) (ranged : Ranged sort case) where
           whole = alike sort Site (case .site) tt ∙ lacks-none sort case ranged 0 0 (ranged .some-receptors) (ranged .some-chemicals) Site;
           wholes = λ i l. alike sort Chemical (chemicalAt case i) tt ∙ lacks-none sort case ranged 0 i (ranged .some-receptors) l Chemical;
           inputs = λ j i h l s. input-ranged i l s j (good j h s);
+          stays = λ j i h l. chosen j h;
           later = λ j i h l t. later-good j h t;
         }
 

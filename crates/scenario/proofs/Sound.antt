@@ -12,7 +12,7 @@ use Rattle.cases.specs.CaseConditions.{lacks}
 use Rattle.equations.proofs.Profile.{Good}
 use Rattle.equations.proofs.LineLaws.{ofLater, InRange}
 use Rattle.sizes.specs.Sizes.{maxChemicals, mostReceptors}
-use Rattle.scenario.specs.Scenario.{Scenario, chemicalIn, stayIn, pairsAt, noGuidance, Exact}
+use Rattle.scenario.specs.Scenario.{Scenario, chemicalIn, stayIn, pairsAt, noGuidance, Exact, exactStay}
 
 pub record Sound (scenario : Scenario) (exact : Exact) : Type 0 where
   pub few-chemicals : scenario .chemicals .count ≤ maxChemicals
@@ -23,5 +23,7 @@ pub record Sound (scenario : Scenario) (exact : Exact) : Type 0 where
   pub whole : lacks Ordinary Site (scenario .site) ≡ false
   pub wholes : (i : ℕ) → i < scenario .chemicals .count → lacks Ordinary Chemical (chemicalIn scenario i) ≡ false
   pub inputs : (j i : ℕ) → j < scenario .receptors .count → i < scenario .chemicals .count → (s : Slot) → InRange s (pairsAt scenario j i) (exact j i s)
+  -- the choice of the mean is that of the exact times
+  pub stays : (j i : ℕ) → j < scenario .receptors .count → i < scenario .chemicals .count → stayIn scenario j ≡ exactStay (exact j i)
   pub later : (j i : ℕ) → j < scenario .receptors .count → i < scenario .chemicals .count → ofLater (stayIn scenario j) .answered ≡ true
       → Good (ofLater (stayIn scenario j)) (is (pairsAt scenario j i .later)) (minus (exact j i "T2") (exact j i "tD"))

@@ -1,8 +1,8 @@
 -- What a sheet is worked from: the values of a scenario's slots as pairs, and as exact fractions.
-use Prim.Native.Nat.{ℕ, _-_, _^_}
+use Prim.Native.Nat.{ℕ, _-_, _*_, _^_}
 use mathlib.Core.Bool.{Bool, true, false, cond, _||_}
 use mathlib.Core.List.{List, map, _++_}
-use lib.Dec.{ltb}
+use lib.Dec.{leb, ltb}
 use lib.IntN.{ℤ, pos}
 use lib.ListN.{getD, replicate}
 use Rattle.pair.specs.declared.Pair.{Pair}
@@ -194,6 +194,13 @@ noGuidance scenario = isOtherYear (valueAt (scenario .site) (placeOf "year"))
 -- the exact value of each slot, for receptor j and chemical i, both counted from 0
 abbrev pub Exact : Type 0
 Exact = ℕ → ℕ → Slot → Fraction
+
+-- whether the exact exposure goes beyond the exact deposition: T2 ≤ tD by multiplying across
+unfoldable pub stayBy : Fraction → Fraction → Stay
+stayBy T2 tD = cond (leb (T2 .num * tD .den) (tD .num * T2 .den)) Within Beyond
+
+unfoldable pub exactStay : (Slot → Fraction) → Stay
+exactStay env = stayBy (env "T2") (env "tD")
 
 -- ---- a site as the lines take it: its year's guidance and its values
 unfoldable pub siteOf : Record → Site

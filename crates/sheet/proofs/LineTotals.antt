@@ -17,6 +17,7 @@ use Rattle.pair.specs.Promises as promises
 use Rattle.pair.specs.Promises.{scaled}
 use Rattle.pair.proofs.Promises.{through, ordered, number-written, size-reach, at-most, value-proper, compared-answered, Counted, units-right, units-hold, units-answered}
 use Rattle.equations.specs.declared.Pathway.{Pathway}
+use Rattle.equations.specs.declared.Stay.{Stay}
 use Rattle.equations.specs.declared.Effect.{Effect}
 use Rattle.equations.specs.declared.Effect.the-variants.{Hazard, Cancer}
 use Rattle.equations.specs.Page.{line}
@@ -178,4 +179,6 @@ module _ (scenario : Scenario) {exact : Exact} (sound : Sound scenario exact) (j
   pub line-totals : (e : Effect) (w : Pathway) → overCap e scenario j i w ≡ false → (N : ℕ) → 256 ≤ N →
       Totals (columnsAt e scenario j i w) (lineCounts e scenario i w) (exactLine e scenario exact N j i w)
   unfolding overCap columnsAt lineCounts exactLine
-  line-totals e w c N n = by-reference (hasReference e scenario i w) e w c N n
+  line-totals e w c N n =
+      subst (λ (stay : Stay). Totals (columnsAt e scenario j i w) (lineCounts e scenario i w) (cond (hasReference e scenario i w) (inUnitsOf e (exactly N (pacesOf (pairsAt scenario j i)) (exact j i) (line (guidanceIn scenario) e stay w))) nothing))
+      (sound .stays j i j-small i-small) (by-reference (hasReference e scenario i w) e w c N n)

@@ -1,6 +1,6 @@
 -- Demand 3 of a scenario: what a receptor's total is set against. The exact sum is that of its lines that have the reference value, each worked
--- exactly from the printed values with N terms of each series, by the guidance of the site's year, counted in units and not rounded. Whether a
--- chemical is lost fast is the pairs' choice (document 02, P5).
+-- exactly from the printed values with N terms of each series, by the guidance of the site's year, counted in units and not rounded. Whether T2 is
+-- above tD is decided on the exact values (P4); whether a chemical is lost fast is the pairs' choice (document 02, P5).
 use mathlib.Core.Path.{_≡_}
 use mathlib.Core.Bool.{cond}
 use Prim.Native.Nat.{ℕ, zero, suc, _+_, _*_, _^_, _≤_, _<_}
@@ -17,7 +17,7 @@ use Rattle.cases.specs.Ranged.{Ranged}
 use Rattle.slots.specs.declared.Sort.the-variants.{Ordinary}
 use Rattle.totals.specs.declared.Columns.{Columns}
 use Rattle.totals.specs.declared.Columns.the-variants as Cols
-use Rattle.scenario.specs.Scenario.{Scenario, stayIn, guidanceIn, pairsAt, ordinaryOf, exactAt, Exact}
+use Rattle.scenario.specs.Scenario.{Scenario, guidanceIn, pairsAt, ordinaryOf, exactAt, Exact, exactStay}
 use Rattle.sheet.specs.Sheet.{pathwayAt, hasReference, totalAt, largeLines}
 use Rattle.sizes.specs.Sizes.{pathwaysPerChemical}
 
@@ -34,7 +34,7 @@ nothing = record { num = 0; den = 1 }
 
 -- a line's exact fraction, where it counts
 unfoldable pub exactLine : Effect → Scenario → Exact → ℕ → ℕ → ℕ → Pathway → Fraction
-exactLine e scenario exact N j i p = cond (hasReference e scenario i p) (inUnitsOf e (exactly N (pacesOf (pairsAt scenario j i)) (exact j i) (line (guidanceIn scenario) e (stayIn scenario j) p))) nothing
+exactLine e scenario exact N j i p = cond (hasReference e scenario i p) (inUnitsOf e (exactly N (pacesOf (pairsAt scenario j i)) (exact j i) (line (guidanceIn scenario) e (exactStay (exact j i)) p))) nothing
 
 unfoldable pub lineCounts : Effect → Scenario → ℕ → Pathway → ℕ
 lineCounts e scenario i p = cond (hasReference e scenario i p) 1 0
