@@ -2,5 +2,6 @@
 pub mod DepositionLaws
 pub mod Entered
 pub mod InputLaws
+pub mod PageLetters
 pub mod Sound
 pub mod ValueLaws
