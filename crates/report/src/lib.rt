@@ -69,8 +69,8 @@ pub fn write_report(
     let Status::Passed = status else {
         return cases::tell(status);
     };
-    let length = length_of(chemicals.count, receptors.count);
-    if out.len() < length {
+    let needed = length_of(chemicals.count, receptors.count);
+    if out.len() < needed {
         return refused(TOO_SHORT);
     }
     let mut cells = [0u64; CELLS];
@@ -81,7 +81,7 @@ pub fn write_report(
     write_rows(out, &cells, chemicals, receptors);
     Told {
         number: 0,
-        line: length,
+        line: needed,
         field: 0,
     }
 }

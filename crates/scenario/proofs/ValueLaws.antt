@@ -3,12 +3,13 @@ use mathlib.Core.Path.{_≡_, refl, sym, _∙_, ap}
 use mathlib.Core.Bool.{true, false}
 use Prim.Native.Nat.{ℕ}
 use lib.IntN.{ℤ}
-use Rattle.pair.specs.declared.Pair.{Pair}
-use Rattle.pair.specs.Calls.{Outcome, is, refused, entry}
+use Rattle.pair.specs.Number.{isZero, nineFigures, isNumber, isPair}
+use Rattle.pair.specs.Calls.{Outcome, is, refused}
+use Rattle.times.specs.Times.{isYears}
 use Rattle.cases.specs.declared.Value.{Value}
-use Rattle.cases.specs.declared.Value.the-variants.{Absent, Given}
+use Rattle.cases.specs.declared.Value.the-variants.{Given}
 use Rattle.cases.specs.Cases.{plain}
-use Rattle.scenario.specs.Scenario.{ofValue, otherwise, told, orNoPair, pairOf, isRefused, isUnpaired}
+use Rattle.scenario.specs.Scenario.{ofValue, otherwise, told, noPair, noTime, isRefused}
 
 module _ {A : Type 0} (f : ℕ → ℤ → Outcome A) (v : Value) (o : Outcome A) (first : o ≡ ofValue f v) where
   pub told-given : (x : A) → o ≡ is x → o ≡ told f v
@@ -33,3 +34,12 @@ refused-is o n e = rw e refl
 pub told-not : {A : Type 0} (o : Outcome A) (x : A) → o ≡ is x → false ≡ isRefused o
 unfolding isRefused
 told-not o x e = rw e refl
+
+-- ---- what stands for no pair and for no time is none: every call refuses it
+pub no-pair : isPair noPair ≡ false
+unfolding noPair isPair isNumber isZero nineFigures
+no-pair = refl
+
+pub no-time : isYears noTime ≡ false
+unfolding noTime isYears
+no-time = refl

@@ -33,7 +33,12 @@ fn enter(deposition: Years, r: Record) -> Receptor
 {
     let slot = r.slots[T2];
     let v = slot.value;
-    receptor_with(r.id, values_if(lacks(Sort::Ordinary, Owner::Receptor, r), r), time_given(v), deposition)
+    receptor_with(
+        r.id,
+        values_if(lacks(Sort::Ordinary, Owner::Receptor, r), r),
+        time_given(v),
+        deposition,
+    )
 }
 
 // The receptors that an ordinary deck's sheet is worked for.

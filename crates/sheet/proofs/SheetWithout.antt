@@ -53,12 +53,19 @@ scenario-without scenario =
 
 pub refusals-without : (scenario : Scenario) → Without 41 (refusals scenario)
 unfolding refusals
-refusals-without scenario =
-    (λ e. omega arith, without-append 41 (unmade scenario) (refusedLines scenario ++ largeLines scenario) (unmade-without 41 (λ e. omega arith) scenario)
-    (without-append 41 (refusedLines scenario) (largeLines scenario) (refused-without scenario) (large-without 41 (λ e. omega arith) scenario)))
+refusals-without scenario = (
+  λ e. omega arith,
+  without-append 41 (unmade scenario) (refusedLines scenario ++ largeLines scenario) (unmade-without 41 (λ e. omega arith) scenario)
+      (without-append 41 (refusedLines scenario) (largeLines scenario) (refused-without scenario) (large-without 41 (λ e. omega arith) scenario)),
+)
 
 pub entered-without : (scenario : Scenario) → Without 41 (enteredConditions scenario)
 unfolding enteredConditions faultyLines overLines lineRefused lineTooLarge
-entered-without scenario =
-    (λ e. omega arith, (λ e. omega arith, without-append 41 (unmade scenario) _ (unmade-without 41 (λ e. omega arith) scenario)
-    (without-chained 41 _ (λ j. without-chained 41 _ (λ i. without-chained 41 _ (λ p. (λ e. omega arith, (λ e. omega arith, tt))) pathwaysPerChemical) (scenario .chemicals .count)) (scenario .receptors .count))))
+entered-without scenario = (
+  λ e. omega arith,
+  (
+    λ e. omega arith,
+    without-append 41 (unmade scenario) _ (unmade-without 41 (λ e. omega arith) scenario)
+        (without-chained 41 _ (λ j. without-chained 41 _ (λ i. without-chained 41 _ (λ p. (λ e. omega arith, (λ e. omega arith, tt))) pathwaysPerChemical) (scenario .chemicals .count)) (scenario .receptors .count)),
+  ),
+)

@@ -17,4 +17,3 @@ returns c = difference-is 0 (c .args .down) (omega arith) (c .pre)
 
 pub below-point-spec : {M : Type 1} → statement M
 below-point-spec = tie.close (tie.spec cast-result sub-result returns)
-
