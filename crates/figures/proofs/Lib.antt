@@ -1,2 +1,3 @@
--- The checked figures hold, jointly (`CheckedFigures`). Assumes nothing.
+-- The checked figures and memories, shown. Assumes nothing.
 pub mod CheckedFigures
+pub mod MemoryFigures
