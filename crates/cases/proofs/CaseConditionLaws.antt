@@ -6,7 +6,7 @@ use native.Mathlib.Nat.{eq-zero-or-pos}
 use native.Mathlib.Numerals.{add-one}
 use native.Mathlib.Omega.{arith}
 use mathlib.Core.Logic.{⊎-elim}
-use borrow.Author.Tests.{eqb-false, ltb-false}
+use borrow.Author.Tests.{eqb-false, ltb-false, ne-eqb, le-ltb}
 use lib.Dec.{leb, ltb, eqb}
 use lib.IntN.{ℤ}
 use Rattle.lists.specs.Lists.{anyOf}
@@ -97,6 +97,14 @@ unfolding outside
 not-outside most n h =
     let t = neither (eqb n 0) (ltb most n) h in
     (⊎-elim (λ z. absurd (eqb-false n 0 (t .0) z)) (λ p. p) (eq-zero-or-pos n), ltb-false most n (t .1))
+
+inside-not : (most n : ℕ) → 1 ≤ n → n ≤ most → outside most n ≡ false
+unfolding outside
+inside-not most n a b = rw (ne-eqb n 0 (λ e. omega arith), le-ltb most n b) refl
+
+pub counts-right : (sort : Sort) (c r : ℕ) → 1 ≤ c → c ≤ maxChemicals → 1 ≤ r → r ≤ maxReceptors sort → countsOutside sort c r ≡ false
+unfolding countsOutside
+counts-right sort c r a b d e = rw (inside-not maxChemicals c a b, inside-not (maxReceptors sort) r d e) refl
 
 fewer : (sort : Sort) (n : ℕ) → n ≤ maxReceptors sort → n ≤ mostStages
 fewer Ordinary n h = omega arith

@@ -7,6 +7,7 @@ mod zeros;
 
 pub use guidance::guidance_of;
 pub use guidance::is_other_year;
+pub use memory::counts_outside;
 pub use memory::lacks;
 pub use memory::memory_status;
 pub use ranges::in_range;

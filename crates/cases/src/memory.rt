@@ -31,7 +31,8 @@ const MISPLACED: u32 = 32;
 
 const OUT_OF_RANGE: u32 = 33;
 
-fn counts_outside(sort: Sort, chemicals: usize, receptors: usize) -> bool
+// Whether there are fewer or more records than a deck of this sort may have.
+pub fn counts_outside(sort: Sort, chemicals: usize, receptors: usize) -> bool
     ensures { λ r. ⌜ r ≡ countsOutside sort chemicals receptors ⌝ }
 {
     if chemicals == 0 {

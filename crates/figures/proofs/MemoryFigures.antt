@@ -4,4 +4,4 @@ use Rattle.figures.specs.Memory.{CheckedMemories, memories}
 
 pub checked-memories : CheckedMemories
 unfolding CheckedMemories memories
-checked-memories = (refl, refl, refl, refl, refl, refl, refl, refl, refl, refl, refl, refl, tt)
+checked-memories = (refl, (refl, (refl, (refl, (refl, (refl, (refl, (refl, (refl, (refl, (refl, (refl, tt))))))))))))

@@ -17,12 +17,11 @@ use Rattle.deck.specs.DeckConditions.{conditions}
 use Rattle.deck.specs.DeckCase.{caseOf, caseFor, readOf}
 use Rattle.cases.proofs.FirstMet.{orElse, first-append, first-read}
 use Rattle.text.specs.declared.Row.{Row}
-use Rattle.sizes.specs.Sizes.{maxChemicals, mostReceptors}
 use Rattle.text.specs.Text.{reportLineWidth, linesText}
 use Rattle.scenario.specs.Scenario.{Scenario, scenarioWith, Exact, scenarioConditions}
 use Rattle.scenario.specs.declared.Receptors.{Receptors}
 use Rattle.sheet.specs.Sheet.{largeLines}
-use Rattle.sheet.specs.Counts.{tooMany, refusals, sheetConditions, cellsOf, cellsFor, sheetStatus, sheetCells, enteredStatus, enteredCells}
+use Rattle.sheet.specs.Counts.{miscounted, refusals, sheetConditions, cellsOf, cellsFor, sheetStatus, sheetCells, enteredStatus, enteredCells}
 use Rattle.report.specs.Forms.{Form, lengthOf, tooShort, formConditions, Call, scenarioOf, exactOf, rowsFor, allConditions, statusOf, outcomeFor, outcomeOf, bufferFor, bufferOf}
 use Rattle.report.specs.InMemory.{Road, onMemory, asRead, writtenStatus, writtenOutcome, writtenBuffer}
 use Rattle.scenario.proofs.Sound.{Sound}
@@ -65,44 +64,31 @@ refusal number told e = λ i. record { number = e .0 i; line = e .1 i; field = e
 -- ---- of values that were tested where they were read
 module _ (form : Form) (scenario : Scenario) (buffer : List ℕ) where
   -- 21
-  many : tooMany scenario ≡ true → (told : Told) → told ≡ toldOf (Stopped 21 0 0) → Answered asRead form scenario buffer told buffer
+  pub miscount : miscounted scenario ≡ true → (told : Told) → (told .number ≡ 21) × (told .line ≡ 0) × (told .field ≡ 0) → Answered asRead form scenario buffer told buffer
   unfolding writtenStatus asRead first
-  many h told t = refused asRead form scenario buffer (Stopped 21 0 0) 21 0 0 told (rw h refl) refl t
+  miscount h told t = refused asRead form scenario buffer (Stopped 21 0 0) 21 0 0 told (rw h refl) refl (refusal 21 told t)
 
-  pub many-chemicals : maxChemicals < scenario .chemicals .count → (told : Told) → (told .number ≡ 21) × (told .line ≡ 0) × (told .field ≡ 0) → Answered asRead form scenario buffer told buffer
-  unfolding tooMany
-  many-chemicals h told t = many (rw (lt-ltb maxChemicals (scenario .chemicals .count) h) refl) told (refusal 21 told t)
+  module _ (counts : miscounted scenario ≡ false) where
+    -- 51
+    pub too-short : length buffer < lengthOf (form scenario) → (told : Told) → (told .number ≡ 51) × (told .line ≡ 0) × (told .field ≡ 0) → Answered asRead form scenario buffer told buffer
+    unfolding writtenStatus asRead tooShort first
+    too-short h told t = refused asRead form scenario buffer (Stopped 51 0 0) 51 0 0 told (rw (counts, lt-ltb _ _ h) refl) refl (refusal 51 told t)
 
-  module _ (few-chemicals : scenario .chemicals .count ≤ maxChemicals) where
-    pub many-receptors : mostReceptors < scenario .receptors .count → (told : Told) → (told .number ≡ 21) × (told .line ≡ 0) × (told .field ≡ 0) → Answered asRead form scenario buffer told buffer
-    unfolding tooMany
-    many-receptors h told t = many (rw (le-ltb maxChemicals (scenario .chemicals .count) few-chemicals, lt-ltb mostReceptors (scenario .receptors .count) h) refl) told (refusal 21 told t)
+    -- the report has room
+    module _ (room : lengthOf (form scenario) ≤ length buffer) (status : Status) (is-status : status ≡ enteredStatus scenario) where
+      status-is : status ≡ writtenStatus asRead form scenario (length buffer)
+      unfolding writtenStatus asRead tooShort first enteredStatus
+      status-is = is-status ∙ rw (counts, le-ltb _ _ room) refl
 
-    module _ (few-receptors : scenario .receptors .count ≤ mostReceptors) where
-      few : tooMany scenario ≡ false
-      unfolding tooMany
-      few = rw (le-ltb maxChemicals (scenario .chemicals .count) few-chemicals, le-ltb mostReceptors (scenario .receptors .count) few-receptors) refl
+      -- the sheet stops
+      pub sheet-stops : (number line field : ℕ) (told : Told) → status ≡ Stopped number line field → told ≡ toldOf status → Answered asRead form scenario buffer told buffer
+      sheet-stops number line field told q t = refused asRead form scenario buffer status number line field told status-is q t
 
-      -- 51
-      pub too-short : length buffer < lengthOf (form scenario) → (told : Told) → (told .number ≡ 51) × (told .line ≡ 0) × (told .field ≡ 0) → Answered asRead form scenario buffer told buffer
-      unfolding writtenStatus asRead tooShort first
-      too-short h told t = refused asRead form scenario buffer (Stopped 51 0 0) 51 0 0 told (rw (few, lt-ltb _ _ h) refl) refl (refusal 51 told t)
-
-      -- the report has room
-      module _ (room : lengthOf (form scenario) ≤ length buffer) (status : Status) (is-status : status ≡ enteredStatus scenario) where
-        status-is : status ≡ writtenStatus asRead form scenario (length buffer)
-        unfolding writtenStatus asRead tooShort first enteredStatus
-        status-is = is-status ∙ rw (few, le-ltb _ _ room) refl
-
-        -- the sheet stops
-        pub sheet-stops : (number line field : ℕ) (told : Told) → status ≡ Stopped number line field → told ≡ toldOf status → Answered asRead form scenario buffer told buffer
-        sheet-stops number line field told q t = refused asRead form scenario buffer status number line field told status-is q t
-
-        -- and the report is written
-        pub written : status ≡ Passed → (cells : List ℕ) → cells ≡ enteredCells scenario → (from : List ℕ → List Row) → form scenario ≡ from (cellsOf scenario) → (out : List ℕ) (n : ℕ) → n ≡ lengthOf (form scenario)
-            → out ≡ linesText (from cells) ++ drop (lengthOf (form scenario)) buffer → Answered asRead form scenario buffer (record { number = 0; line = n; field = 0 }) out
-        unfolding enteredCells cellsFor
-        written none cells held = rows-written asRead form scenario buffer (sym status-is ∙ none) cells (held ∙ ap (λ (x : Status). cellsFor x scenario) (sym is-status ∙ none))
+      -- and the report is written
+      pub written : status ≡ Passed → (cells : List ℕ) → cells ≡ enteredCells scenario → (from : List ℕ → List Row) → form scenario ≡ from (cellsOf scenario) → (out : List ℕ) (n : ℕ) → n ≡ lengthOf (form scenario)
+          → out ≡ linesText (from cells) ++ drop (lengthOf (form scenario)) buffer → Answered asRead form scenario buffer (record { number = 0; line = n; field = 0 }) out
+      unfolding enteredCells cellsFor
+      written none cells held = rows-written asRead form scenario buffer (sym status-is ∙ none) cells (held ∙ ap (λ (x : Status). cellsFor x scenario) (sym is-status ∙ none))
 
 -- ---- of a scenario in memory, whatever its values are
 module _ (form : Form) (scenario : Scenario) (buffer : List ℕ) (s : Status) (is-first : s ≡ first (scenarioConditions scenario)) where

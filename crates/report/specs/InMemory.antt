@@ -12,7 +12,7 @@ use Rattle.cases.specs.Cases.{noRecord}
 use Rattle.text.specs.declared.Row.{Row}
 use Rattle.sizes.specs.Sizes.{pathwaysPerChemical}
 use Rattle.lists.specs.Lists.{chained}
-use Rattle.sheet.specs.Counts.{tooMany, refusals, enteredConditions, cellsOf, columnsIn, totalIn}
+use Rattle.sheet.specs.Counts.{miscounted, refusals, enteredConditions, cellsOf, columnsIn, totalIn}
 pub use Rattle.sheet.specs.Inner.{perReceptor}
 use Rattle.scenario.specs.declared.Receptor.{Receptor}
 use Rattle.scenario.specs.Scenario.{Scenario, noReceptor, scenarioConditions}
@@ -50,9 +50,9 @@ Road = List Row → Scenario → ℕ → List Condition
 unfoldable pub onMemory : Road
 onMemory rows scenario room = scenarioConditions scenario ++ (tooShort rows room ∷ refusals scenario)
 
--- one whose values a deck's reading has tested, which are not tested again: 21 for more records than there is room for, 51, then the sheet's own
+-- one whose values a deck's reading has tested, which are not tested again: 21, 51, then the sheet's own
 unfoldable pub asRead : Road
-asRead rows scenario room = at 21 0 0 (tooMany scenario) ∷ tooShort rows room ∷ enteredConditions scenario
+asRead rows scenario room = at 21 0 0 (miscounted scenario) ∷ tooShort rows room ∷ enteredConditions scenario
 
 unfoldable pub writtenStatus : Road → Form → Scenario → ℕ → Status
 writtenStatus road form scenario room = first (road (form scenario) scenario room)

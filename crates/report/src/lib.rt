@@ -31,7 +31,7 @@ pub const MAX_REPORT: usize = LINE_WIDTH * MAX_RECEPTORS * (MAX_CHEMICALS * PATH
 // A byte more than the longest deck: input that fills it is no deck, whatever is in it.
 pub const DECK_ROOM: usize = deck::MAX_LENGTH + 1;
 
-const TOO_MANY: u32 = 21;
+const MISCOUNTED: u32 = 21;
 
 const TOO_SHORT: u32 = 51;
 
@@ -97,11 +97,8 @@ pub fn write_entered(
     ensures { λ r. ⌜ r ≡ writtenOutcome asRead writtenRows (scenarioFrom site chemicals receptors) (length (now (out .entry))) ⌝ }
     ensures { λ _. ⌜ now (out .exit) ≡ writtenBuffer asRead writtenRows (scenarioFrom site chemicals receptors) (now (out .entry)) ⌝ }
 {
-    if MAX_CHEMICALS < chemicals.count {
-        return refused(TOO_MANY);
-    }
-    if MAX_RECEPTORS < receptors.count {
-        return refused(TOO_MANY);
+    if cases::counts_outside(Sort::Ordinary, chemicals.count, receptors.count) {
+        return refused(MISCOUNTED);
     }
     let length = length_of(chemicals.count, receptors.count);
     if out.len() < length {

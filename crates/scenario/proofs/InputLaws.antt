@@ -278,6 +278,7 @@ module _ (sort : Sort) (case : Case) (ranged : Ranged sort case) where
     unfolding OfSource exactStay scenarioWith pairsAt stayIn receptorIn chemicalIn chemicalAt exactWith noGuidance ownersRecord byOwner ownerOf isIn same table
     made-sound some few good later-good chosen =
         record {
+          some-chemicals = ranged .some-chemicals;
           few-chemicals = ranged .few-chemicals;
           some-receptors = some;
           few-receptors = few;

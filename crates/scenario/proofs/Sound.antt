@@ -15,6 +15,7 @@ use Rattle.sizes.specs.Sizes.{maxChemicals, mostReceptors}
 use Rattle.scenario.specs.Scenario.{Scenario, chemicalIn, stayIn, pairsAt, noGuidance, Exact, exactStay}
 
 pub record Sound (scenario : Scenario) (exact : Exact) : Type 0 where
+  pub some-chemicals : 1 ≤ scenario .chemicals .count
   pub few-chemicals : scenario .chemicals .count ≤ maxChemicals
   pub some-receptors : 1 ≤ scenario .receptors .count
   pub few-receptors : scenario .receptors .count ≤ mostReceptors

@@ -6,7 +6,7 @@ use mathlib.Core.List.{List, [], _∷_, _++_}
 use mathlib.Core.Logic.{_≢_}
 use Prim.Native.Nat.{ℕ, zero, suc, _+_, _*_, _/_, _%_, _≤_, _<_}
 use native.Mathlib.Omega.{arith}
-use borrow.Author.Tests.{ltb-true, ltb-false, lt-ltb, le-ltb}
+use borrow.Author.Tests.{ltb-true, ltb-false}
 use lib.Dec.{ltb}
 use lib.ListN.{length, getD}
 use lib.Seq.{ext-getD}
@@ -32,7 +32,7 @@ use Rattle.sheet.specs.declared.Source.{Source}
 use Rattle.sheet.specs.declared.Sources.{Sources}
 use Rattle.lists.specs.Lists.{chained}
 use Rattle.sheet.specs.Sheet.{pathwayAt, columnsAt, unworked, overCap, linesPerReceptor, reportLine, lineRefused, lineTooLarge, overLines, refusedLines, largeLines, faultyLines}
-use Rattle.sheet.specs.Counts.{tooMany, groundFor, meanFor, stopsAt, noMediaAt, unmade, refusals, sheetConditions, enteredConditions, Part, cellOf, sideOf, effectAt, partAt, lineColumns, cellAt, cellsOf, noCells, cellsFor, allCells, effectCells, receptorCells}
+use Rattle.sheet.specs.Counts.{miscounted, groundFor, meanFor, stopsAt, noMediaAt, unmade, refusals, sheetConditions, enteredConditions, Part, cellOf, sideOf, effectAt, partAt, lineColumns, cellAt, cellsOf, noCells, cellsFor, allCells, effectCells, receptorCells}
 use Rattle.sheet.specs.Inner.{columnsOf, aboveCap, groundWith, sourceOf, sourcesOf, sourceAt, stopsWith, refusedSource, figuresFrom, figureFor, figuresWorked, columnsWorked, isLarge, isBroken, faultAt, faultyLine, faultyChemical, faultyWorked, perReceptor, allFaulty, linesFaulty, workedBy, strictly, partOf, CellsFilled, ZeroFrom}
 use Rattle.lists.proofs.Chained.{chained-same}
 use Rattle.sheet.proofs.ChemicalLaws.{source-at}
@@ -309,30 +309,21 @@ module _ (scenario : Scenario) where
     unfolding first
     counted-strictly h t cells told = called (sheetConditions scenario) t cells (told .0 ∙ sym (rest-is ∙ rw h refl), told .1)
 
-  -- as entered
-  many : tooMany scenario ≡ true → (cells : List ℕ) → cells ≡ noCells → Called (enteredConditions scenario) (Stopped 21 0 0) cells
+  -- as entered: 21
+  pub miscount : miscounted scenario ≡ true → (cells : List ℕ) → cells ≡ noCells → Called (enteredConditions scenario) (Stopped 21 0 0) cells
   unfolding enteredConditions first
-  many h cells none = called (enteredConditions scenario) (Stopped 21 0 0) cells (stopped (enteredConditions scenario) (Stopped 21 0 0) 21 0 0 refl (rw h refl) cells none)
+  miscount h cells none = called (enteredConditions scenario) (Stopped 21 0 0) cells (stopped (enteredConditions scenario) (Stopped 21 0 0) 21 0 0 refl (rw h refl) cells none)
 
-  pub many-chemicals : maxChemicals < scenario .chemicals .count → (cells : List ℕ) → cells ≡ noCells → Called (enteredConditions scenario) (Stopped 21 0 0) cells
-  unfolding tooMany
-  many-chemicals h cells none = many (rw (lt-ltb maxChemicals (scenario .chemicals .count) h) refl) cells none
+  module _ (counts : miscounted scenario ≡ false) where
+    pub room-entered : (scenario .chemicals .count ≤ maxChemicals) × (scenario .receptors .count ≤ mostReceptors)
+    unfolding miscounted
+    room-entered = let t = counts-inside Ordinary (scenario .chemicals .count) (scenario .receptors .count) counts in (t .1, t .3)
 
-  module _ (few-chemicals : scenario .chemicals .count ≤ maxChemicals) where
-    pub many-receptors : mostReceptors < scenario .receptors .count → (cells : List ℕ) → cells ≡ noCells → Called (enteredConditions scenario) (Stopped 21 0 0) cells
-    unfolding tooMany
-    many-receptors h cells none = many (rw (le-ltb maxChemicals (scenario .chemicals .count) few-chemicals, lt-ltb mostReceptors (scenario .receptors .count) h) refl) cells none
+    -- 33
+    pub other-year : noGuidance scenario ≡ true → (cells : List ℕ) → cells ≡ noCells → Called (enteredConditions scenario) (Stopped 33 0 0) cells
+    unfolding enteredConditions first
+    other-year h cells none = called (enteredConditions scenario) (Stopped 33 0 0) cells (stopped (enteredConditions scenario) (Stopped 33 0 0) 33 0 0 refl (rw (counts, h) refl) cells none)
 
-    module _ (few-receptors : scenario .receptors .count ≤ mostReceptors) where
-      few : tooMany scenario ≡ false
-      unfolding tooMany
-      few = rw (le-ltb maxChemicals (scenario .chemicals .count) few-chemicals, le-ltb mostReceptors (scenario .receptors .count) few-receptors) refl
-
-      -- 33
-      pub other-year : noGuidance scenario ≡ true → (cells : List ℕ) → cells ≡ noCells → Called (enteredConditions scenario) (Stopped 33 0 0) cells
-      unfolding enteredConditions first
-      other-year h cells none = called (enteredConditions scenario) (Stopped 33 0 0) cells (stopped (enteredConditions scenario) (Stopped 33 0 0) 33 0 0 refl (rw (few, h) refl) cells none)
-
-      pub counted-entered : noGuidance scenario ≡ false → (t : Status) (cells : List ℕ) → Told (workedBy true scenario) t cells → Called (enteredConditions scenario) t cells
-      unfolding enteredConditions workedBy linesFaulty faultyLines lineTooLarge first
-      counted-entered h t cells told = called (enteredConditions scenario) t cells (told .0 ∙ sym (rw (few, h) refl), told .1)
+    pub counted-entered : noGuidance scenario ≡ false → (t : Status) (cells : List ℕ) → Told (workedBy true scenario) t cells → Called (enteredConditions scenario) t cells
+    unfolding enteredConditions workedBy linesFaulty faultyLines lineTooLarge first
+    counted-entered h t cells told = called (enteredConditions scenario) t cells (told .0 ∙ sym (rw (counts, h) refl), told .1)

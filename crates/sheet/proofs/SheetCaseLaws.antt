@@ -7,7 +7,6 @@ use Prim.Native.Nat.{ℕ, zero, suc, _+_, _*_, _/_, _%_, _^_, _≤_, _<_}
 use native.Mathlib.Nat.{mul-le-mul-right}
 use native.Mathlib.Omega.{arith}
 use lib.Dec.{lit≤}
-use borrow.Author.Tests.{le-ltb}
 use Rattle.pair.specs.declared.Pair.{Pair}
 use Rattle.pair.specs.declared.Units.{Units}
 use Rattle.pair.specs.Number.{isPair}
@@ -30,6 +29,8 @@ use Rattle.media.specs.declared.Ground.{Ground}
 use Rattle.media.specs.Media.{four, mediaIn, groundFrom}
 use Rattle.media.proofs.Means.{ground-page, mean-media}
 use Rattle.cases.specs.declared.Status.the-variants.{Passed}
+use Rattle.cases.proofs.CaseConditionLaws.{counts-right}
+use Rattle.slots.specs.declared.Sort.the-variants.{Ordinary}
 use Rattle.cases.specs.Conditions.{Condition, at, first}
 use Rattle.totals.specs.declared.Columns.{Columns}
 use Rattle.totals.specs.declared.Columns.the-variants as Cols
@@ -38,7 +39,7 @@ use Rattle.scenario.specs.Scenario.{isRefused, Scenario, restOf, valuesOf, part
 use Rattle.sizes.specs.Sizes.{pathwaysPerChemical, mostLines}
 use Rattle.sheet.specs.Sheet.{pathwayAt, hasReference, figureAt, unitOf, counted, countedIn, columnsAt, addedOver, totalAt, highAbove, unworked, overCap, capOf, lineRefused, lineTooLarge, largeLines, faultyLines}
 use Rattle.lists.specs.Lists.{chained}
-use Rattle.sheet.specs.Counts.{tooMany, groundFor, meanWith, meanFor, stopsAt, noMediaAt, unmade, enteredConditions, Part, Mark, Low, High, cellOf, cellsOf, totalIn, CountsMost}
+use Rattle.sheet.specs.Counts.{miscounted, groundFor, meanWith, meanFor, stopsAt, noMediaAt, unmade, enteredConditions, Part, Mark, Low, High, cellOf, cellsOf, totalIn, CountsMost}
 use Rattle.scenario.proofs.Sound.{Sound}
 use Rattle.lists.proofs.AnyOf.{none-any}
 use Rattle.lists.proofs.Booleans.{and-false}
@@ -103,9 +104,9 @@ none-refused scenario sound i h =
     never-stops (groundFor scenario i) (meanFor scenario i) (scenario .receptors .count) (ground-told scenario sound 0 i (sound .some-receptors) h)
     (λ ground laid j l. mean-told scenario sound j i l h ground laid)
 
-pub few-records : (scenario : Scenario) {exact : Exact} → Sound scenario exact → tooMany scenario ≡ false
-unfolding tooMany
-few-records scenario sound = rw (le-ltb _ _ (sound .few-chemicals), le-ltb _ _ (sound .few-receptors)) refl
+pub few-records : (scenario : Scenario) {exact : Exact} → Sound scenario exact → miscounted scenario ≡ false
+unfolding miscounted
+few-records scenario sound = counts-right Ordinary _ _ (sound .some-chemicals) (sound .few-chemicals) (sound .some-receptors) (sound .few-receptors)
 
 -- the sheet's call stops where document 01 says
 none-first : (f : ℕ → List Condition) (n : ℕ) (rest : List Condition) → ((i : ℕ) → i < n → (r : List Condition) → first (f i ++ r) ≡ first r) → first (chained f n ++ rest) ≡ first rest
@@ -114,7 +115,7 @@ none-first f zero rest h = refl
 none-first f (suc n) rest h = ap first (append-assoc (chained f n) (f n) rest) ∙ none-first f n (f n ++ rest) (λ i l. h i (omega arith)) ∙ h n (omega arith) rest
 
 -- no line's figure is refused
-never-broken : (scenario : Scenario) {exact : Exact} → Sound scenario exact → (e : Effect) (j i : ℕ) (w : Pathway) → j < scenario .receptors .count → i < scenario .chemicals .count → unworked e scenario j i w ≡ false
+pub never-broken : (scenario : Scenario) {exact : Exact} → Sound scenario exact → (e : Effect) (j i : ℕ) (w : Pathway) → j < scenario .receptors .count → i < scenario .chemicals .count → unworked e scenario j i w ≡ false
 unfolding unworked figureAt isRefused
 never-broken scenario sound e j i w a b = rw (figure-works scenario sound j i a b e w .1 .told) (and-false (hasReference e scenario i w))
 

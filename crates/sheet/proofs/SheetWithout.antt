@@ -5,7 +5,6 @@ use mathlib.Core.Logic.{_≢_}
 use Rattle.cases.specs.Conditions.{Without}
 use Rattle.cases.proofs.FirstMet.{without-append, without-chained}
 use mathlib.Core.List.{_++_}
-use mathlib.Core.Logic.{_≢_}
 use lib.ListN.{getD}
 use Rattle.slots.specs.declared.Owner.{Owner}
 use Rattle.slots.specs.declared.Owner.the-variants.{Site, Chemical}

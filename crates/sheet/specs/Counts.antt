@@ -11,7 +11,7 @@ use Rattle.equations.specs.declared.Effect.the-variants.{Hazard, Cancer}
 use Rattle.slots.specs.Slots.{placeOf}
 use Rattle.slots.specs.declared.Owner.the-variants.{Site, Chemical}
 use Rattle.slots.specs.declared.Sort.the-variants.{Ordinary}
-use Rattle.cases.specs.CaseConditions.{lacks}
+use Rattle.cases.specs.CaseConditions.{countsOutside, lacks}
 use Rattle.equations.specs.declared.Values.{Values}
 use Rattle.equations.specs.Readings.{valueIn}
 use Rattle.media.specs.declared.Media.{Media}
@@ -31,9 +31,9 @@ use Rattle.sheet.specs.Sheet.{pathwayAt, columnsAt, refusedLines, largeL
 
 -- ---- what stops a scenario, however it was made. Its receptors are pairs, so that of them only counts and ids are asked; the rest of it is as
 -- a deck's must be: 21, 22, then 32 and 33 by slot. After that 53 where a value has no pair or the pair rule refuses something, and 42.
--- more records than a sheet has room for
-unfoldable pub tooMany : Scenario → Bool
-tooMany scenario = ltb maxChemicals (scenario .chemicals .count) || ltb mostReceptors (scenario .receptors .count)
+-- fewer or more records than a deck has
+unfoldable pub miscounted : Scenario → Bool
+miscounted scenario = countsOutside Ordinary (scenario .chemicals .count) (scenario .receptors .count)
 
 unfoldable pub groundFor : Scenario → ℕ → Outcome Ground
 groundFor scenario i = groundOf (mediaInputs (valuesOf (scenario .site)) (valuesOf (chemicalIn scenario i)) (particlesOf (chemicalIn scenario i)))
@@ -66,9 +66,9 @@ refusals scenario = at 53 0 0 (unpairedIn (scenario .site) (scenario .chemicals)
 unfoldable pub sheetConditions : Scenario → List Condition
 sheetConditions scenario = scenarioConditions scenario ++ refusals scenario
 
--- and of what a deck's reading has tested already, which is not tested again: what has no pair is refused here too, and no value is read as 1
+-- and of what a deck's reading has tested already, which is not tested again: what has no pair is refused where it is read, and no value is read as 1
 unfoldable pub enteredConditions : Scenario → List Condition
-enteredConditions scenario = at 21 0 0 (tooMany scenario) ∷ at 33 0 0 (noGuidance scenario) ∷ (unmade scenario ++ faultyLines scenario)
+enteredConditions scenario = at 21 0 0 (miscounted scenario) ∷ at 33 0 0 (noGuidance scenario) ∷ (unmade scenario ++ faultyLines scenario)
 
 -- ---- cells: a receptor has six columns of as many cells as it may have lines, hazard's and cancer's: 1 for each line that has counts, the low and
 -- the high counts; all three are 0 for -, and where there is no line

@@ -15,6 +15,7 @@ use crate::reading::total_found;
 use cases::Chemicals;
 use cases::Record;
 use cases::Status;
+use cases::counts_outside;
 use cases::lacks;
 use equations::Effect;
 use media::Media;
@@ -68,7 +69,7 @@ pub struct Prepared {
     pub sources: Sources,
 }
 
-const TOO_MANY: u32 = 21;
+const MISCOUNTED: u32 = 21;
 
 const OUT_OF_RANGE: u32 = 33;
 
@@ -159,11 +160,8 @@ pub fn counts_entered(
     ensures { λ _. ⌜ now (cells .exit) ≡ enteredCells (scenarioFrom site chemicals receptors) ⌝ }
 {
     clear(cells);
-    if MAX_CHEMICALS < chemicals.count {
-        return Status::Stopped(TOO_MANY, 0, 0);
-    }
-    if MAX_RECEPTORS < receptors.count {
-        return Status::Stopped(TOO_MANY, 0, 0);
+    if counts_outside(Sort::Ordinary, chemicals.count, receptors.count) {
+        return Status::Stopped(MISCOUNTED, 0, 0);
     }
     if has_no_guidance(site) {
         return Status::Stopped(OUT_OF_RANGE, 0, 0);

@@ -5,38 +5,40 @@ use denote.Ref.{now}
 use lib.ListN.{length}
 use Rattle.scenario.specs.Scenario.{scenarioFrom}
 use Rattle.report.specs.InMemory.{reportIn, writtenRows}
+use Rattle.sheet.specs.Counts.{miscounted}
 use Rattle.sheet.proofs.Held.{entered-many}
+use Rattle.sheet.proofs.CountLaws.{room-entered}
 use Rattle.report.proofs.ReportLaws.{length-is, rows-from, past-rows}
-use Rattle.report.proofs.CallLaws.{many-chemicals, many-receptors, too-short, sheet-stops, written}
+use Rattle.report.proofs.CallLaws.{miscount, too-short, sheet-stops, written}
 use Rattle.report.proofs.write_entered.Statement.{statement}
 use Rattle.report.proofs.write_entered.Tie as tie
+
+counts-outside-requires : tie.Need-counts-outside-requires
+counts-outside-requires c κs = search needs
 
 refused-requires : tie.Need-refused-requires
 refused-requires c κs = search needs
 
 returns : tie.Need-returns
+unfolding miscounted
 returns c =
     let a = c .before .before .before .before .args in
-    many-chemicals writtenRows (scenarioFrom (a .site) (a .chemicals) (a .receptors)) (now (a .out)) (c .before .if1 .taken) (c .refused .result) (c .refused .ensures)
+    miscount writtenRows (scenarioFrom (a .site) (a .chemicals) (a .receptors)) (now (a .out)) (sym (c .before .before .counts-outside .ensures) ∙ c .before .if1 .taken) (c .refused .result) (c .refused .ensures)
+
+length-of-requires : tie.Need-length-of-requires
+unfolding miscounted
+length-of-requires c κs =
+    let a = c .before .before .before .args in
+    room-entered (scenarioFrom (a .site) (a .chemicals) (a .receptors)) (sym (c .before .counts-outside .ensures) ∙ c .if1 .left)
 
 refused-requires-2 : tie.Need-refused-requires-2
 refused-requires-2 c κs = search needs
 
 returns-2 : tie.Need-returns-2
+unfolding miscounted
 returns-2 c =
     let a = c .before .before .before .before .before .before .args in
-    many-receptors writtenRows (scenarioFrom (a .site) (a .chemicals) (a .receptors)) (now (a .out)) (c .before .before .before .if1 .left) (c .before .if2 .taken) (c .refused2 .result) (c .refused2 .ensures)
-
-length-of-requires : tie.Need-length-of-requires
-length-of-requires c κs = search needs
-
-refused-requires-3 : tie.Need-refused-requires-3
-refused-requires-3 c κs = search needs
-
-returns-3 : tie.Need-returns-3
-returns-3 c =
-    let a = c .before .before .before .before .before .before .before .before .args in
-    too-short writtenRows (scenarioFrom (a .site) (a .chemicals) (a .receptors)) (now (a .out)) (c .before .before .before .before .before .if1 .left) (c .before .before .before .if2 .left) (rw (length-is (scenarioFrom (a .site) (a .chemicals) (a .receptors)) _ (c .before .before .length-of .ensures)) at (c .before .if3 .taken)) (c .refused3 .result) (c .refused3 .ensures)
+    too-short writtenRows (scenarioFrom (a .site) (a .chemicals) (a .receptors)) (now (a .out)) (sym (c .before .before .before .before .counts-outside .ensures) ∙ c .before .before .before .if1 .left) (rw (length-is (scenarioFrom (a .site) (a .chemicals) (a .receptors)) _ (c .before .before .length-of .ensures)) at (c .before .if2 .taken)) (c .refused2 .result) (c .refused2 .ensures)
 
 counts-entered-requires : tie.Need-counts-entered-requires
 counts-entered-requires c κs = search needs
@@ -50,50 +52,54 @@ enum-told-2 c = search needs
 tell-requires : tie.Need-tell-requires
 tell-requires c κs = search needs
 
-returns-4 : tie.Need-returns-4
-returns-4 c =
-    let a = c .before .before .before .before .before .before .before .before .before .before .before .before .args in
-    let room = rw (length-is (scenarioFrom (a .site) (a .chemicals) (a .receptors)) _ (c .before .before .before .before .before .before .length-of .ensures)) at (c .before .before .before .before .before .if3 .left) in
-    sheet-stops writtenRows (scenarioFrom (a .site) (a .chemicals) (a .receptors)) (now (a .out)) (c .before .before .before .before .before .before .before .before .before .if1 .left) (c .before .before .before .before .before .before .before .if2 .left) room _ (c .before .before .before .counts-entered .ensures .0) _ _ _ _ (c .before .enum-told2 .given .1) (c .tell .ensures)
+returns-3 : tie.Need-returns-3
+unfolding miscounted
+returns-3 c =
+    let a = c .before .before .before .before .before .before .before .before .before .before .args in
+    let room = rw (length-is (scenarioFrom (a .site) (a .chemicals) (a .receptors)) _ (c .before .before .before .before .before .before .length-of .ensures)) at (c .before .before .before .before .before .if2 .left) in
+    sheet-stops writtenRows (scenarioFrom (a .site) (a .chemicals) (a .receptors)) (now (a .out)) (sym (c .before .before .before .before .before .before .before .before .counts-outside .ensures) ∙ c .before .before .before .before .before .before .before .if1 .left) room _ (c .before .before .before .counts-entered .ensures .0) _ _ _ _ (c .before .enum-told2 .given .1) (c .tell .ensures)
 
 slice-aggregate-write-rows : tie.Need-slice-aggregate-write-rows
 slice-aggregate-write-rows c =
-    let a = c .before .before .before .before .before .before .before .before .before .before .before .before .before .args in
+    let a = c .before .before .before .before .before .before .before .before .before .before .before .args in
     sym (ap length (c .before .before .before .before .counts-entered .ensures .1) ∙ entered-many (scenarioFrom (a .site) (a .chemicals) (a .receptors)))
 
 write-rows-requires : tie.Need-write-rows-requires
-write-rows-requires c κs = search needs
+unfolding miscounted
+write-rows-requires c κs =
+    let a = c .before .before .before .before .before .before .before .before .before .before .before .args in
+    (room-entered (scenarioFrom (a .site) (a .chemicals) (a .receptors)) (sym (c .before .before .before .before .before .before .before .before .before .counts-outside .ensures) ∙ c .before .before .before .before .before .before .before .before .if1 .left), rw (c .before .before .before .before .before .before .before .length-of .ensures) at (c .before .before .before .before .before .before .if2 .left))
 
 same-length : tie.Need-same-length
 same-length c = search needs
 
-returns-5 : tie.Need-returns-5
-returns-5 c =
-    let a = c .before .before .before .before .before .before .before .before .before .before .before .before .before .before .before .before .args in
+returns-4 : tie.Need-returns-4
+unfolding miscounted
+returns-4 c =
+    let a = c .before .before .before .before .before .before .before .before .before .before .before .before .before .before .args in
     let scenario = scenarioFrom (a .site) (a .chemicals) (a .receptors) in
     let long = length-is scenario _ (c .before .before .before .before .before .before .before .before .before .before .length-of .ensures) in
-    let room = rw long at (c .before .before .before .before .before .before .before .before .before .if3 .left) in
+    let room = rw long at (c .before .before .before .before .before .before .before .before .before .if2 .left) in
     let worked = c .before .before .before .before .before .before .before .counts-entered in
-    written writtenRows (scenarioFrom (a .site) (a .chemicals) (a .receptors)) (now (a .out)) (c .before .before .before .before .before .before .before .before .before .before .before .before .before .if1 .left) (c .before .before .before .before .before .before .before .before .before .before .before .if2 .left) room _ (worked .ensures .0) (c .before .before .before .before .before .enum-told .given .1) _ (worked .ensures .1)
+    written writtenRows scenario (now (a .out)) (sym (c .before .before .before .before .before .before .before .before .before .before .before .before .counts-outside .ensures) ∙ c .before .before .before .before .before .before .before .before .before .before .before .if1 .left) room _ (worked .ensures .0) (c .before .before .before .before .before .enum-told .given .1) _ (worked .ensures .1)
     (λ cells. reportIn cells (a .chemicals) (a .receptors .list) (a .receptors .count)) (rows-from scenario) _ _ long (past-rows scenario _ _ (now (a .out)) (c .before .before .write-rows .ensures))
 
 pub write-entered-spec : {M : Type 1} → statement M
 write-entered-spec =
     tie.close
     (tie.spec
+    counts-outside-requires
     refused-requires
     returns
+    length-of-requires
     refused-requires-2
     returns-2
-    length-of-requires
-    refused-requires-3
-    returns-3
     counts-entered-requires
     enum-told
     enum-told-2
     tell-requires
-    returns-4
+    returns-3
     slice-aggregate-write-rows
     write-rows-requires
     same-length
-    returns-5)
+    returns-4)
