@@ -15,17 +15,18 @@ use Rattle.cases.specs.declared.Told.{Told}
 use Rattle.cases.specs.Conditions.{Condition, at, first, toldOf}
 use Rattle.deck.specs.DeckConditions.{conditions}
 use Rattle.deck.specs.DeckCase.{caseOf, caseFor, readOf}
-use Rattle.cases.proofs.FirstMet.{orElse, first-append, first-read}
+use Rattle.cases.proofs.FirstMet.{orElse, first-append, first-read, append-read}
 use Rattle.text.specs.declared.Row.{Row}
 use Rattle.text.specs.Text.{reportLineWidth, linesText}
 use Rattle.scenario.specs.Scenario.{Scenario, scenarioWith, Exact, scenarioConditions}
 use Rattle.scenario.specs.declared.Receptors.{Receptors}
-use Rattle.sheet.specs.Sheet.{largeLines}
-use Rattle.sheet.specs.Counts.{miscounted, refusals, sheetConditions, cellsOf, cellsFor, sheetStatus, sheetCells, enteredStatus, enteredCells}
+use Rattle.sheet.specs.Sheet.{refusedLines, largeLines, faultyLines}
+use Rattle.sheet.specs.Counts.{miscounted, unmade, enteredConditions, refusals, sheetConditions, cellsOf, cellsFor, sheetStatus, sheetCells, enteredStatus, enteredCells}
 use Rattle.report.specs.Forms.{Form, lengthOf, tooShort, formConditions, Call, scenarioOf, exactOf, rowsFor, allConditions, statusOf, outcomeFor, outcomeOf, bufferFor, bufferOf}
 use Rattle.report.specs.InMemory.{Road, onMemory, asRead, writtenStatus, writtenOutcome, writtenBuffer}
 use Rattle.scenario.proofs.Sound.{Sound}
 use Rattle.sheet.proofs.SheetCaseLaws.{few-records, conditions-agree}
+use Rattle.sheet.proofs.FaultLaws.{faulty-clear}
 
 -- ---- two lists of conditions, one after the other
 stays : (s : Status) (number line field : ℕ) (t : Status) → s ≡ Stopped number line field → s ≡ orElse s t
@@ -51,11 +52,11 @@ module _ (road : Road) (form : Form) (scenario : Scenario) (buffer : List ℕ) w
   refused s number line field told e q t = (t ∙ rw (← e, q) refl, rw (← e, q) refl)
 
   -- the rows are made from cells
-  rows-written : writtenStatus road form scenario (length buffer) ≡ Passed → (cells : List ℕ) → cells ≡ cellsOf scenario → (from : List ℕ → List Row) → form scenario ≡ from (cellsOf scenario)
+  rows-written : writtenStatus road form scenario (length buffer) ≡ Passed → (cells : List ℕ) → cells ≡ cellsOf scenario → (from : List ℕ → List Row) → (writtenStatus road form scenario (length buffer) ≡ Passed → form scenario ≡ from (cellsOf scenario))
       → (out : List ℕ) (n : ℕ) → n ≡ lengthOf (form scenario) → out ≡ linesText (from cells) ++ drop (lengthOf (form scenario)) buffer → Answered (record { number = 0; line = n; field = 0 }) out
   unfolding writtenOutcome outcomeFor writtenBuffer bufferFor
   rows-written s cells cells-are from made out n m o =
-      (rw (s, m) refl, rw s (o ∙ ap (λ (rows : List Row). linesText rows ++ drop (lengthOf (form scenario)) buffer) (ap from cells-are ∙ sym made)))
+      (rw (s, m) refl, rw s (o ∙ ap (λ (rows : List Row). linesText rows ++ drop (lengthOf (form scenario)) buffer) (ap from cells-are ∙ sym (made s))))
 
 refusal : (number : ℕ) (told : Told) → (told .number ≡ number) × (told .line ≡ 0) × (told .field ≡ 0) → told ≡ toldOf (Stopped number 0 0)
 unfolding toldOf
@@ -85,7 +86,7 @@ module _ (form : Form) (scenario : Scenario) (buffer : List ℕ) where
       sheet-stops number line field told q t = refused asRead form scenario buffer status number line field told status-is q t
 
       -- and the report is written
-      pub written : status ≡ Passed → (cells : List ℕ) → cells ≡ enteredCells scenario → (from : List ℕ → List Row) → form scenario ≡ from (cellsOf scenario) → (out : List ℕ) (n : ℕ) → n ≡ lengthOf (form scenario)
+      pub written : status ≡ Passed → (cells : List ℕ) → cells ≡ enteredCells scenario → (from : List ℕ → List Row) → (writtenStatus asRead form scenario (length buffer) ≡ Passed → form scenario ≡ from (cellsOf scenario)) → (out : List ℕ) (n : ℕ) → n ≡ lengthOf (form scenario)
           → out ≡ linesText (from cells) ++ drop (lengthOf (form scenario)) buffer → Answered asRead form scenario buffer (record { number = 0; line = n; field = 0 }) out
       unfolding enteredCells cellsFor
       written none cells held = rows-written asRead form scenario buffer (sym status-is ∙ none) cells (held ∙ ap (λ (x : Status). cellsFor x scenario) (sym is-status ∙ none))
@@ -119,35 +120,30 @@ module _ (form : Form) (scenario : Scenario) (buffer : List ℕ) (s : Status) (i
       pub counts-stop : (number line field : ℕ) (told : Told) → status ≡ Stopped number line field → told ≡ toldOf status → Answered onMemory form scenario buffer told buffer
       counts-stop number line field told q t = refused onMemory form scenario buffer status number line field told counts-are q t
 
-      pub counts-written : status ≡ Passed → (cells : List ℕ) → cells ≡ sheetCells scenario → (from : List ℕ → List Row) → form scenario ≡ from (cellsOf scenario) → (out : List ℕ) (n : ℕ) → n ≡ lengthOf (form scenario)
+      pub counts-written : status ≡ Passed → (cells : List ℕ) → cells ≡ sheetCells scenario → (from : List ℕ → List Row) → (writtenStatus onMemory form scenario (length buffer) ≡ Passed → form scenario ≡ from (cellsOf scenario)) → (out : List ℕ) (n : ℕ) → n ≡ lengthOf (form scenario)
           → out ≡ linesText (from cells) ++ drop (lengthOf (form scenario)) buffer → Answered onMemory form scenario buffer (record { number = 0; line = n; field = 0 }) out
       unfolding sheetCells cellsFor
       counts-written done cells held = rows-written onMemory form scenario buffer (sym counts-are ∙ done) cells (held ∙ ap (λ (x : Status). cellsFor x scenario) (sym is-status ∙ done))
 
--- ---- a sound scenario, of which a form in memory prints what a call's form does: where no line is too large, its rows; and always as many of them
-pub record Prints (memory form : Form) (scenario : Scenario) : Type 0 where
-  pub many : length (memory scenario) ≡ length (form scenario)
-  pub rows : first (largeLines scenario) ≡ Passed → memory scenario ≡ form scenario
+-- ---- a sound scenario: its list is the call's
+status-agrees : (form : Form) (scenario : Scenario) {exact : Exact} → Sound scenario exact → (room : ℕ) → writtenStatus asRead form scenario room ≡ first (formConditions (form scenario) scenario room)
+unfolding writtenStatus asRead formConditions tooShort first
+status-agrees form scenario sound room = rw (few-records scenario sound, conditions-agree scenario sound) refl
 
-module _ (memory form : Form) (scenario : Scenario) {exact : Exact} (sound : Sound scenario exact) (prints : Prints memory form scenario) (buffer : List ℕ) where
-  same-length : lengthOf (memory scenario) ≡ lengthOf (form scenario)
-  unfolding lengthOf
-  same-length = ap (λ (n : ℕ). reportLineWidth * n) (prints .many)
+-- ---- where it is written, 53 and 42 hold of no line
+pub memory-clear : (form : Form) (scenario : Scenario) (room : ℕ) → writtenStatus onMemory form scenario room ≡ Passed → (first (refusedLines scenario) ≡ Passed) × (first (largeLines scenario) ≡ Passed)
+unfolding writtenStatus onMemory refusals
+memory-clear form scenario room e =
+    let a = append-read (scenarioConditions scenario) _ e .1 in
+    let b = first-read _ _ (first-read _ _ a .1) .1 in
+    append-read (refusedLines scenario) (largeLines scenario) (append-read (unmade scenario) (refusedLines scenario ++ largeLines scenario) b .1)
 
-  status-agrees : writtenStatus asRead memory scenario (length buffer) ≡ first (formConditions (form scenario) scenario (length buffer))
-  unfolding writtenStatus asRead formConditions tooShort first
-  status-agrees = rw (few-records scenario sound, conditions-agree scenario sound, same-length) refl
-
-  told-if : (s : Status) → outcomeFor s (memory scenario) ≡ outcomeFor s (form scenario)
-  unfolding outcomeFor
-  told-if Passed = rw same-length refl
-  told-if (Stopped number line field) = refl
-
-  buffer-if : (s : Status) → first (formConditions (form scenario) scenario (length buffer)) ≡ s → bufferFor s (memory scenario) buffer ≡ bufferFor s (form scenario) buffer
-  unfolding bufferFor formConditions
-  buffer-if Passed e =
-      ap (λ (rows : List Row). linesText rows ++ drop (lengthOf rows) buffer) (prints .rows (first-read (tooShort (form scenario) (length buffer)) (largeLines scenario) e .1))
-  buffer-if (Stopped number line field) e = refl
+pub read-clear : (form : Form) (scenario : Scenario) (room : ℕ) → writtenStatus asRead form scenario room ≡ Passed → (first (refusedLines scenario) ≡ Passed) × (first (largeLines scenario) ≡ Passed)
+unfolding writtenStatus asRead enteredConditions
+read-clear form scenario room e =
+    let a = first-read _ _ (first-read _ _ e .1) .1 in
+    let b = first-read _ _ (first-read _ _ a .1) .1 in
+    faulty-clear scenario (append-read (unmade scenario) (faultyLines scenario) b .1)
 
 -- ---- any call on a deck
 module _ (call : Call) (deck buffer : List ℕ) where
@@ -169,24 +165,18 @@ module _ (call : Call) (deck buffer : List ℕ) where
     unfolding readOf caseFor
     case-is = ap (λ (r : Reading). r .case) of-deck ∙ ap (λ (s : Status). caseFor s deck) deck-read
 
-    pub answers : Sound (scenarioOf call deck) (exactOf call deck) → (memory : Form) → Prints memory (call .form) (scenarioOf call deck)
-        → (receptors′ : Receptors) → receptors′ ≡ call .receptors (reading .case)
-        → (told : Told) (out : List ℕ) → told ≡ writtenOutcome asRead memory (scenarioWith (reading .case) receptors′) (length buffer) → out ≡ writtenBuffer asRead memory (scenarioWith (reading .case) receptors′) buffer
+    pub answers : Sound (scenarioOf call deck) (exactOf call deck) → (receptors′ : Receptors) → receptors′ ≡ call .receptors (reading .case)
+        → (told : Told) (out : List ℕ) → told ≡ writtenOutcome asRead (call .form) (scenarioWith (reading .case) receptors′) (length buffer) → out ≡ writtenBuffer asRead (call .form) (scenarioWith (reading .case) receptors′) buffer
         → (told ≡ outcomeOf call deck (length buffer)) × (out ≡ bufferOf call deck buffer)
     unfolding writtenOutcome writtenBuffer outcomeOf bufferOf statusOf allConditions scenarioOf rowsFor
-    answers sound memory prints receptors′ made told out t o =
+    answers sound receptors′ made told out t o =
         let scenario = scenarioOf call deck in
+        let form = call .form in
         let same : scenarioWith (reading .case) receptors′ ≡ scenario = ap (scenarioWith (reading .case)) made ∙ ap (λ (c : Case). scenarioWith c (call .receptors c)) case-is in
-        let here : first (formConditions (call .form scenario) scenario (length buffer)) ≡ statusOf call deck (length buffer) =
-        first-passes (conditions (call .sort) deck) (formConditions (call .form scenario) scenario (length buffer)) _ deck-read refl
+        let here : first (formConditions (form scenario) scenario (length buffer)) ≡ statusOf call deck (length buffer) =
+        first-passes (conditions (call .sort) deck) (formConditions (form scenario) scenario (length buffer)) _ deck-read refl
         in
-        let agreed : writtenStatus asRead memory scenario (length buffer) ≡ statusOf call deck (length buffer) = status-agrees memory (call .form) scenario sound prints buffer ∙ here in (
-          t
-              ∙ ap (λ (x : Scenario). writtenOutcome asRead memory x (length buffer)) same
-              ∙ ap (λ (s : Status). outcomeFor s (memory scenario)) agreed
-              ∙ told-if memory (call .form) scenario sound prints buffer (statusOf call deck (length buffer)),
-          o
-              ∙ ap (λ (x : Scenario). writtenBuffer asRead memory x buffer) same
-              ∙ ap (λ (s : Status). bufferFor s (memory scenario) buffer) agreed
-              ∙ buffer-if memory (call .form) scenario sound prints buffer (statusOf call deck (length buffer)) here,
+        let agreed : writtenStatus asRead form scenario (length buffer) ≡ statusOf call deck (length buffer) = status-agrees form scenario sound (length buffer) ∙ here in (
+          t ∙ ap (λ (x : Scenario). writtenOutcome asRead form x (length buffer)) same ∙ ap (λ (s : Status). outcomeFor s (form scenario)) agreed,
+          o ∙ ap (λ (x : Scenario). writtenBuffer asRead form x buffer) same ∙ ap (λ (s : Status). bufferFor s (form scenario) buffer) agreed,
         )

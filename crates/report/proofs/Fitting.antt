@@ -22,7 +22,7 @@ use Rattle.sheet.specs.Sheet.{pathwayAt, columnsAt, totalAt, largeLines}
 use Rattle.sheet.specs.Counts.{CountsMost}
 use Rattle.report.specs.Report.{rowAt, totalRow}
 use Rattle.scenario.proofs.Sound.{Sound}
-use Rattle.sheet.proofs.SheetCaseLaws.{columns-small, total-small}
+use Rattle.sheet.proofs.SheetCaseLaws.{columns-small, total-small, sound-figured}
 
 -- a scenario whose records have ids of six digits
 pub record SmallIds (scenario : Scenario) : Type 0 where
@@ -40,11 +40,11 @@ module _ (scenario : Scenario) (ids : SmallIds scenario) {exact : Exact} (sound 
   pub row-fits : (j i p : ℕ) → j < scenario .receptors .count → i < scenario .chemicals .count → p < pathwaysPerChemical → FitsColumns (rowAt scenario j i p)
   unfolding rowAt
   row-fits j i p a b h =
-      let counts : (e : Effect) → CountsFit (columnsAt e scenario j i (pathwayAt p)) = λ e. counts-fit largestNumber _ (lit< tt) (columns-small scenario sound small e j i p a b h) in
+      let counts : (e : Effect) → CountsFit (columnsAt e scenario j i (pathwayAt p)) = λ e. counts-fit largestNumber _ (lit< tt) (columns-small scenario (sound-figured scenario sound) small e j i p a b h) in
       record { receptor = ids .receptor j a; chemical = ids .chemical i b; pathway = omega arith; hazard = counts Hazard; cancer = counts Cancer }
 
   pub total-row-fits : (j : ℕ) → j < scenario .receptors .count → FitsColumns (totalRow scenario j)
   unfolding totalRow
   total-row-fits j a =
-      let counts : (e : Effect) → CountsFit (totalAt e scenario j) = λ e. counts-fit (mostLines * largestNumber) _ (lit< tt) (total-small scenario sound small e j a) in
+      let counts : (e : Effect) → CountsFit (totalAt e scenario j) = λ e. counts-fit (mostLines * largestNumber) _ (lit< tt) (total-small scenario (sound-figured scenario sound) small e j a) in
       record { receptor = ids .receptor j a; chemical = lit< tt; pathway = lit< tt; hazard = counts Hazard; cancer = counts Cancer }

@@ -14,17 +14,15 @@ use Rattle.equations.specs.declared.Effect.the-variants.{Hazard, Cancer}
 use Rattle.cases.specs.declared.Status.the-variants.{Passed}
 use Rattle.cases.specs.Conditions.{first}
 use Rattle.text.specs.declared.Row.{Row}
-use Rattle.scenario.specs.Scenario.{Scenario, chemicalIn, receptorIn, Exact}
+use Rattle.scenario.specs.Scenario.{Scenario, chemicalIn, receptorIn}
 use Rattle.lists.specs.Lists.{chained}
 use Rattle.sheet.specs.Sheet.{linesPerReceptor, largeLines}
 use Rattle.sheet.specs.Counts.{cellsOf}
 use Rattle.report.specs.Report.{rowAt, totalRow, rowsAt, rowsOf}
-use Rattle.report.specs.InMemory.{perReceptor, rowIn, totalRowIn, linesIn, rowsIn, reportIn, writtenRows}
-use Rattle.scenario.proofs.Sound.{Sound}
+use Rattle.report.specs.Inner.{perReceptor, rowIn, totalRowIn, linesIn, rowsIn, reportIn}
 use Rattle.sheet.proofs.Held.{columns-held}
-use Rattle.sheet.proofs.SheetCaseLaws.{total-held}
+use Rattle.sheet.proofs.SheetCaseLaws.{Figured, total-held}
 use Rattle.lists.proofs.Chained.{chained-same, chained-length, flat}
-use Rattle.report.proofs.CallLaws.{Prints}
 
 -- ---- how many they are
 module _ (scenario : Scenario) where
@@ -46,48 +44,29 @@ module _ (scenario : Scenario) where
   unfolding rowsOf
   report-length = chained-length (rowsAt scenario) (scenario .receptors .count) (linesPerReceptor scenario) rows-length
 
-  -- and from cells, whatever these are
-  lines-in : (cells : List ℕ) (j id′ n : ℕ) → length (linesIn cells j id′ (scenario .chemicals) n) ≡ n
-  unfolding linesIn
-  lines-in cells j id′ n =
-      chained-length (λ q. rowIn cells j id′ (getD (scenario .chemicals .records) (q / pathwaysPerChemical) noRecord .id) q ∷ []) n 1 (λ q. refl) ∙ omega arith
-
-  rows-in : (cells : List ℕ) (j id′ : ℕ) → length (rowsIn cells j id′ (scenario .chemicals)) ≡ linesPerReceptor scenario
-  unfolding rowsIn linesPerReceptor
-  rows-in cells j id′ =
-      length-append (linesIn cells j id′ (scenario .chemicals) (scenario .chemicals .count * pathwaysPerChemical)) _ ∙ omega (arith, lines-in cells j id′ (scenario .chemicals .count * pathwaysPerChemical))
-
-  pub written-length : length (writtenRows scenario) ≡ scenario .receptors .count * linesPerReceptor scenario
-  unfolding writtenRows reportIn
-  written-length = chained-length _ (scenario .receptors .count) (linesPerReceptor scenario) (λ j. rows-in (cellsOf scenario) j _)
-
   -- so many bytes
-  pub length-is : (n : ℕ) → n ≡ reportLineWidth * (scenario .receptors .count * perReceptor (scenario .chemicals .count)) → n ≡ lengthOf (writtenRows scenario)
+  pub length-is : (n : ℕ) → n ≡ reportLineWidth * (scenario .receptors .count * perReceptor (scenario .chemicals .count)) → n ≡ lengthOf (rowsOf scenario)
   unfolding lengthOf linesPerReceptor
-  length-is n e = e ∙ ap (λ (m : ℕ). reportLineWidth * m) (sym written-length)
-
-  pub rows-from : writtenRows scenario ≡ reportIn (cellsOf scenario) (scenario .chemicals) (scenario .receptors .list) (scenario .receptors .count)
-  unfolding writtenRows
-  rows-from = refl
+  length-is n e = e ∙ ap (λ (m : ℕ). reportLineWidth * m) (sym report-length)
 
   pub past-rows : (out : List ℕ) (rows : List Row) (buffer : List ℕ) → out ≡ linesText rows ++ drop (reportLineWidth * (scenario .receptors .count * perReceptor (scenario .chemicals .count))) buffer
-      → out ≡ linesText rows ++ drop (lengthOf (writtenRows scenario)) buffer
+      → out ≡ linesText rows ++ drop (lengthOf (rowsOf scenario)) buffer
   past-rows out rows buffer e = e ∙ ap (λ (n : ℕ). linesText rows ++ drop n buffer) (length-is _ refl)
 
--- ---- what the cells of a sound scenario hold
-module _ (scenario : Scenario) {exact : Exact} (sound : Sound scenario exact) (small : first (largeLines scenario) ≡ Passed) where
+-- ---- what the cells hold where no line is refused and none too large
+module _ (scenario : Scenario) (figured : Figured scenario) (small : first (largeLines scenario) ≡ Passed) where
   module _ (j : ℕ) (here : j < scenario .receptors .count) where
     line-held : (q : ℕ) → q < scenario .chemicals .count * pathwaysPerChemical
         → rowIn (cellsOf scenario) j (receptorIn scenario j .id) (chemicalIn scenario (q / pathwaysPerChemical) .id) q ≡ rowAt scenario j (q / pathwaysPerChemical) (q % pathwaysPerChemical)
     unfolding rowIn rowAt
     line-held q h =
-        let held = columns-held scenario (sound .few-chemicals) (sound .few-receptors) j q here h in
+        let held = columns-held scenario (figured .few-chemicals) (figured .few-receptors) j q here h in
         rw (held Hazard, held Cancer, add-one) refl
 
     total-row-held : totalRowIn (cellsOf scenario) j (receptorIn scenario j .id) (scenario .chemicals .count * pathwaysPerChemical) ≡ totalRow scenario j
     unfolding totalRowIn totalRow
     total-row-held =
-        let held = total-held scenario sound small j here in
+        let held = total-held scenario figured small j here in
         rw (held Hazard, held Cancer) refl
 
     receptor-held : rowsIn (cellsOf scenario) j (receptorIn scenario j .id) (scenario .chemicals) ≡ rowsAt scenario j
@@ -104,7 +83,3 @@ module _ (scenario : Scenario) {exact : Exact} (sound : Sound scenario exact) (s
   pub rows-held : reportIn (cellsOf scenario) (scenario .chemicals) (scenario .receptors .list) (scenario .receptors .count) ≡ rowsOf scenario
   unfolding reportIn rowsOf receptorIn
   rows-held = chained-same (λ j. rowsIn (cellsOf scenario) j (receptorIn scenario j .id) (scenario .chemicals)) (rowsAt scenario) (scenario .receptors .count) receptor-held
-
-pub report-prints : (scenario : Scenario) {exact : Exact} → Sound scenario exact → Prints writtenRows rowsOf scenario
-unfolding writtenRows
-report-prints scenario sound = record { many = written-length scenario ∙ sym (report-length scenario); rows = λ small. rows-held scenario sound small }

@@ -18,7 +18,7 @@ use Rattle.text.proofs.Rows.{length-lines, length-one, lines-append, one-line, 
 use Rattle.scenario.specs.declared.Receptor.{Receptor}
 use Rattle.scenario.specs.Scenario.{noReceptor}
 use Rattle.lists.specs.Lists.{chained}
-use Rattle.report.specs.InMemory.{rowIn, totalRowIn, linesIn, rowsIn, reportIn}
+use Rattle.report.specs.Inner.{rowIn, totalRowIn, linesIn, rowsIn, reportIn}
 use Rattle.lists.proofs.Chained.{chained-more, chained-length}
 
 -- parts of a report, each of so many bytes, one after the other

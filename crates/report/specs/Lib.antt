@@ -6,4 +6,5 @@ pub mod DemandTwo
 pub mod DemandThree
 pub mod Guidance
 pub mod InMemory
+pub mod Inner
 pub mod Rooms

@@ -21,8 +21,9 @@ ghost use Rattle.text.specs.Text.{reportLineWidth};
 ghost use Rattle.slots.specs.declared.Sort.the-variants.{Ordinary};
 ghost use Rattle.scenario.specs.Scenario.{scenarioFrom};
 ghost use Rattle.report.specs.Forms.{outcomeOf, bufferOf};
-ghost use Rattle.report.specs.Report.{ordinary};
-ghost use Rattle.report.specs.InMemory.{perReceptor, writtenRows, onMemory, asRead, writtenOutcome, writtenBuffer};
+ghost use Rattle.report.specs.Report.{rowsOf, ordinary};
+ghost use Rattle.report.specs.InMemory.{onMemory, asRead, writtenOutcome, writtenBuffer};
+ghost use Rattle.report.specs.Inner.{perReceptor};
 ghost use Rattle.report.specs.Rooms.{deckRoom, longestReport};
 
 // The longest report: 388 lines.
@@ -62,8 +63,8 @@ pub fn write_report(
     receptors: Receptors,
     out: &mut [u8],
 ) -> Told
-    ensures { λ r. ⌜ r ≡ writtenOutcome onMemory writtenRows (scenarioFrom site chemicals receptors) (length (now (out .entry))) ⌝ }
-    ensures { λ _. ⌜ now (out .exit) ≡ writtenBuffer onMemory writtenRows (scenarioFrom site chemicals receptors) (now (out .entry)) ⌝ }
+    ensures { λ r. ⌜ r ≡ writtenOutcome onMemory rowsOf (scenarioFrom site chemicals receptors) (length (now (out .entry))) ⌝ }
+    ensures { λ _. ⌜ now (out .exit) ≡ writtenBuffer onMemory rowsOf (scenarioFrom site chemicals receptors) (now (out .entry)) ⌝ }
 {
     let status = scenario::scenario_status(site, chemicals, receptors);
     let Status::Passed = status else {
@@ -94,8 +95,8 @@ pub fn write_entered(
     receptors: Receptors,
     out: &mut [u8],
 ) -> Told
-    ensures { λ r. ⌜ r ≡ writtenOutcome asRead writtenRows (scenarioFrom site chemicals receptors) (length (now (out .entry))) ⌝ }
-    ensures { λ _. ⌜ now (out .exit) ≡ writtenBuffer asRead writtenRows (scenarioFrom site chemicals receptors) (now (out .entry)) ⌝ }
+    ensures { λ r. ⌜ r ≡ writtenOutcome asRead rowsOf (scenarioFrom site chemicals receptors) (length (now (out .entry))) ⌝ }
+    ensures { λ _. ⌜ now (out .exit) ≡ writtenBuffer asRead rowsOf (scenarioFrom site chemicals receptors) (now (out .entry)) ⌝ }
 {
     if cases::counts_outside(Sort::Ordinary, chemicals.count, receptors.count) {
         return refused(MISCOUNTED);

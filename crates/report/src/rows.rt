@@ -12,7 +12,7 @@ ghost use Prim.Native.Nat.{_*_, _≤_};
 ghost use lib.ListN.{length, drop};
 ghost use Rattle.sizes.specs.Sizes.{maxChemicals, mostReceptors};
 ghost use Rattle.text.specs.Text.{reportLineWidth, linesText};
-ghost use Rattle.report.specs.InMemory.{perReceptor, rowIn, totalRowIn, rowsIn, reportIn};
+ghost use Rattle.report.specs.Inner.{perReceptor, rowIn, totalRowIn, rowsIn, reportIn};
 
 // Line q of a receptor, which has this id, of the chemical that has this id.
 fn row_of(cells: &[u64], receptor: usize, id: u32, chemical: u32, q: usize) -> Row

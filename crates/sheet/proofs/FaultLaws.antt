@@ -12,7 +12,8 @@ use Rattle.cases.specs.Conditions.{Condition, at, first}
 use Rattle.cases.proofs.FirstMet.{orElse, first-append, never}
 use Rattle.lists.specs.Lists.{chained}
 use Rattle.scenario.specs.Scenario.{Scenario}
-use Rattle.sheet.specs.Sheet.{overLines}
+use Rattle.equations.specs.declared.Effect.the-variants.{Hazard, Cancer}
+use Rattle.sheet.specs.Sheet.{pathwayAt, unworked, overCap, reportLine, lineRefused, lineTooLarge, overLines, refusedLines, largeLines, faultyLines}
 
 -- lists whose parts stop alike
 first-same : (f g : ℕ → List Condition) (n : ℕ) → ((k : ℕ) → k < n → first (f k) ≡ first (g k)) → first (chained f n) ≡ first (chained g n)
@@ -149,3 +150,15 @@ module _ (m t b l : Status) (mixed : Mixed t b l) (before : (n x y : ℕ) → m 
         let v : t ≡ Stopped 42 x y = sym (ap (λ (s : Status). orElse s t) nothing-before) ∙ large in
         rw (nothing-before, u)
         (⊎-elim (λ h. absurd (never t _ _ _ v (h .told))) (λ h. ⊎-elim (λ k. absurd (never b _ _ _ (k .same) u)) (λ k. k .same ∙ sym (k .told)) h) mixed)
+
+-- no line stops in turn, so none at all
+none-mixed : (t b l : Status) → Mixed t b l → t ≡ Passed → (b ≡ Passed) × (l ≡ Passed)
+none-mixed t b l m e = ⊎-elim (λ h. (h .unbroken, h .small)) (λ h. ⊎-elim (λ k. absurd (never t _ _ _ (k .told) e)) (λ k. absurd (never t _ _ _ (k .told) e)) h) m
+
+pub faulty-clear : (scenario : Scenario) → first (faultyLines scenario) ≡ Passed → (first (refusedLines scenario) ≡ Passed) × (first (largeLines scenario) ≡ Passed)
+unfolding faultyLines refusedLines largeLines lineRefused lineTooLarge
+faulty-clear scenario e =
+    none-mixed _ _ _
+    (mixed-lines scenario (reportLine scenario) (λ j i p. unworked Hazard scenario j i (pathwayAt p) || unworked Cancer scenario j i (pathwayAt p))
+    (λ j i p. overCap Hazard scenario j i (pathwayAt p) || overCap Cancer scenario j i (pathwayAt p)))
+    e

@@ -2,7 +2,7 @@
 use mathlib.Core.Path.{_≡_, _∙_, ap, subst}
 use mathlib.Core.Bool.{Bool, true, false, cond, _&&_}
 use Prim.Native.Nat.{ℕ, suc, _+_, _*_, _^_, _≤_, _<_}
-use native.Mathlib.Nat.{le-trans, mul-le-mul-right, le-of-mul-le-mul-right, lt-of-mul-lt-mul-right}
+use native.Mathlib.Nat.{le-refl, le-trans, mul-le-mul-right, le-of-mul-le-mul-right, lt-of-mul-lt-mul-right}
 use native.Mathlib.Omega.{arith}
 use lib.Dec.{lit<, lit≤}
 use lib.IntN.{negsuc}
@@ -125,6 +125,23 @@ count-small e r n y t h c =
     let low : n .low ≤ n .high = low-small (n .low) (n .high) u d (ten-above (place (unitOf e))) (ten-above depth) (rising .across) in
     (le-trans low high, high)
 
+-- a pair holds its own low end
+holds-low : (r : Pair) → isPair r ≡ true → promises.Holds r (value (r .low))
+holds-low r h = record { proper = value-proper (r .low); low = record { across = le-refl _ }; high = ordered r h .rising }
+
+-- a pair at most its cap is counted, by small numbers
+pub record CountedPair (e : Effect) (r : Pair) : Type 0 where
+  pub capped : value (r .high) ≤ᶠ value (capOf e)
+  pub units : pairUnits.Units
+  pub told : inUnits r (unitOf e) ≡ is units
+  pub small : (units .low ≤ 10 ^ 16) × (units .high ≤ 10 ^ 16)
+
+pub pair-counted : (e : Effect) (r : Pair) → isPair r ≡ true → highAbove (capOf e) (is r) ≡ false → CountedPair e r
+pair-counted e r h c =
+    let b : value (r .high) ≤ᶠ value (capOf e) = not-above (capOf e) r (cap-number e) h c in
+    let a = units-answered r (unitOf e) h (unit-reach e) (through (value-proper (capOf e)) b (cap-units e 9999999999999999999 (lit≤ tt))) in
+    record { capped = b; units = a .0; told = a .1; small = count-small e r (a .0) (value (r .low)) (a .1) (holds-low r h) b }
+
 -- Ends outside a line's counts enclose what these enclose, if they are close.
 enclosed-from : (l h : ℕ) (n : pairUnits.Units) (x : Fraction) → Enclosed (n .low) (n .high) 1 x → l ≤ n .low → n .high ≤ h → 5000 * h ≤ 5001 * l + 15000 * 1 → Enclosed l h 1 x
 enclosed-from l h n x q a b c =
@@ -154,9 +171,8 @@ module _ (scenario : Scenario) {exact : Exact} (sound : Sound scenario exact) (j
   figure-counted e w c =
       let r : Pair = figure-works e w .0 in
       let k : Works (stayIn scenario j) (pairsAt scenario j i) (exact j i) (line (guidanceIn scenario) e (stayIn scenario j) w) r = figure-works e w .1 in
-      let b : value (r .high) ≤ᶠ value (capOf e) = not-above (capOf e) r (cap-number e) (k .pair) (subst (λ (o : Outcome Pair). highAbove (capOf e) o ≡ false) (k .told) c) in
-      let a = units-answered r (unitOf e) (k .pair) (unit-reach e) (through (value-proper (capOf e)) b (cap-units e 9999999999999999999 (lit≤ tt))) in
-      record { pair = r; works = k; capped = b; units = a .0; told = a .1 }
+      let n = pair-counted e r (k .pair) (subst (λ (o : Outcome Pair). highAbove (capOf e) o ≡ false) (k .told) c) in
+      record { pair = r; works = k; capped = n .capped; units = n .units; told = n .told }
 
   figure-totals : (e : Effect) (w : Pathway) → highAbove (capOf e) (figureAt e scenario j i w) ≡ false → (N : ℕ) → 256 ≤ N →
       Totals (countedIn (unitOf e) (figureAt e scenario j i w)) 1 (inUnitsOf e (exactly N (pacesOf (pairsAt scenario j i)) (exact j i) (line (guidanceIn scenario) e (stayIn scenario j) w)))

@@ -1,7 +1,7 @@
 -- A scenario in range: no chemical's media are refused, however fast it is lost, so that the sheet's call stops where documents 01 and 02 say; and
 -- where 42 does not hold, every line with a reference value has its pair and its counts, and all counts and totals are small. Assumes nothing.
 use mathlib.Core.Path.{_≡_, refl, _∙_, ap, subst}
-use mathlib.Core.Bool.{Bool, true, false, cond, _&&_, false≢true}
+use mathlib.Core.Bool.{Bool, true, false, cond, _&&_, false≢true, true≢false}
 use mathlib.Core.List.{List, _++_, append-assoc}
 use Prim.Native.Nat.{ℕ, zero, suc, _+_, _*_, _/_, _%_, _^_, _≤_, _<_}
 use native.Mathlib.Nat.{mul-le-mul-right}
@@ -11,7 +11,13 @@ use Rattle.pair.specs.declared.Pair.{Pair}
 use Rattle.pair.specs.declared.Units.{Units}
 use Rattle.pair.specs.Number.{isPair}
 use Rattle.pair.specs.Fraction.{minus}
-use Rattle.pair.specs.Calls.{Outcome, is, refused, inUnits}
+use Rattle.pair.specs.Calls.{Outcome, is, refused, after, inUnits}
+use Rattle.pair.specs.Promises.{Operation, quotients, products, call}
+use Rattle.pair.proofs.Promises.{pair-again}
+use Rattle.equations.specs.Formula.{Formula, read, pairs}
+use Rattle.equations.proofs.Guided.{on-route}
+use Rattle.slots.specs.declared.Guidance.{Guidance}
+use Rattle.slots.specs.declared.Guidance.the-variants.{Of2005, Of2009}
 use Rattle.equations.specs.declared.Pathway.{Pathway}
 use Rattle.equations.specs.declared.Pathway.the-variants.{Air, SoilSummer, AboveGround, BelowGround}
 use Rattle.equations.specs.declared.Effect.{Effect}
@@ -20,7 +26,7 @@ use Rattle.equations.specs.declared.Stay.{Stay}
 use Rattle.equations.specs.declared.Stay.the-variants.{Within}
 use Rattle.equations.specs.Page as page
 use Rattle.equations.specs.Page.{byMedium}
-use Rattle.equations.specs.Readings.{Inputs, pacesOf, exactly, inputs, byOwner}
+use Rattle.equations.specs.Readings.{Inputs, worked, inputs, byOwner}
 use Rattle.equations.proofs.Profile.{Good}
 use Rattle.equations.proofs.LineLaws.{ofLater, Works, medium-works, ground-works}
 use Rattle.slots.specs.Slots.{table, same, isIn, placeIn, ownerOf, placeOf}
@@ -36,8 +42,8 @@ use Rattle.totals.specs.declared.Columns.{Columns}
 use Rattle.totals.specs.declared.Columns.the-variants as Cols
 use Rattle.totals.specs.Totals.{_added_}
 use Rattle.scenario.specs.Scenario.{isRefused, Scenario, restOf, valuesOf, particlesOf, chemicalIn, receptorIn, stayIn, guidanceIn, givenIn, pairsAt, Exact}
-use Rattle.sizes.specs.Sizes.{pathwaysPerChemical, mostLines}
-use Rattle.sheet.specs.Sheet.{pathwayAt, hasReference, figureAt, unitOf, counted, countedIn, columnsAt, addedOver, totalAt, highAbove, unworked, overCap, capOf, lineRefused, lineTooLarge, largeLines, faultyLines}
+use Rattle.sizes.specs.Sizes.{maxChemicals, mostReceptors, pathwaysPerChemical, mostLines}
+use Rattle.sheet.specs.Sheet.{pathwayAt, hasReference, figureAt, unitOf, counted, countedIn, columnsAt, addedOver, totalAt, highAbove, unworked, overCap, capOf, lineRefused, lineTooLarge, refusedLines, largeLines, faultyLines}
 use Rattle.lists.specs.Lists.{chained}
 use Rattle.sheet.specs.Counts.{miscounted, groundFor, meanWith, meanFor, stopsAt, noMediaAt, unmade, enteredConditions, Part, Mark, Low, High, cellOf, cellsOf, totalIn, CountsMost}
 use Rattle.scenario.proofs.Sound.{Sound}
@@ -45,8 +51,8 @@ use Rattle.lists.proofs.AnyOf.{none-any}
 use Rattle.lists.proofs.Booleans.{and-false}
 use Rattle.sheet.proofs.FaultLaws.{lines-same}
 use Rattle.sheet.proofs.Held.{columns-total}
-use Rattle.sheet.proofs.Clear.{not-large}
-use Rattle.sheet.proofs.LineTotals.{Figure, figure-works, figure-counted, count-small}
+use Rattle.sheet.proofs.Clear.{not-large, lines-unworked}
+use Rattle.sheet.proofs.LineTotals.{Figure, figure-works, figure-counted, pair-counted}
 
 -- ---- the media are told
 four-all : (a c f r : Outcome Pair) (p q s t : Pair) → a ≡ is p → c ≡ is q → f ≡ is s → r ≡ is t → (m : Media) × (four a c f r ≡ is m)
@@ -201,21 +207,106 @@ module _ (scenario : Scenario) {exact : Exact} (sound : Sound scenario exact) (s
           columns = columns-counted (hasReference e scenario i (pathwayAt p)) e (figureAt e scenario j i (pathwayAt p)) (f .pair) (f .units) h (f .works .told) (f .told);
         }
 
+-- ---- a scenario of which no line with a reference value is refused
+pub record Figured (scenario : Scenario) : Type 0 where
+  pub few-chemicals : scenario .chemicals .count ≤ maxChemicals
+  pub few-receptors : scenario .receptors .count ≤ mostReceptors
+  pub told : (e : Effect) (j i p : ℕ) → j < scenario .receptors .count → i < scenario .chemicals .count → p < pathwaysPerChemical → hasReference e scenario i (pathwayAt p) ≡ true
+      → (r : Pair) × (figureAt e scenario j i (pathwayAt p) ≡ is r) × (isPair r ≡ true)
+
+-- a sound one, and one of which 53 holds of no line
+pub sound-figured : (scenario : Scenario) {exact : Exact} → Sound scenario exact → Figured scenario
+unfolding figureAt
+sound-figured scenario sound =
+    record {
+      few-chemicals = sound .few-chemicals;
+      few-receptors = sound .few-receptors;
+      told = λ e j i p a b c h. let f = figure-works scenario sound j i a b e (pathwayAt p) in (f .0, f .1 .told, f .1 .pair);
+    }
+
+-- what a line's last operation tells is a pair
+after-pair : (o : Operation) (x y : Outcome Pair) (r : Pair) → after (call o) x y ≡ is r → isPair r ≡ true
+unfolding after
+after-pair o (is p) (is q) r e = pair-again o p q r e
+after-pair o (is p) (refused n) r e = absurd (let z : _≡_ {A = ℕ} 0 1 = cc in omega arith)
+after-pair o (refused n) y r e = absurd (let z : _≡_ {A = ℕ} 0 1 = cc in omega arith)
+
+ends-pair : Formula → Type 0
+ends-pair f = (env : Inputs Pair) (r : Pair) → worked env f ≡ is r → isPair r ≡ true
+
+intake-pair : (e : Effect) (stay : Stay) (p : Pathway) → ends-pair (page.intakeLine e stay p)
+unfolding ends-pair worked read pairs call page.intakeLine page.figureBy
+intake-pair Hazard stay p env r e = after-pair quotients _ _ r e
+intake-pair Cancer stay p env r e = after-pair products _ _ r e
+
+air-pair : (e : Effect) → ends-pair (page.airLine e)
+unfolding ends-pair worked read pairs call page.airLine page.airFigureBy
+air-pair Hazard env r e = after-pair quotients _ _ r e
+air-pair Cancer env r e = after-pair products _ _ r e
+
+line-pair : (y : Guidance) (e : Effect) (stay : Stay) (p : Pathway) → ends-pair (page.line y e stay p)
+unfolding page.line page.byGuidance
+line-pair Of2005 e stay p = intake-pair e stay p
+line-pair Of2009 e stay p = on-route (λ (f : Formula). ends-pair f) p (page.airLine e) (page.intakeLine e stay p) (air-pair e) (intake-pair e stay p)
+
+not-broken : (t : Bool) (o : Outcome Pair) → t ≡ true → (t && isRefused o) ≡ false → (r : Pair) × (o ≡ is r)
+unfolding isRefused
+not-broken true (is r) h e = (r, refl)
+not-broken true (refused n) h e = absurd (true≢false e)
+not-broken false o h e = absurd (false≢true h)
+
+figure-told : (scenario : Scenario) (e : Effect) (j i p : ℕ) → hasReference e scenario i (pathwayAt p) ≡ true → unworked e scenario j i (pathwayAt p) ≡ false → (r : Pair) × (figureAt e scenario j i (pathwayAt p) ≡ is r)
+unfolding unworked
+figure-told scenario e j i p h u = not-broken (hasReference e scenario i (pathwayAt p)) (figureAt e scenario j i (pathwayAt p)) h u
+
+figure-pair : (scenario : Scenario) (e : Effect) (j i p : ℕ) (r : Pair) → figureAt e scenario j i (pathwayAt p) ≡ is r → isPair r ≡ true
+unfolding figureAt ends-pair
+figure-pair scenario e j i p r h = line-pair (guidanceIn scenario) e (stayIn scenario j) (pathwayAt p) (pairsAt scenario j i) r h
+
+pub lines-figured : (scenario : Scenario) → scenario .chemicals .count ≤ maxChemicals → scenario .receptors .count ≤ mostReceptors → first (refusedLines scenario) ≡ Passed → Figured scenario
+lines-figured scenario few-chemicals few-receptors none =
+    record { few-chemicals = few-chemicals; few-receptors = few-receptors; told = λ e j i p a b c h. told e j i p a b c h }
+  where
+    unbroken : (e : Effect) (j i p : ℕ) → j < scenario .receptors .count → i < scenario .chemicals .count → p < pathwaysPerChemical → unworked e scenario j i (pathwayAt p) ≡ false
+    unbroken e j i p a b c = lines-unworked scenario none e j i p a b c
+
+    told : (e : Effect) (j i p : ℕ) → j < scenario .receptors .count → i < scenario .chemicals .count → p < pathwaysPerChemical → hasReference e scenario i (pathwayAt p) ≡ true
+        → (r : Pair) × (figureAt e scenario j i (pathwayAt p) ≡ is r) × (isPair r ≡ true)
+    told e j i p a b c h =
+        let f = figure-told scenario e j i p h (unbroken e j i p a b c) in
+        (f .0, f .1, figure-pair scenario e j i p (f .0) (f .1))
+
+-- ---- where no line is refused and none too large, all counts and totals are small
+module _ (scenario : Scenario) (figured : Figured scenario) (small : first (largeLines scenario) ≡ Passed) where
+  module _ (e : Effect) (j i p : ℕ) (j-small : j < scenario .receptors .count) (i-small : i < scenario .chemicals .count) (p-small : p < pathwaysPerChemical) where
     pub columns-small : CountsMost (10 ^ 16) (columnsAt e scenario j i (pathwayAt p))
-    unfolding columnsAt figureAt countedIn counted CountsMost
+    unfolding columnsAt countedIn counted CountsMost overCap
     columns-small =
         most-if (hasReference e scenario i (pathwayAt p)) e (figureAt e scenario j i (pathwayAt p))
-        (λ h. let f = figure h in rw (f .works .told, f .told) (count-small e (f .pair) (f .units) (exactly 256 (pacesOf (pairsAt scenario j i)) (exact j i) (page.line (guidanceIn scenario) e (stayIn scenario j) (pathwayAt p))) (f .told) (f .works .held 256 (lit≤ tt)) (f .capped)))
+        (λ h.
+        let f = figured .told e j i p j-small i-small p-small h in
+        let c = capped (hasReference e scenario i (pathwayAt p)) (highAbove (capOf e) (figureAt e scenario j i (pathwayAt p))) h (not-large scenario small e j i p j-small i-small p-small) in
+        let n = pair-counted e (f .0) (f .2) (subst (λ (o : Outcome Pair). highAbove (capOf e) o ≡ false) (f .1) c) in
+        rw (f .1, n .told) (n .small))
+
+    -- and a line with its reference value has counts, never -
+    pub never-dash : hasReference e scenario i (pathwayAt p) ≡ true → (u : Units) × (columnsAt e scenario j i (pathwayAt p) ≡ Cols.Counted (u .low) (u .high))
+    unfolding columnsAt overCap
+    never-dash h =
+        let f = figured .told e j i p j-small i-small p-small h in
+        let c = capped (hasReference e scenario i (pathwayAt p)) (highAbove (capOf e) (figureAt e scenario j i (pathwayAt p))) h (not-large scenario small e j i p j-small i-small p-small) in
+        let n = pair-counted e (f .0) (f .2) (subst (λ (o : Outcome Pair). highAbove (capOf e) o ≡ false) (f .1) c) in
+        (n .units, columns-counted (hasReference e scenario i (pathwayAt p)) e (figureAt e scenario j i (pathwayAt p)) (f .0) (n .units) h (f .1) (n .told))
 
   pub total-small : (e : Effect) (j : ℕ) → j < scenario .receptors .count → CountsMost (mostLines * 10 ^ 16) (totalAt e scenario j)
   unfolding totalAt
   total-small e j h =
-      most-more (scenario .chemicals .count * (pathwaysPerChemical * 10 ^ 16)) (mostLines * 10 ^ 16) (totalAt e scenario j) (omega (arith, mul-le-mul-right (pathwaysPerChemical * 10 ^ 16) (sound .few-chemicals)))
+      most-more (scenario .chemicals .count * (pathwaysPerChemical * 10 ^ 16)) (mostLines * 10 ^ 16) (totalAt e scenario j) (omega (arith, mul-le-mul-right (pathwaysPerChemical * 10 ^ 16) (figured .few-chemicals)))
       (most-over (pathwaysPerChemical * 10 ^ 16) (λ i. addedOver (λ p. columnsAt e scenario j i (pathwayAt p)) pathwaysPerChemical) (scenario .chemicals .count)
       (λ i l. most-over (10 ^ 16) (λ p. columnsAt e scenario j i (pathwayAt p)) pathwaysPerChemical (λ p k. columns-small e j i p h l k)))
 
   -- a total read from the cells is the receptor's total
   pub total-held : (j : ℕ) → j < scenario .receptors .count → (e : Effect) → totalIn (cellsOf scenario) j e (scenario .chemicals .count * pathwaysPerChemical) ≡ totalAt e scenario j
   total-held j h e =
-      columns-total scenario (sound .few-chemicals) (sound .few-receptors) j h e
+      columns-total scenario (figured .few-chemicals) (figured .few-receptors) j h e
       (λ q l w. cell-most (columnsAt e scenario j (q / pathwaysPerChemical) (pathwayAt (q % pathwaysPerChemical))) w (columns-small e j (q / pathwaysPerChemical) (q % pathwaysPerChemical) h (omega arith) (omega arith)))

@@ -5,8 +5,6 @@ use denote.Ref.{now}
 use Rattle.deck.specs.declared.Reading.{Reading}
 use Rattle.deck.specs.DeckCase.{readOf}
 use Rattle.scenario.specs.Scenario.{scenarioWith}
-use Rattle.report.specs.InMemory.{writtenRows}
-use Rattle.report.proofs.ReportLaws.{report-prints}
 use Rattle.report.proofs.CallLaws.{deck-stops, deck-read, answers}
 use Rattle.composite.specs.Composite.{composite}
 use Rattle.composite.proofs.Demands.{composite-sounds, stages-few}
@@ -50,7 +48,7 @@ returns-2 c =
     let reading = c .before .before .before .before .before .before .before .read .ensures .0 in
     let none = c .before .before .before .before .before .enum-told .given .1 in
     answers composite (now (a .deck)) (now (a .out)) _ reading none (composite-sounds .sound (now (a .deck)) (deck-read composite (now (a .deck)) (now (a .out)) _ reading none))
-    writtenRows (report-prints _ (composite-sounds .sound (now (a .deck)) (deck-read composite (now (a .deck)) (now (a .out)) _ reading none))) _ (c .before .before .before .before .composite-of .ensures) _ _ (c .before .before .write-entered .ensures .0) (c .before .before .write-entered .ensures .1)
+    _ (c .before .before .before .before .composite-of .ensures) _ _ (c .before .before .write-entered .ensures .0) (c .before .before .write-entered .ensures .1)
 
 pub report-spec : {M : Type 1} → statement M
 report-spec =

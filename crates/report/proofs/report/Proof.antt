@@ -6,9 +6,7 @@ use Rattle.deck.specs.declared.Reading.{Reading}
 use Rattle.deck.specs.DeckCase.{readOf}
 use Rattle.scenario.specs.Scenario.{scenarioWith}
 use Rattle.report.specs.Report.{ordinary}
-use Rattle.report.specs.InMemory.{writtenRows}
 use Rattle.report.proofs.CallLaws.{deck-stops, deck-read, answers}
-use Rattle.report.proofs.ReportLaws.{report-prints}
 use Rattle.report.proofs.DemandTwo.{ordinary-sounds}
 use Rattle.report.proofs.report.Statement.{statement}
 use Rattle.report.proofs.report.Tie as tie
@@ -47,7 +45,7 @@ returns-2 c =
     let reading = c .before .before .before .before .before .before .before .read .ensures .0 in
     let none = c .before .before .before .before .before .enum-told .given .1 in
     answers ordinary (now (a .deck)) (now (a .out)) _ reading none (ordinary-sounds .sound (now (a .deck)) (deck-read ordinary (now (a .deck)) (now (a .out)) _ reading none))
-    writtenRows (report-prints _ (ordinary-sounds .sound (now (a .deck)) (deck-read ordinary (now (a .deck)) (now (a .out)) _ reading none))) _ (c .before .before .before .before .entered-from .ensures) _ _ (c .before .before .write-entered .ensures .0) (c .before .before .write-entered .ensures .1)
+    _ (c .before .before .before .before .entered-from .ensures) _ _ (c .before .before .write-entered .ensures .0) (c .before .before .write-entered .ensures .1)
 
 pub report-spec : {M : Type 1} → statement M
 report-spec =

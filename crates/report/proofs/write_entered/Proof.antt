@@ -4,12 +4,14 @@ use borrow.Author.Needs.{needs}
 use denote.Ref.{now}
 use lib.ListN.{length}
 use Rattle.scenario.specs.Scenario.{scenarioFrom}
-use Rattle.report.specs.InMemory.{reportIn, writtenRows}
+use Rattle.report.specs.Inner.{reportIn}
+use Rattle.report.specs.Report.{rowsOf}
 use Rattle.sheet.specs.Counts.{miscounted}
+use Rattle.sheet.proofs.SheetCaseLaws.{lines-figured}
 use Rattle.sheet.proofs.Held.{entered-many}
 use Rattle.sheet.proofs.CountLaws.{room-entered}
-use Rattle.report.proofs.ReportLaws.{length-is, rows-from, past-rows}
-use Rattle.report.proofs.CallLaws.{miscount, too-short, sheet-stops, written}
+use Rattle.report.proofs.ReportLaws.{length-is, rows-held, past-rows}
+use Rattle.report.proofs.CallLaws.{miscount, too-short, sheet-stops, written, read-clear}
 use Rattle.report.proofs.write_entered.Statement.{statement}
 use Rattle.report.proofs.write_entered.Tie as tie
 
@@ -23,7 +25,7 @@ returns : tie.Need-returns
 unfolding miscounted
 returns c =
     let a = c .before .before .before .before .args in
-    miscount writtenRows (scenarioFrom (a .site) (a .chemicals) (a .receptors)) (now (a .out)) (sym (c .before .before .counts-outside .ensures) ∙ c .before .if1 .taken) (c .refused .result) (c .refused .ensures)
+    miscount rowsOf (scenarioFrom (a .site) (a .chemicals) (a .receptors)) (now (a .out)) (sym (c .before .before .counts-outside .ensures) ∙ c .before .if1 .taken) (c .refused .result) (c .refused .ensures)
 
 length-of-requires : tie.Need-length-of-requires
 unfolding miscounted
@@ -38,7 +40,7 @@ returns-2 : tie.Need-returns-2
 unfolding miscounted
 returns-2 c =
     let a = c .before .before .before .before .before .before .args in
-    too-short writtenRows (scenarioFrom (a .site) (a .chemicals) (a .receptors)) (now (a .out)) (sym (c .before .before .before .before .counts-outside .ensures) ∙ c .before .before .before .if1 .left) (rw (length-is (scenarioFrom (a .site) (a .chemicals) (a .receptors)) _ (c .before .before .length-of .ensures)) at (c .before .if2 .taken)) (c .refused2 .result) (c .refused2 .ensures)
+    too-short rowsOf (scenarioFrom (a .site) (a .chemicals) (a .receptors)) (now (a .out)) (sym (c .before .before .before .before .counts-outside .ensures) ∙ c .before .before .before .if1 .left) (rw (length-is (scenarioFrom (a .site) (a .chemicals) (a .receptors)) _ (c .before .before .length-of .ensures)) at (c .before .if2 .taken)) (c .refused2 .result) (c .refused2 .ensures)
 
 counts-entered-requires : tie.Need-counts-entered-requires
 counts-entered-requires c κs = search needs
@@ -57,7 +59,7 @@ unfolding miscounted
 returns-3 c =
     let a = c .before .before .before .before .before .before .before .before .before .before .args in
     let room = rw (length-is (scenarioFrom (a .site) (a .chemicals) (a .receptors)) _ (c .before .before .before .before .before .before .length-of .ensures)) at (c .before .before .before .before .before .if2 .left) in
-    sheet-stops writtenRows (scenarioFrom (a .site) (a .chemicals) (a .receptors)) (now (a .out)) (sym (c .before .before .before .before .before .before .before .before .counts-outside .ensures) ∙ c .before .before .before .before .before .before .before .if1 .left) room _ (c .before .before .before .counts-entered .ensures .0) _ _ _ _ (c .before .enum-told2 .given .1) (c .tell .ensures)
+    sheet-stops rowsOf (scenarioFrom (a .site) (a .chemicals) (a .receptors)) (now (a .out)) (sym (c .before .before .before .before .before .before .before .before .counts-outside .ensures) ∙ c .before .before .before .before .before .before .before .if1 .left) room _ (c .before .before .before .counts-entered .ensures .0) _ _ _ _ (c .before .enum-told2 .given .1) (c .tell .ensures)
 
 slice-aggregate-write-rows : tie.Need-slice-aggregate-write-rows
 slice-aggregate-write-rows c =
@@ -81,8 +83,8 @@ returns-4 c =
     let long = length-is scenario _ (c .before .before .before .before .before .before .before .before .before .before .length-of .ensures) in
     let room = rw long at (c .before .before .before .before .before .before .before .before .before .if2 .left) in
     let worked = c .before .before .before .before .before .before .before .counts-entered in
-    written writtenRows scenario (now (a .out)) (sym (c .before .before .before .before .before .before .before .before .before .before .before .before .counts-outside .ensures) ∙ c .before .before .before .before .before .before .before .before .before .before .before .if1 .left) room _ (worked .ensures .0) (c .before .before .before .before .before .enum-told .given .1) _ (worked .ensures .1)
-    (λ cells. reportIn cells (a .chemicals) (a .receptors .list) (a .receptors .count)) (rows-from scenario) _ _ long (past-rows scenario _ _ (now (a .out)) (c .before .before .write-rows .ensures))
+    written rowsOf scenario (now (a .out)) (sym (c .before .before .before .before .before .before .before .before .before .before .before .before .counts-outside .ensures) ∙ c .before .before .before .before .before .before .before .before .before .before .before .if1 .left) room _ (worked .ensures .0) (c .before .before .before .before .before .enum-told .given .1) _ (worked .ensures .1)
+    (λ cells. reportIn cells (a .chemicals) (a .receptors .list) (a .receptors .count)) (λ e. let few = room-entered scenario (sym (c .before .before .before .before .before .before .before .before .before .before .before .before .counts-outside .ensures) ∙ c .before .before .before .before .before .before .before .before .before .before .before .if1 .left) in let none = read-clear rowsOf scenario (length (now (a .out))) e in sym (rows-held scenario (lines-figured scenario (few .0) (few .1) (none .0)) (none .1))) _ _ long (past-rows scenario _ _ (now (a .out)) (c .before .before .write-rows .ensures))
 
 pub write-entered-spec : {M : Type 1} → statement M
 write-entered-spec =

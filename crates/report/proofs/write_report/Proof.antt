@@ -4,11 +4,13 @@ use borrow.Author.Needs.{needs}
 use denote.Ref.{now}
 use lib.ListN.{length}
 use Rattle.scenario.specs.Scenario.{scenarioFrom}
-use Rattle.report.specs.InMemory.{reportIn, writtenRows}
+use Rattle.report.specs.Inner.{reportIn}
+use Rattle.report.specs.Report.{rowsOf}
+use Rattle.sheet.proofs.SheetCaseLaws.{lines-figured}
 use Rattle.sheet.proofs.Held.{cells-many}
 use Rattle.sheet.proofs.CountLaws.{room-in-memory}
-use Rattle.report.proofs.ReportLaws.{length-is, rows-from, past-rows}
-use Rattle.report.proofs.CallLaws.{memory-stops, memory-short, counts-stop, counts-written}
+use Rattle.report.proofs.ReportLaws.{length-is, rows-held, past-rows}
+use Rattle.report.proofs.CallLaws.{memory-stops, memory-short, counts-stop, counts-written, memory-clear}
 use Rattle.report.proofs.write_report.Statement.{statement}
 use Rattle.report.proofs.write_report.Tie as tie
 
@@ -27,7 +29,7 @@ tell-requires c κs = search needs
 returns : tie.Need-returns
 returns c =
     let a = c .before .before .before .before .before .args in
-    memory-stops writtenRows (scenarioFrom (a .site) (a .chemicals) (a .receptors)) (now (a .out)) _ (c .before .before .before .scenario-status .ensures) _ _ _ (c .before .enum-told2 .given .1) _ (c .tell .ensures)
+    memory-stops rowsOf (scenarioFrom (a .site) (a .chemicals) (a .receptors)) (now (a .out)) _ (c .before .before .before .scenario-status .ensures) _ _ _ (c .before .enum-told2 .given .1) _ (c .tell .ensures)
 
 length-of-requires : tie.Need-length-of-requires
 length-of-requires c κs =
@@ -40,7 +42,7 @@ refused-requires c κs = search needs
 returns-2 : tie.Need-returns-2
 returns-2 c =
     let a = c .before .before .before .before .before .before .before .args in
-    memory-short writtenRows (scenarioFrom (a .site) (a .chemicals) (a .receptors)) (now (a .out)) _ (c .before .before .before .before .before .scenario-status .ensures) (c .before .before .before .enum-told .given .1) (rw (length-is (scenarioFrom (a .site) (a .chemicals) (a .receptors)) _ (c .before .before .length-of .ensures)) at (c .before .if1 .taken)) (c .refused .result) (c .refused .ensures)
+    memory-short rowsOf (scenarioFrom (a .site) (a .chemicals) (a .receptors)) (now (a .out)) _ (c .before .before .before .before .before .scenario-status .ensures) (c .before .before .before .enum-told .given .1) (rw (length-is (scenarioFrom (a .site) (a .chemicals) (a .receptors)) _ (c .before .before .length-of .ensures)) at (c .before .if1 .taken)) (c .refused .result) (c .refused .ensures)
 
 counts-of-requires : tie.Need-counts-of-requires
 counts-of-requires c κs = search needs
@@ -58,7 +60,7 @@ returns-3 : tie.Need-returns-3
 returns-3 c =
     let a = c .before .before .before .before .before .before .before .before .before .before .before .args in
     let room = rw (length-is (scenarioFrom (a .site) (a .chemicals) (a .receptors)) _ (c .before .before .before .before .before .before .length-of .ensures)) at (c .before .before .before .before .before .if1 .left) in
-    counts-stop writtenRows (scenarioFrom (a .site) (a .chemicals) (a .receptors)) (now (a .out)) _ (c .before .before .before .before .before .before .before .before .before .scenario-status .ensures) (c .before .before .before .before .before .before .before .enum-told .given .1) room _ (c .before .before .before .counts-of .ensures .0) _ _ _ _ (c .before .enum-told4 .given .1) (c .tell2 .ensures)
+    counts-stop rowsOf (scenarioFrom (a .site) (a .chemicals) (a .receptors)) (now (a .out)) _ (c .before .before .before .before .before .before .before .before .before .scenario-status .ensures) (c .before .before .before .before .before .before .before .enum-told .given .1) room _ (c .before .before .before .counts-of .ensures .0) _ _ _ _ (c .before .enum-told4 .given .1) (c .tell2 .ensures)
 
 slice-aggregate-write-rows : tie.Need-slice-aggregate-write-rows
 slice-aggregate-write-rows c =
@@ -81,8 +83,8 @@ returns-4 c =
     let long = length-is scenario _ (c .before .before .before .before .before .before .before .before .before .before .length-of .ensures) in
     let room = rw long at (c .before .before .before .before .before .before .before .before .before .if1 .left) in
     let worked = c .before .before .before .before .before .before .before .counts-of in
-    counts-written writtenRows scenario (now (a .out)) _ (c .before .before .before .before .before .before .before .before .before .before .before .before .before .scenario-status .ensures) (c .before .before .before .before .before .before .before .before .before .before .before .enum-told .given .1) room _ (worked .ensures .0) (c .before .before .before .before .before .enum-told3 .given .1) _ (worked .ensures .1)
-    (λ cells. reportIn cells (a .chemicals) (a .receptors .list) (a .receptors .count)) (rows-from scenario) _ _ long (past-rows scenario _ _ (now (a .out)) (c .before .before .write-rows .ensures))
+    counts-written rowsOf scenario (now (a .out)) _ (c .before .before .before .before .before .before .before .before .before .before .before .before .before .scenario-status .ensures) (c .before .before .before .before .before .before .before .before .before .before .before .enum-told .given .1) room _ (worked .ensures .0) (c .before .before .before .before .before .enum-told3 .given .1) _ (worked .ensures .1)
+    (λ cells. reportIn cells (a .chemicals) (a .receptors .list) (a .receptors .count)) (λ e. let few = room-in-memory scenario _ (c .before .before .before .before .before .before .before .before .before .before .before .before .before .scenario-status .ensures) (c .before .before .before .before .before .before .before .before .before .before .before .enum-told .given .1) in let none = memory-clear rowsOf scenario (length (now (a .out))) e in sym (rows-held scenario (lines-figured scenario (few .0) (few .1) (none .0)) (none .1))) _ _ long (past-rows scenario _ _ (now (a .out)) (c .before .before .write-rows .ensures))
 
 pub write-report-spec : {M : Type 1} → statement M
 write-report-spec =

@@ -1,7 +1,7 @@
 -- `report::rows::row_of` meets its contract: the columns of each effect. Assumes nothing.
 use mathlib.Core.Path.{refl}
 use borrow.Author.Needs.{needs}
-use Rattle.report.specs.InMemory.{rowIn}
+use Rattle.report.specs.Inner.{rowIn}
 use Rattle.report.proofs.rows.row_of.Statement.{statement}
 use Rattle.report.proofs.rows.row_of.Tie as tie
 

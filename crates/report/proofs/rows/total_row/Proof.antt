@@ -1,7 +1,7 @@
 -- `report::rows::total_row` meets its contract: a total for each effect. Assumes nothing.
 use mathlib.Core.Path.{refl}
 use borrow.Author.Needs.{needs}
-use Rattle.report.specs.InMemory.{totalRowIn}
+use Rattle.report.specs.Inner.{totalRowIn}
 use Rattle.report.proofs.rows.total_row.Statement.{statement}
 use Rattle.report.proofs.rows.total_row.Tie as tie
 

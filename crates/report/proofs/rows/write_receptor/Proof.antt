@@ -10,7 +10,7 @@ use lib.ListN.{length, drop, length-map}
 use Rattle.sizes.specs.Sizes.{maxChemicals, pathwaysPerChemical}
 use Rattle.text.specs.Text.{linesText, reportLineWidth}
 use Rattle.lists.specs.Lists.{chained}
-use Rattle.report.specs.InMemory.{linesIn}
+use Rattle.report.specs.Inner.{linesIn}
 use Rattle.report.proofs.Written.{line-more, total-more}
 use Rattle.report.proofs.rows.write_receptor.Statement.{statement}
 use Rattle.report.proofs.rows.write_receptor.Tie as tie

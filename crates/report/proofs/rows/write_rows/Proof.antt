@@ -11,7 +11,7 @@ use lib.ListN.{length, drop, length-map}
 use Rattle.sizes.specs.Sizes.{mostReceptors, pathwaysPerChemical}
 use Rattle.text.specs.Text.{linesText, reportLineWidth}
 use Rattle.lists.specs.Lists.{chained}
-use Rattle.report.specs.InMemory.{reportIn}
+use Rattle.report.specs.Inner.{reportIn}
 use Rattle.report.proofs.Written.{within, receptor-more}
 use Rattle.report.proofs.rows.write_rows.Statement.{statement}
 use Rattle.report.proofs.rows.write_rows.Tie as tie
