@@ -9,18 +9,20 @@ use mathlib.Core.Logic.{⊎-elim}
 use borrow.Author.Tests.{eqb-false, ltb-false, ne-eqb, le-ltb}
 use lib.Dec.{leb, ltb, eqb}
 use lib.IntN.{ℤ}
+use lib.ListN.{getD}
 use Rattle.lists.specs.Lists.{anyOf}
 use Rattle.lists.proofs.AnyOf.{any-of, none-more}
 use Rattle.lists.proofs.Booleans.{neither}
-use Rattle.sizes.specs.Sizes.{maxChemicals, mostStages}
-use Rattle.slots.specs.declared.Owner.the-variants.{Site}
+use Rattle.sizes.specs.Sizes.{maxChemicals, mostStages, slotsPerRecord}
+use Rattle.slots.specs.declared.Owner.{Owner}
+use Rattle.slots.specs.declared.Owner.the-variants.{Site, Chemical}
 use Rattle.slots.specs.declared.Sort.{Sort}
 use Rattle.slots.specs.declared.Sort.the-variants.{Ordinary, Composite}
-use Rattle.cases.specs.Cases.{maxReceptors}
+use Rattle.cases.specs.Cases.{noRecord, maxReceptors}
 use Rattle.slots.specs.declared.Rule.{Rule}
 use Rattle.cases.specs.CaseConditions.{outside, countsOutside, mostId, idBefore, idWrong, idsWrong, isMissing, isStray, someIdWrong, isOutOfRange, slotConditions, recordConditions, chemicalConditions, sourceConditions, memoryConditions}
-use Rattle.cases.specs.Conditions.{first}
-use Rattle.cases.proofs.FirstMet.{orElse, first-append}
+use Rattle.cases.specs.Conditions.{Nowhere, first}
+use Rattle.cases.proofs.FirstMet.{orElse, first-append, each-append, each-chained}
 use Rattle.cases.specs.Ranges.{inRange}
 use Rattle.cases.specs.declared.Chemicals.{Chemicals}
 use Rattle.cases.specs.declared.Ids.{Ids}
@@ -117,6 +119,16 @@ counts-inside sort c r h =
     let a = not-outside maxChemicals c (t .0) in
     let b = not-outside (maxReceptors sort) r (t .1) in
     (a .0, a .1, b .0, b .1, fewer sort r (b .1))
+
+-- ---- none of them names a line or a field
+record-nowhere : (o : Owner) (r : Record) → Nowhere (recordConditions Ordinary o r)
+unfolding recordConditions slotConditions
+record-nowhere o r = each-chained _ _ (λ k. ((refl, refl), ((refl, refl), tt))) slotsPerRecord
+
+pub memory-nowhere : (sort : Sort) (site : Record) (chemicals : Chemicals) (receptors : Ids) → Nowhere (memoryConditions sort site chemicals receptors)
+unfolding memoryConditions sourceConditions chemicalConditions
+memory-nowhere sort site chemicals receptors =
+    ((refl, refl), ((refl, refl), each-append _ (recordConditions Ordinary Site site) _ (record-nowhere Site site) (each-chained _ _ (λ i. record-nowhere Chemical (getD (chemicals .records) i noRecord)) (chemicals .count))))
 
 -- ---- the whole list
 module _ (sort : Sort) (site : Record) (chemicals : Chemicals) (receptors : Ids) where

@@ -5,9 +5,10 @@ use native.Mathlib.Omega.{arith}
 use mathlib.Core.Path.{_≡_, refl, sym, ap, _∙_}
 use mathlib.Core.Bool.{Bool, true, false, cond}
 use mathlib.Core.List.{List, [], _∷_, _++_}
-use Rattle.cases.specs.Conditions.{Condition, first, NoneHolds, Without, toldOf}
+use Rattle.cases.specs.Conditions.{Condition, first, Each, NoneHolds, Without, Nowhere, toldOf, verdictOf}
 use Rattle.cases.specs.declared.Status.{Status}
 use Rattle.cases.specs.declared.Status.the-variants.{Passed, Stopped}
+use Rattle.cases.specs.declared.Verdict.the-variants as Verdicts
 use mathlib.Core.Logic.{_≢_}
 use Rattle.lists.specs.Lists.{chained}
 use Rattle.lists.proofs.Chained.{chained-more, chained-split}
@@ -83,10 +84,23 @@ module _ (f : ℕ → List Condition) (k : ℕ) (none : first (chained f k) ≡ 
       ∙ first-append (f k) rest
       ∙ ap (λ (t : Status). orElse t (first rest)) (sym is-first ∙ stop))
 
+-- ---- each condition of lists that are put together
+module _ (Such : Condition → Type 0) where
+  pub each-append : (xs ys : List Condition) → Each Such xs → Each Such ys → Each Such (xs ++ ys)
+  each-append [] ys h k = k
+  each-append (c ∷ cs) ys h k = (h .0, each-append cs ys (h .1) k)
+
+  pub each-chained : (f : ℕ → List Condition) → ((k : ℕ) → Each Such (f k)) → (m : ℕ) → Each Such (chained f m)
+  unfolding chained
+  each-chained f h zero = tt
+  each-chained f h (suc m) = each-append (chained f m) (f m) (each-chained f h m) (h m)
+
 module _ (n : ℕ) where
   pub without-append : (xs ys : List Condition) → Without n xs → Without n ys → Without n (xs ++ ys)
-  without-append [] ys h k = k
-  without-append (c ∷ cs) ys h k = (h .0, without-append cs ys (h .1) k)
+  without-append = each-append (λ c. c .number ≢ n)
+
+  pub without-chained : (f : ℕ → List Condition) → ((k : ℕ) → Without n (f k)) → (m : ℕ) → Without n (chained f m)
+  without-chained = each-chained (λ c. c .number ≢ n)
 
   told-either : (b : Bool) (s t : Status) → toldOf s .number ≢ n → toldOf t .number ≢ n → toldOf (cond b s t) .number ≢ n
   told-either true s t h k = h
@@ -98,7 +112,20 @@ module _ (n : ℕ) where
   told-without z [] h = z
   told-without z (c ∷ cs) h = told-either (c .holds) (Stopped (c .number) (c .line) (c .field)) (first cs) (h .0) (told-without z cs (h .1))
 
-pub without-chained : (n : ℕ) (f : ℕ → List Condition) → ((k : ℕ) → Without n (f k)) → (m : ℕ) → Without n (chained f m)
-unfolding chained
-without-chained n f h zero = tt
-without-chained n f h (suc m) = without-append n (chained f m) (f m) (without-chained n f h m) (h m)
+-- ---- the number alone
+pub verdict-passed : (s : Status) → verdictOf s ≡ Verdicts.Passed → s ≡ Passed
+unfolding verdictOf
+verdict-passed Passed e = refl
+verdict-passed (Stopped number line field) e = absurd (let z : _≡_ {A = ℕ} 0 1 = cc in omega arith)
+
+alone-either : (b : Bool) (n line field : ℕ) (s : Status) (number : ℕ) → (line ≡ 0) × (field ≡ 0) → (verdictOf s ≡ Verdicts.Refused number → s ≡ Stopped number 0 0)
+    → verdictOf (cond b (Stopped n line field) s) ≡ Verdicts.Refused number → cond b (Stopped n line field) s ≡ Stopped number 0 0
+unfolding verdictOf
+alone-either true n line field s number nowhere rest e = let same : n ≡ number = cc in rw (same, nowhere .0, nowhere .1) refl
+alone-either false n line field s number nowhere rest e = rest e
+
+-- of a list that names no line and no field nothing else is told
+pub told-alone : (cs : List Condition) → Nowhere cs → (number : ℕ) → verdictOf (first cs) ≡ Verdicts.Refused number → first cs ≡ Stopped number 0 0
+unfolding first verdictOf
+told-alone [] h number e = absurd (let z : _≡_ {A = ℕ} 0 1 = cc in omega arith)
+told-alone (c ∷ cs) h number e = alone-either (c .holds) (c .number) (c .line) (c .field) (first cs) number (h .0) (told-alone cs (h .1) number) e

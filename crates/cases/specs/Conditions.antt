@@ -10,6 +10,8 @@ use Rattle.lists.specs.Lists.{chained}
 use Rattle.cases.specs.declared.Status.{Status}
 use Rattle.cases.specs.declared.Status.the-variants.{Passed, Stopped}
 use Rattle.cases.specs.declared.Told.{Told}
+use Rattle.cases.specs.declared.Verdict.{Verdict}
+use Rattle.cases.specs.declared.Verdict.the-variants as Verdicts
 
 -- a condition: its number, the line and the field where it is told, and whether it holds
 pub record Condition : Type 0 where
@@ -26,15 +28,22 @@ unfoldable pub first : List Condition → Status
 first [] = Passed
 first (c ∷ cs) = cond (c .holds) (Stopped (c .number) (c .line) (c .field)) (first cs)
 
+-- each of them is such
+abbrev pub Each : (Condition → Type 0) → List Condition → Type 0
+Each Such [] = Unit {0}
+Each Such (c ∷ cs) = Such c × Each Such cs
+
 -- none of them holds
 abbrev pub NoneHolds : List Condition → Type 0
-NoneHolds [] = Unit {0}
-NoneHolds (c ∷ cs) = (c .holds ≡ false) × NoneHolds cs
+NoneHolds = Each (λ c. c .holds ≡ false)
 
 -- none of them has this number
 abbrev pub Without : ℕ → List Condition → Type 0
-Without n [] = Unit {0}
-Without n (c ∷ cs) = (c .number ≢ n) × Without n cs
+Without n = Each (λ c. c .number ≢ n)
+
+-- none of them names a line or a field
+abbrev pub Nowhere : List Condition → Type 0
+Nowhere = Each (λ c. (c .line ≡ 0) × (c .field ≡ 0))
 
 -- f 1, f 2, .., f n
 abbrev pub upTo : (ℕ → List Condition) → ℕ → List Condition
@@ -44,3 +53,8 @@ upTo f n = chained (λ k. f (k + 1)) n
 unfoldable pub toldOf : Status → Told
 toldOf Passed = record { number = 0; line = 0; field = 0 }
 toldOf (Stopped number line field) = record { number = number; line = line; field = field }
+
+-- the number alone, as calls that read no deck tell it
+unfoldable pub verdictOf : Status → Verdict
+verdictOf Passed = Verdicts.Passed
+verdictOf (Stopped number line field) = Verdicts.Refused number

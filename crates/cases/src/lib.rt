@@ -9,7 +9,7 @@ pub use guidance::guidance_of;
 pub use guidance::is_other_year;
 pub use memory::counts_outside;
 pub use memory::lacks;
-pub use memory::memory_status;
+pub use memory::memory_verdict;
 pub use ranges::in_range;
 use sizes::MAX_CHEMICALS;
 use sizes::MAX_RECEPTORS;
@@ -19,7 +19,7 @@ use slots::Sort;
 pub use zeros::plain;
 ghost use mathlib.Core.Path.{_≡_};
 ghost use Rattle.cases.specs.Cases.{maxReceptors};
-ghost use Rattle.cases.specs.Conditions.{toldOf};
+ghost use Rattle.cases.specs.Conditions.{toldOf, verdictOf};
 
 // A slot's value, read from a deck or given by a caller: digits × 10 ^ power. Absent where a lone - stands, where the year is blank, and in later
 // slots. The power stands first, so that a value takes 16 bytes and not 24.
@@ -74,7 +74,13 @@ pub struct Told {
     pub field: usize,
 }
 
-// What document 01 has a refusal return.
+// What a call that reads no deck tells: a refusal's number alone (document 01).
+pub enum Verdict {
+    Passed,
+    Refused(u32),
+}
+
+// What document 01 has a refusal on a deck return.
 pub fn tell(status: Status) -> Told
     ensures { λ r. ⌜ r ≡ toldOf status ⌝ }
 {
@@ -89,6 +95,15 @@ pub fn tell(status: Status) -> Told
             line,
             field,
         },
+    }
+}
+
+pub fn verdict_of(status: Status) -> Verdict
+    ensures { λ r. ⌜ r ≡ verdictOf status ⌝ }
+{
+    match status {
+        Status::Passed => Verdict::Passed,
+        Status::Stopped(number, _, _) => Verdict::Refused(number),
     }
 }
 

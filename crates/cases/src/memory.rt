@@ -4,8 +4,10 @@ use crate::Ids;
 use crate::Record;
 use crate::Status;
 use crate::Value;
+use crate::Verdict;
 use crate::max_receptors;
 use crate::ranges::in_range;
+use crate::verdict_of;
 use sizes::MAX_CHEMICALS;
 use sizes::SLOTS;
 use slots::Owner;
@@ -18,7 +20,7 @@ ghost use Prim.Native.Nat.{_≤_};
 ghost use lib.Dec.{leb, ltb};
 ghost use Rattle.sizes.specs.Sizes.{maxChemicals, mostStages};
 ghost use Rattle.slots.specs.Slots.{ruleAt};
-ghost use Rattle.cases.specs.Conditions.{first};
+ghost use Rattle.cases.specs.Conditions.{first, verdictOf};
 ghost use Rattle.cases.specs.CaseConditions.{outside, countsOutside, mostId, idsWrong, chemicalIds, receptorIds, isMissing, slotConditions, recordConditions, chemicalConditions, memoryConditions, lacks};
 
 const MOST_ID: u32 = 999_999;
@@ -173,8 +175,7 @@ fn chemicals_status(chemicals: Chemicals) -> Status
     Status::Passed
 }
 
-// The first condition of a site, chemicals and receptors in memory, these by their ids.
-pub fn memory_status(sort: Sort, site: Record, chemicals: Chemicals, receptors: Ids) -> Status
+fn memory_status(sort: Sort, site: Record, chemicals: Chemicals, receptors: Ids) -> Status
     ensures { λ r. ⌜ r ≡ first (memoryConditions sort site chemicals receptors) ⌝ }
 {
     if counts_outside(sort, chemicals.count, receptors.count) {
@@ -188,6 +189,13 @@ pub fn memory_status(sort: Sort, site: Record, chemicals: Chemicals, receptors: 
         return status;
     }
     chemicals_status(chemicals)
+}
+
+// The first condition of a site, chemicals and receptors in memory, these by their ids: its number alone, as there is no deck.
+pub fn memory_verdict(sort: Sort, site: Record, chemicals: Chemicals, receptors: Ids) -> Verdict
+    ensures { λ r. ⌜ r ≡ verdictOf (first (memoryConditions sort site chemicals receptors)) ⌝ }
+{
+    verdict_of(memory_status(sort, site, chemicals, receptors))
 }
 
 // Whether the slot at a place is needed and has no value. Most have one, and their rules are not looked up.

@@ -6,8 +6,10 @@ use cases::Chemicals;
 use cases::Record;
 use cases::Status;
 use cases::Told;
+use cases::Verdict;
 use scenario::Receptors;
 use sheet::CELLS;
+use sheet::Origin;
 use sizes::MAX_CHEMICALS;
 use sizes::MAX_RECEPTORS;
 use sizes::PATHWAYS;
@@ -66,16 +68,16 @@ pub fn write_report(
     ensures { λ r. ⌜ r ≡ writtenOutcome onMemory rowsOf (scenarioFrom site chemicals receptors) (length (now (out .entry))) ⌝ }
     ensures { λ _. ⌜ now (out .exit) ≡ writtenBuffer onMemory rowsOf (scenarioFrom site chemicals receptors) (now (out .entry)) ⌝ }
 {
-    let status = scenario::scenario_status(site, chemicals, receptors);
-    let Status::Passed = status else {
-        return cases::tell(status);
-    };
+    let verdict = scenario::scenario_verdict(site, chemicals, receptors);
+    if let Verdict::Refused(number) = verdict {
+        return refused(number);
+    }
     let needed = length_of(chemicals.count, receptors.count);
     if out.len() < needed {
         return refused(TOO_SHORT);
     }
     let mut cells = [0u64; CELLS];
-    let worked = sheet::counts_of(site, chemicals, receptors, &mut cells);
+    let worked = sheet::counts_from(Origin::Memory, site, chemicals, receptors, &mut cells);
     let Status::Passed = worked else {
         return cases::tell(worked);
     };
@@ -106,7 +108,7 @@ pub fn write_entered(
         return refused(TOO_SHORT);
     }
     let mut cells = [0u64; CELLS];
-    let worked = sheet::counts_entered(site, chemicals, receptors, &mut cells);
+    let worked = sheet::counts_from(Origin::Deck, site, chemicals, receptors, &mut cells);
     let Status::Passed = worked else {
         return cases::tell(worked);
     };

@@ -11,7 +11,7 @@ pub use exposure::deposition_of;
 pub use exposure::or_no_time;
 pub use exposure::receptor_with;
 pub use exposure::time_given;
-pub use memory::scenario_status;
+pub use memory::scenario_verdict;
 pub use memory::unpaired_in;
 pub use ordinary::entered_from;
 use pair::Pair;

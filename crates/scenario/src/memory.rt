@@ -5,9 +5,9 @@ use crate::values::entered;
 use cases::Chemicals;
 use cases::Ids;
 use cases::Record;
-use cases::Status;
 use cases::Value;
-use cases::memory_status;
+use cases::Verdict;
+use cases::memory_verdict;
 use pair::Answer;
 use sizes::MAX_CHEMICALS;
 use sizes::SLOTS;
@@ -18,7 +18,7 @@ ghost use mathlib.Core.Path.{_≡_};
 ghost use Prim.Native.Nat.{_≤_};
 ghost use Rattle.sizes.specs.Sizes.{maxChemicals};
 ghost use Rattle.cases.specs.Cases.{noRecord, valueAt};
-ghost use Rattle.cases.specs.Conditions.{first};
+ghost use Rattle.cases.specs.Conditions.{first, verdictOf};
 ghost use Rattle.lists.specs.Lists.{anyOf};
 ghost use Rattle.slots.specs.Slots.{placeOf};
 ghost use Rattle.times.specs.Times as years;
@@ -38,11 +38,11 @@ fn ids_of(receptors: Receptors) -> Ids
     }
 }
 
-// The first condition of a scenario's counts, ids, and slots that are given: 21, 22, 32, 33.
-pub fn scenario_status(site: Record, chemicals: Chemicals, receptors: Receptors) -> Status
-    ensures { λ r. ⌜ r ≡ first (scenarioConditions (scenarioFrom site chemicals receptors)) ⌝ }
+// The first condition of a scenario's counts, ids, and slots that are given, by its number: 21, 22, 32, 33.
+pub fn scenario_verdict(site: Record, chemicals: Chemicals, receptors: Receptors) -> Verdict
+    ensures { λ r. ⌜ r ≡ verdictOf (first (scenarioConditions (scenarioFrom site chemicals receptors))) ⌝ }
 {
-    memory_status(Sort::Ordinary, site, chemicals, ids_of(receptors))
+    memory_verdict(Sort::Ordinary, site, chemicals, ids_of(receptors))
 }
 
 fn is_unpaired(v: Value) -> bool

@@ -17,13 +17,15 @@ use Rattle.equations.specs.declared.Values.{Values}
 use Rattle.pathway.specs.Lines.{Figured}
 use Rattle.cases.specs.declared.Status.{Status}
 use Rattle.cases.specs.declared.Status.the-variants.{Passed, Stopped}
-use Rattle.cases.specs.Conditions.{Condition, at, first, toldOf}
+use Rattle.cases.specs.declared.Verdict.{Verdict}
+use Rattle.cases.specs.declared.Verdict.the-variants as Verdicts
+use Rattle.cases.specs.Conditions.{Condition, at, first, toldOf, verdictOf}
 use Rattle.cases.specs.CaseConditions.{memoryConditions, lacks}
-use Rattle.cases.proofs.CaseConditionLaws.{counts-inside}
+use Rattle.cases.proofs.CaseConditionLaws.{counts-inside, memory-nowhere}
 use Rattle.slots.specs.declared.Owner.the-variants.{Site as OfSite, Chemical}
 use Rattle.slots.specs.declared.Sort.the-variants.{Ordinary}
 use Rattle.lists.proofs.Booleans.{neither}
-use Rattle.cases.proofs.FirstMet.{orElse, first-append, first-read, chained-each, told-without}
+use Rattle.cases.proofs.FirstMet.{orElse, first-append, first-read, chained-each, told-without, told-alone, verdict-passed}
 use Rattle.lists.proofs.Tabulated.{tabulated, length-tabulate}
 use Rattle.totals.specs.declared.Columns.the-variants as Cols
 use Rattle.scenario.specs.Scenario.{Scenario, valuesOf, chemicalIn, receptorIn, noGuidance, siteOf, isRefused, idsOf, scenarioConditions, unpairedIn}
@@ -279,7 +281,16 @@ module _ (scenario : Scenario) where
   called : (conditions : List Condition) (s : Status) (cells : List ℕ) → Told conditions s cells → Called conditions s cells
   called conditions s cells t = (t .0, t .1 ∙ ap (λ (u : Status). cellsFor u scenario) (t .0))
 
-  -- on memory
+  -- on memory: where the number alone is told
+  module _ (v : Verdict) (told : v ≡ verdictOf (first (scenarioConditions scenario))) where
+    pub verdict-stops : (number : ℕ) → v ≡ Verdicts.Refused number → Stopped number 0 0 ≡ first (scenarioConditions scenario)
+    unfolding scenarioConditions
+    verdict-stops number e =
+        sym (told-alone (scenarioConditions scenario) (memory-nowhere Ordinary (scenario .site) (scenario .chemicals) (idsOf (scenario .receptors))) number (sym told ∙ e))
+
+    pub verdict-passes : v ≡ Verdicts.Passed → Passed ≡ first (scenarioConditions scenario)
+    verdict-passes e = sym (verdict-passed (first (scenarioConditions scenario)) (sym told ∙ e))
+
   pub memory-stops : (s : Status) → s ≡ first (scenarioConditions scenario) → (number line field : ℕ) → s ≡ Stopped number line field → (cells : List ℕ) → cells ≡ noCells → Called (sheetConditions scenario) s cells
   unfolding sheetConditions refusals strictly orElse
   memory-stops s is-first number line field stop cells none =

@@ -23,8 +23,9 @@ use Rattle.totals.specs.declared.Columns.the-variants as Cols
 use Rattle.totals.specs.Totals.{_added_, totalOf, listSum, allAtMost}
 use Rattle.scenario.specs.Scenario.{Scenario}
 use Rattle.lists.specs.Lists.{chained}
+use Rattle.sheet.specs.declared.Origin.{Origin}
 use Rattle.sheet.specs.Sheet.{pathwayAt, columnsAt, addedOver, totalAt}
-use Rattle.sheet.specs.Counts.{Part, Mark, Low, High, cellOf, effectAt, partAt, lineColumns, cellAt, cellsOf, noCells, cellsFor, sheetStatus, sheetCells, enteredStatus, enteredCells, columnsFrom, sideOf, isHeld, columnsFound, columnsIn, totalledFrom, totalFound, totalIn, allCells, effectCells, receptorCells}
+use Rattle.sheet.specs.Counts.{Part, Mark, Low, High, cellOf, effectAt, partAt, lineColumns, cellAt, cellsOf, noCells, cellsFor, statusBy, cellsBy, columnsFrom, sideOf, isHeld, columnsFound, columnsIn, totalledFrom, totalFound, totalIn, allCells, effectCells, receptorCells}
 use Rattle.sheet.specs.Inner.{partOf, CellsHold}
 use Rattle.lists.proofs.Chained.{chained-length, flat}
 use Rattle.sheet.proofs.CellLaws.{side-small, part-small}
@@ -219,10 +220,6 @@ unfolding cellsFor cellsOf noCells
 many-for Passed scenario = length-tabulate (cellAt scenario) 0 0 allCells
 many-for (Stopped number line field) scenario = length-tabulate (λ k. 0) 0 0 allCells
 
-pub cells-many : (scenario : Scenario) → length (sheetCells scenario) ≡ allCells
-unfolding sheetCells
-cells-many scenario = many-for (sheetStatus scenario) scenario
-
-pub entered-many : (scenario : Scenario) → length (enteredCells scenario) ≡ allCells
-unfolding enteredCells
-entered-many scenario = many-for (enteredStatus scenario) scenario
+pub cells-many : (origin : Origin) (scenario : Scenario) → length (cellsBy origin scenario) ≡ allCells
+unfolding cellsBy
+cells-many origin scenario = many-for (statusBy origin scenario) scenario

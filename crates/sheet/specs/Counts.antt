@@ -27,6 +27,8 @@ use Rattle.totals.specs.declared.Columns.{Columns}
 use Rattle.totals.specs.declared.Columns.the-variants as Cols
 use Rattle.totals.specs.Totals.{totalOf}
 use Rattle.scenario.specs.Scenario.{Scenario, valuesOf, particlesOf, chemicalIn, receptorIn, noGuidance, isRefused, scenarioConditions, unpairedIn}
+use Rattle.sheet.specs.declared.Origin.{Origin}
+use Rattle.sheet.specs.declared.Origin.the-variants.{Deck, Memory}
 use Rattle.sheet.specs.Sheet.{pathwayAt, columnsAt, refusedLines, largeLines, faultyLines}
 
 -- ---- what stops a scenario, however it was made. Its receptors are pairs, so that of them only counts and ids are asked; the rest of it is as
@@ -120,17 +122,15 @@ cellsFor Passed scenario = cellsOf scenario
 cellsFor (Stopped number line field) scenario = noCells
 
 -- a call: the first condition that holds, and no counts; or every line's
-unfoldable pub sheetStatus : Scenario → Status
-sheetStatus scenario = first (sheetConditions scenario)
+unfoldable pub conditionsBy : Origin → Scenario → List Condition
+conditionsBy Deck scenario = enteredConditions scenario
+conditionsBy Memory scenario = sheetConditions scenario
 
-unfoldable pub sheetCells : Scenario → List ℕ
-sheetCells scenario = cellsFor (sheetStatus scenario) scenario
+unfoldable pub statusBy : Origin → Scenario → Status
+statusBy origin scenario = first (conditionsBy origin scenario)
 
-unfoldable pub enteredStatus : Scenario → Status
-enteredStatus scenario = first (enteredConditions scenario)
-
-unfoldable pub enteredCells : Scenario → List ℕ
-enteredCells scenario = cellsFor (enteredStatus scenario) scenario
+unfoldable pub cellsBy : Origin → Scenario → List ℕ
+cellsBy origin scenario = cellsFor (statusBy origin scenario) scenario
 
 -- ---- read from cells
 unfoldable pub columnsFrom : ℕ → ℕ → ℕ → Columns

@@ -15,15 +15,17 @@ use crate::reading::total_found;
 use cases::Chemicals;
 use cases::Record;
 use cases::Status;
+use cases::Verdict;
 use cases::counts_outside;
 use cases::lacks;
+use cases::verdict_of;
 use equations::Effect;
 use media::Media;
 use pathway::Absorbed;
 use pathway::References;
 use scenario::Receptors;
 use scenario::has_no_guidance;
-use scenario::scenario_status;
+use scenario::scenario_verdict;
 use scenario::site_of;
 use scenario::unpaired_in;
 use sizes::MAX_CHEMICALS;
@@ -36,9 +38,10 @@ ghost use mathlib.Core.Path.{_≡_};
 ghost use Rattle.scenario.specs.Scenario.{scenarioFrom};
 ghost use Prim.Native.Nat.{_≤_};
 ghost use Rattle.sizes.specs.Sizes.{maxChemicals, mostReceptors};
-ghost use Rattle.cases.specs.Conditions.{first};
-ghost use Rattle.sheet.specs.Counts.{noCells, cellsFor, sheetStatus, sheetCells, enteredStatus, enteredCells, sideOf, columnsIn, totalIn};
+ghost use Rattle.cases.specs.Conditions.{first, verdictOf};
+ghost use Rattle.sheet.specs.Counts.{sheetConditions, enteredConditions, noCells, cellsFor, statusBy, cellsBy, sideOf, columnsIn, totalIn};
 ghost use Rattle.sheet.specs.Inner.{workedBy, strictly};
+ghost use Rattle.sheet.specs.declared.Origin.the-variants.{Memory};
 
 // The counts of a scenario's lines stand in cells. An effect has three columns of 96 cells: 1 for each line that has counts, the low and the
 // high counts; all three are 0 where the line has -, and where there is none. A receptor has hazard's columns, then cancer's.
@@ -47,6 +50,12 @@ pub const EFFECT_CELLS: usize = 3 * MOST_LINES;
 pub const RECEPTOR_CELLS: usize = 2 * EFFECT_CELLS;
 
 pub const CELLS: usize = MAX_RECEPTORS * RECEPTOR_CELLS;
+
+// Where a scenario's values come from: a deck, whose reading has tested them, or a caller's memory, where nothing has.
+pub enum Origin {
+    Deck,
+    Memory,
+}
 
 // What a chemical's lines take, for every receptor: the shares absorbed, what it leaves in the media, hazard's and each receptor's for
 // cancer, and its reference values.
@@ -128,38 +137,37 @@ fn work_strictly(
     status
 }
 
-// The counts of a scenario's lines into the cells; or where it stops, whatever its values are, and 0 in every cell.
-pub fn counts_of(
+fn counts_in_memory(
     site: Record,
     chemicals: Chemicals,
     receptors: Receptors,
     cells: &mut [u64; CELLS],
 ) -> Status
-    ensures { λ r. ⌜ r ≡ sheetStatus (scenarioFrom site chemicals receptors) ⌝ }
-    ensures { λ _. ⌜ now (cells .exit) ≡ sheetCells (scenarioFrom site chemicals receptors) ⌝ }
+    requires { ⌜ now cells ≡ noCells ⌝ }
+    ensures { λ r. ⌜ r ≡ first (sheetConditions (scenarioFrom site chemicals receptors)) ⌝ }
+    ensures { λ _. ⌜ now (cells .exit) ≡ cellsFor (first (sheetConditions (scenarioFrom site chemicals receptors))) (scenarioFrom site chemicals receptors) ⌝ }
 {
-    clear(cells);
-    let told = scenario_status(site, chemicals, receptors);
-    let Status::Passed = told else {
-        return told;
-    };
+    let verdict = scenario_verdict(site, chemicals, receptors);
+    if let Verdict::Refused(number) = verdict {
+        return Status::Stopped(number, 0, 0);
+    }
     if unpaired_in(site, chemicals) {
         return Status::Stopped(REFUSED, 0, 0);
     }
     work_strictly(site, chemicals, receptors, cells)
 }
 
-// The same of values that were tested where they were read, and are not tested again: every value that has a pair is worked.
-pub fn counts_entered(
+// Of values that were tested where they were read, and are not tested again: every value that has a pair is worked.
+fn counts_as_read(
     site: Record,
     chemicals: Chemicals,
     receptors: Receptors,
     cells: &mut [u64; CELLS],
 ) -> Status
-    ensures { λ r. ⌜ r ≡ enteredStatus (scenarioFrom site chemicals receptors) ⌝ }
-    ensures { λ _. ⌜ now (cells .exit) ≡ enteredCells (scenarioFrom site chemicals receptors) ⌝ }
+    requires { ⌜ now cells ≡ noCells ⌝ }
+    ensures { λ r. ⌜ r ≡ first (enteredConditions (scenarioFrom site chemicals receptors)) ⌝ }
+    ensures { λ _. ⌜ now (cells .exit) ≡ cellsFor (first (enteredConditions (scenarioFrom site chemicals receptors))) (scenarioFrom site chemicals receptors) ⌝ }
 {
-    clear(cells);
     if counts_outside(Sort::Ordinary, chemicals.count, receptors.count) {
         return Status::Stopped(MISCOUNTED, 0, 0);
     }
@@ -167,6 +175,38 @@ pub fn counts_entered(
         return Status::Stopped(OUT_OF_RANGE, 0, 0);
     }
     work(site, chemicals, receptors, cells, true)
+}
+
+// The counts of a scenario's lines into the cells; or where it stops, whatever its values are, and 0 in every cell. Every call that writes a
+// report ends here, those on a deck among them, so that it tells line and field.
+pub fn counts_from(
+    origin: Origin,
+    site: Record,
+    chemicals: Chemicals,
+    receptors: Receptors,
+    cells: &mut [u64; CELLS],
+) -> Status
+    ensures { λ r. ⌜ r ≡ statusBy origin (scenarioFrom site chemicals receptors) ⌝ }
+    ensures { λ _. ⌜ now (cells .exit) ≡ cellsBy origin (scenarioFrom site chemicals receptors) ⌝ }
+{
+    clear(cells);
+    match origin {
+        Origin::Deck => counts_as_read(site, chemicals, receptors, cells),
+        Origin::Memory => counts_in_memory(site, chemicals, receptors, cells),
+    }
+}
+
+// The same of a scenario in memory, for callers that have no report: the number alone.
+pub fn counts_of(
+    site: Record,
+    chemicals: Chemicals,
+    receptors: Receptors,
+    cells: &mut [u64; CELLS],
+) -> Verdict
+    ensures { λ r. ⌜ r ≡ verdictOf (statusBy Memory (scenarioFrom site chemicals receptors)) ⌝ }
+    ensures { λ _. ⌜ now (cells .exit) ≡ cellsBy Memory (scenarioFrom site chemicals receptors) ⌝ }
+{
+    verdict_of(counts_from(Origin::Memory, site, chemicals, receptors, cells))
 }
 
 fn side_of(effect: Effect) -> usize

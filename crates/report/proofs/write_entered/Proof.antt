@@ -6,9 +6,10 @@ use lib.ListN.{length}
 use Rattle.scenario.specs.Scenario.{scenarioFrom}
 use Rattle.report.specs.Inner.{reportIn}
 use Rattle.report.specs.Report.{rowsOf}
+use Rattle.sheet.specs.declared.Origin.the-variants.{Deck}
 use Rattle.sheet.specs.Counts.{miscounted}
 use Rattle.sheet.proofs.SheetCaseLaws.{lines-figured}
-use Rattle.sheet.proofs.Held.{entered-many}
+use Rattle.sheet.proofs.Held.{cells-many}
 use Rattle.sheet.proofs.CountLaws.{room-entered}
 use Rattle.report.proofs.ReportLaws.{length-is, rows-held, past-rows}
 use Rattle.report.proofs.CallLaws.{miscount, too-short, sheet-stops, written, read-clear}
@@ -42,8 +43,8 @@ returns-2 c =
     let a = c .before .before .before .before .before .before .args in
     too-short rowsOf (scenarioFrom (a .site) (a .chemicals) (a .receptors)) (now (a .out)) (sym (c .before .before .before .before .counts-outside .ensures) ∙ c .before .before .before .if1 .left) (rw (length-is (scenarioFrom (a .site) (a .chemicals) (a .receptors)) _ (c .before .before .length-of .ensures)) at (c .before .if2 .taken)) (c .refused2 .result) (c .refused2 .ensures)
 
-counts-entered-requires : tie.Need-counts-entered-requires
-counts-entered-requires c κs = search needs
+counts-from-requires : tie.Need-counts-from-requires
+counts-from-requires c κs = search needs
 
 enum-told : tie.Need-enum-told
 enum-told c = search needs
@@ -59,12 +60,12 @@ unfolding miscounted
 returns-3 c =
     let a = c .before .before .before .before .before .before .before .before .before .before .args in
     let room = rw (length-is (scenarioFrom (a .site) (a .chemicals) (a .receptors)) _ (c .before .before .before .before .before .before .length-of .ensures)) at (c .before .before .before .before .before .if2 .left) in
-    sheet-stops rowsOf (scenarioFrom (a .site) (a .chemicals) (a .receptors)) (now (a .out)) (sym (c .before .before .before .before .before .before .before .before .counts-outside .ensures) ∙ c .before .before .before .before .before .before .before .if1 .left) room _ (c .before .before .before .counts-entered .ensures .0) _ _ _ _ (c .before .enum-told2 .given .1) (c .tell .ensures)
+    sheet-stops rowsOf (scenarioFrom (a .site) (a .chemicals) (a .receptors)) (now (a .out)) (sym (c .before .before .before .before .before .before .before .before .counts-outside .ensures) ∙ c .before .before .before .before .before .before .before .if1 .left) room _ (c .before .before .before .counts-from .ensures .0) _ _ _ _ (c .before .enum-told2 .given .1) (c .tell .ensures)
 
 slice-aggregate-write-rows : tie.Need-slice-aggregate-write-rows
 slice-aggregate-write-rows c =
     let a = c .before .before .before .before .before .before .before .before .before .before .before .args in
-    sym (ap length (c .before .before .before .before .counts-entered .ensures .1) ∙ entered-many (scenarioFrom (a .site) (a .chemicals) (a .receptors)))
+    sym (ap length (c .before .before .before .before .counts-from .ensures .1) ∙ cells-many Deck (scenarioFrom (a .site) (a .chemicals) (a .receptors)))
 
 write-rows-requires : tie.Need-write-rows-requires
 unfolding miscounted
@@ -82,7 +83,7 @@ returns-4 c =
     let scenario = scenarioFrom (a .site) (a .chemicals) (a .receptors) in
     let long = length-is scenario _ (c .before .before .before .before .before .before .before .before .before .before .length-of .ensures) in
     let room = rw long at (c .before .before .before .before .before .before .before .before .before .if2 .left) in
-    let worked = c .before .before .before .before .before .before .before .counts-entered in
+    let worked = c .before .before .before .before .before .before .before .counts-from in
     written rowsOf scenario (now (a .out)) (sym (c .before .before .before .before .before .before .before .before .before .before .before .before .counts-outside .ensures) ∙ c .before .before .before .before .before .before .before .before .before .before .before .if1 .left) room _ (worked .ensures .0) (c .before .before .before .before .before .enum-told .given .1) _ (worked .ensures .1)
     (λ cells. reportIn cells (a .chemicals) (a .receptors .list) (a .receptors .count)) (λ e. let few = room-entered scenario (sym (c .before .before .before .before .before .before .before .before .before .before .before .before .counts-outside .ensures) ∙ c .before .before .before .before .before .before .before .before .before .before .before .if1 .left) in let none = read-clear rowsOf scenario (length (now (a .out))) e in sym (rows-held scenario (lines-figured scenario (few .0) (few .1) (none .0)) (none .1))) _ _ long (past-rows scenario _ _ (now (a .out)) (c .before .before .write-rows .ensures))
 
@@ -96,7 +97,7 @@ write-entered-spec =
     length-of-requires
     refused-requires-2
     returns-2
-    counts-entered-requires
+    counts-from-requires
     enum-told
     enum-told-2
     tell-requires
