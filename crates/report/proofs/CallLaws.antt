@@ -21,7 +21,6 @@ use Rattle.text.specs.Text.{reportLineWidth, linesText}
 use Rattle.scenario.specs.Scenario.{Scenario, scenarioWith, Exact, scenarioConditions}
 use Rattle.scenario.specs.declared.Receptors.{Receptors}
 use Rattle.sheet.specs.Sheet.{refusedLines, largeLines, faultyLines}
-use Rattle.sheet.specs.declared.Origin.the-variants.{Deck, Memory}
 use Rattle.sheet.specs.Counts.{miscounted, unmade, enteredConditions, refusals, sheetConditions, cellsOf, cellsFor, conditionsBy, statusBy, cellsBy}
 use Rattle.report.specs.Forms.{Form, lengthOf, tooShort, formConditions, Call, scenarioOf, exactOf, rowsFor, allConditions, statusOf, outcomeFor, outcomeOf, bufferFor, bufferOf}
 use Rattle.report.specs.InMemory.{Road, onMemory, asRead, writtenStatus, writtenOutcome, writtenBuffer}
@@ -77,7 +76,7 @@ module _ (form : Form) (scenario : Scenario) (buffer : List ℕ) where
     too-short h told t = refused asRead form scenario buffer (Stopped 51 0 0) 51 0 0 told (rw (counts, lt-ltb _ _ h) refl) refl (refusal 51 told t)
 
     -- the report has room
-    module _ (room : lengthOf (form scenario) ≤ length buffer) (status : Status) (is-status : status ≡ statusBy Deck scenario) where
+    module _ (room : lengthOf (form scenario) ≤ length buffer) (status : Status) (is-status : status ≡ statusBy true scenario) where
       status-is : status ≡ writtenStatus asRead form scenario (length buffer)
       unfolding writtenStatus asRead tooShort first statusBy conditionsBy
       status-is = is-status ∙ rw (counts, le-ltb _ _ room) refl
@@ -87,7 +86,7 @@ module _ (form : Form) (scenario : Scenario) (buffer : List ℕ) where
       sheet-stops number line field told q t = refused asRead form scenario buffer status number line field told status-is q t
 
       -- and the report is written
-      pub written : status ≡ Passed → (cells : List ℕ) → cells ≡ cellsBy Deck scenario → (from : List ℕ → List Row) → (writtenStatus asRead form scenario (length buffer) ≡ Passed → form scenario ≡ from (cellsOf scenario)) → (out : List ℕ) (n : ℕ) → n ≡ lengthOf (form scenario)
+      pub written : status ≡ Passed → (cells : List ℕ) → cells ≡ cellsBy true scenario → (from : List ℕ → List Row) → (writtenStatus asRead form scenario (length buffer) ≡ Passed → form scenario ≡ from (cellsOf scenario)) → (out : List ℕ) (n : ℕ) → n ≡ lengthOf (form scenario)
           → out ≡ linesText (from cells) ++ drop (lengthOf (form scenario)) buffer → Answered asRead form scenario buffer (record { number = 0; line = n; field = 0 }) out
       unfolding cellsBy cellsFor
       written none cells held = rows-written asRead form scenario buffer (sym status-is ∙ none) cells (held ∙ ap (λ (x : Status). cellsFor x scenario) (sym is-status ∙ none))
@@ -111,7 +110,7 @@ module _ (form : Form) (scenario : Scenario) (buffer : List ℕ) (s : Status) (i
         refused onMemory form scenario buffer (Stopped 51 0 0) 51 0 0 told (first-passes (scenarioConditions scenario) _ (Stopped 51 0 0) passed (rw (lt-ltb _ _ h) refl)) refl (refusal 51 told t)
 
     -- the report has room: 53 and 42 are the sheet's
-    module _ (room : lengthOf (form scenario) ≤ length buffer) (status : Status) (is-status : status ≡ statusBy Memory scenario) where
+    module _ (room : lengthOf (form scenario) ≤ length buffer) (status : Status) (is-status : status ≡ statusBy false scenario) where
       counts-are : status ≡ writtenStatus onMemory form scenario (length buffer)
       unfolding writtenStatus onMemory tooShort first statusBy conditionsBy sheetConditions
       counts-are =
@@ -122,7 +121,7 @@ module _ (form : Form) (scenario : Scenario) (buffer : List ℕ) (s : Status) (i
       pub counts-stop : (number line field : ℕ) (told : Told) → status ≡ Stopped number line field → told ≡ toldOf status → Answered onMemory form scenario buffer told buffer
       counts-stop number line field told q t = refused onMemory form scenario buffer status number line field told counts-are q t
 
-      pub counts-written : status ≡ Passed → (cells : List ℕ) → cells ≡ cellsBy Memory scenario → (from : List ℕ → List Row) → (writtenStatus onMemory form scenario (length buffer) ≡ Passed → form scenario ≡ from (cellsOf scenario)) → (out : List ℕ) (n : ℕ) → n ≡ lengthOf (form scenario)
+      pub counts-written : status ≡ Passed → (cells : List ℕ) → cells ≡ cellsBy false scenario → (from : List ℕ → List Row) → (writtenStatus onMemory form scenario (length buffer) ≡ Passed → form scenario ≡ from (cellsOf scenario)) → (out : List ℕ) (n : ℕ) → n ≡ lengthOf (form scenario)
           → out ≡ linesText (from cells) ++ drop (lengthOf (form scenario)) buffer → Answered onMemory form scenario buffer (record { number = 0; line = n; field = 0 }) out
       unfolding cellsBy cellsFor
       counts-written done cells held = rows-written onMemory form scenario buffer (sym counts-are ∙ done) cells (held ∙ ap (λ (x : Status). cellsFor x scenario) (sym is-status ∙ done))

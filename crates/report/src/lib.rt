@@ -9,7 +9,6 @@ use cases::Told;
 use cases::Verdict;
 use scenario::Receptors;
 use sheet::CELLS;
-use sheet::Origin;
 use sizes::MAX_CHEMICALS;
 use sizes::MAX_RECEPTORS;
 use sizes::PATHWAYS;
@@ -77,7 +76,7 @@ pub fn write_report(
         return refused(TOO_SHORT);
     }
     let mut cells = [0u64; CELLS];
-    let worked = sheet::counts_from(Origin::Memory, site, chemicals, receptors, &mut cells);
+    let worked = sheet::counts_from(false, site, chemicals, receptors, &mut cells);
     let Status::Passed = worked else {
         return cases::tell(worked);
     };
@@ -108,7 +107,7 @@ pub fn write_entered(
         return refused(TOO_SHORT);
     }
     let mut cells = [0u64; CELLS];
-    let worked = sheet::counts_from(Origin::Deck, site, chemicals, receptors, &mut cells);
+    let worked = sheet::counts_from(true, site, chemicals, receptors, &mut cells);
     let Status::Passed = worked else {
         return cases::tell(worked);
     };

@@ -34,7 +34,7 @@ use Rattle.sheet.specs.declared.Source.{Source}
 use Rattle.sheet.specs.declared.Sources.{Sources}
 use Rattle.lists.specs.Lists.{chained}
 use Rattle.sheet.specs.Sheet.{pathwayAt, columnsAt, unworked, overCap, linesPerReceptor, reportLine, lineRefused, lineTooLarge, overLines, refusedLines, largeLines, faultyLines}
-use Rattle.sheet.specs.Counts.{miscounted, groundFor, meanFor, stopsAt, noMediaAt, unmade, refusals, sheetConditions, enteredConditions, Part, cellOf, sideOf, effectAt, partAt, lineColumns, cellAt, cellsOf, noCells, cellsFor, allCells, effectCells, receptorCells}
+use Rattle.sheet.specs.Counts.{miscounted, groundFor, meanFor, stopsAt, noMediaAt, unmade, refusals, sheetConditions, enteredConditions, Part, cellOf, sideOf, effectAt, partAt, lineColumns, cellAt, cellsOf, noCells, cellsFor, conditionsBy, statusBy, cellsBy, allCells, effectCells, receptorCells}
 use Rattle.sheet.specs.Inner.{columnsOf, aboveCap, groundWith, sourceOf, sourcesOf, sourceAt, stopsWith, refusedSource, figuresFrom, figureFor, figuresWorked, columnsWorked, isLarge, isBroken, faultAt, faultyLine, faultyChemical, faultyWorked, perReceptor, allFaulty, linesFaulty, workedBy, strictly, partOf, CellsFilled, ZeroFrom}
 use Rattle.lists.proofs.Chained.{chained-same}
 use Rattle.sheet.proofs.ChemicalLaws.{source-at}
@@ -338,3 +338,9 @@ module _ (scenario : Scenario) where
     pub counted-entered : noGuidance scenario ≡ false → (t : Status) (cells : List ℕ) → Told (workedBy true scenario) t cells → Called (enteredConditions scenario) t cells
     unfolding enteredConditions workedBy linesFaulty faultyLines lineTooLarge first
     counted-entered h t cells told = called (enteredConditions scenario) t cells (told .0 ∙ sym (rw (counts, h) refl), told .1)
+
+  -- by whether its values were tested
+  pub by-test : (tested b : Bool) → tested ≡ b → (s : Status) (cells : List ℕ) → Called (conditionsBy b scenario) s cells → (s ≡ statusBy tested scenario) × (cells ≡ cellsBy tested scenario)
+  unfolding statusBy cellsBy
+  by-test tested b e s cells t =
+      (t .0 ∙ ap (λ (x : Bool). first (conditionsBy x scenario)) (sym e), t .1 ∙ ap (λ (x : Bool). cellsFor (first (conditionsBy x scenario)) scenario) (sym e))

@@ -1,7 +1,7 @@
 -- What the cells of a scenario hold, read back: a line's columns are those of the line, and a total of lines that the totals call does not
 -- refuse is the receptor's total. Assumes nothing.
 use mathlib.Core.Path.{_≡_, refl, sym, ap, _∙_}
-use mathlib.Core.Bool.{true}
+use mathlib.Core.Bool.{Bool, true}
 use mathlib.Core.List.{List, [], _∷_, _++_, map, map-append}
 use Prim.Native.Nat.{ℕ, zero, suc, _+_, _*_, _/_, _%_, _^_, _≤_, _<_}
 use native.Mathlib.Nat.{zero-add, add-assoc}
@@ -23,7 +23,6 @@ use Rattle.totals.specs.declared.Columns.the-variants as Cols
 use Rattle.totals.specs.Totals.{_added_, totalOf, listSum, allAtMost}
 use Rattle.scenario.specs.Scenario.{Scenario}
 use Rattle.lists.specs.Lists.{chained}
-use Rattle.sheet.specs.declared.Origin.{Origin}
 use Rattle.sheet.specs.Sheet.{pathwayAt, columnsAt, addedOver, totalAt}
 use Rattle.sheet.specs.Counts.{Part, Mark, Low, High, cellOf, effectAt, partAt, lineColumns, cellAt, cellsOf, noCells, cellsFor, statusBy, cellsBy, columnsFrom, sideOf, isHeld, columnsFound, columnsIn, totalledFrom, totalFound, totalIn, allCells, effectCells, receptorCells}
 use Rattle.sheet.specs.Inner.{partOf, CellsHold}
@@ -220,6 +219,6 @@ unfolding cellsFor cellsOf noCells
 many-for Passed scenario = length-tabulate (cellAt scenario) 0 0 allCells
 many-for (Stopped number line field) scenario = length-tabulate (λ k. 0) 0 0 allCells
 
-pub cells-many : (origin : Origin) (scenario : Scenario) → length (cellsBy origin scenario) ≡ allCells
+pub cells-many : (tested : Bool) (scenario : Scenario) → length (cellsBy tested scenario) ≡ allCells
 unfolding cellsBy
-cells-many origin scenario = many-for (statusBy origin scenario) scenario
+cells-many tested scenario = many-for (statusBy tested scenario) scenario

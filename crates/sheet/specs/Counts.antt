@@ -27,8 +27,6 @@ use Rattle.totals.specs.declared.Columns.{Columns}
 use Rattle.totals.specs.declared.Columns.the-variants as Cols
 use Rattle.totals.specs.Totals.{totalOf}
 use Rattle.scenario.specs.Scenario.{Scenario, valuesOf, particlesOf, chemicalIn, receptorIn, noGuidance, isRefused, scenarioConditions, unpairedIn}
-use Rattle.sheet.specs.declared.Origin.{Origin}
-use Rattle.sheet.specs.declared.Origin.the-variants.{Deck, Memory}
 use Rattle.sheet.specs.Sheet.{pathwayAt, columnsAt, refusedLines, largeLines, faultyLines}
 
 -- ---- what stops a scenario, however it was made. Its receptors are pairs, so that of them only counts and ids are asked; the rest of it is as
@@ -121,16 +119,16 @@ unfoldable pub cellsFor : Status → Scenario → List ℕ
 cellsFor Passed scenario = cellsOf scenario
 cellsFor (Stopped number line field) scenario = noCells
 
--- a call: the first condition that holds, and no counts; or every line's
-unfoldable pub conditionsBy : Origin → Scenario → List Condition
-conditionsBy Deck scenario = enteredConditions scenario
-conditionsBy Memory scenario = sheetConditions scenario
+-- a call, of values that a deck's reading has tested or of any: the first condition that holds, and no counts; or every line's
+unfoldable pub conditionsBy : Bool → Scenario → List Condition
+conditionsBy true scenario = enteredConditions scenario
+conditionsBy false scenario = sheetConditions scenario
 
-unfoldable pub statusBy : Origin → Scenario → Status
-statusBy origin scenario = first (conditionsBy origin scenario)
+unfoldable pub statusBy : Bool → Scenario → Status
+statusBy tested scenario = first (conditionsBy tested scenario)
 
-unfoldable pub cellsBy : Origin → Scenario → List ℕ
-cellsBy origin scenario = cellsFor (statusBy origin scenario) scenario
+unfoldable pub cellsBy : Bool → Scenario → List ℕ
+cellsBy tested scenario = cellsFor (statusBy tested scenario) scenario
 
 -- ---- read from cells
 unfoldable pub columnsFrom : ℕ → ℕ → ℕ → Columns

@@ -39,9 +39,9 @@ ghost use Rattle.scenario.specs.Scenario.{scenarioFrom};
 ghost use Prim.Native.Nat.{_≤_};
 ghost use Rattle.sizes.specs.Sizes.{maxChemicals, mostReceptors};
 ghost use Rattle.cases.specs.Conditions.{first, verdictOf};
-ghost use Rattle.sheet.specs.Counts.{sheetConditions, enteredConditions, noCells, cellsFor, statusBy, cellsBy, sideOf, columnsIn, totalIn};
+ghost use Rattle.sheet.specs.Counts.{noCells, cellsFor, statusBy, cellsBy, sideOf, columnsIn, totalIn};
 ghost use Rattle.sheet.specs.Inner.{workedBy, strictly};
-ghost use Rattle.sheet.specs.declared.Origin.the-variants.{Memory};
+ghost use mathlib.Core.Bool.{false};
 
 // The counts of a scenario's lines stand in cells. An effect has three columns of 96 cells: 1 for each line that has counts, the low and the
 // high counts; all three are 0 where the line has -, and where there is none. A receptor has hazard's columns, then cancer's.
@@ -50,12 +50,6 @@ pub const EFFECT_CELLS: usize = 3 * MOST_LINES;
 pub const RECEPTOR_CELLS: usize = 2 * EFFECT_CELLS;
 
 pub const CELLS: usize = MAX_RECEPTORS * RECEPTOR_CELLS;
-
-// Where a scenario's values come from: a deck, whose reading has tested them, or a caller's memory, where nothing has.
-pub enum Origin {
-    Deck,
-    Memory,
-}
 
 // What a chemical's lines take, for every receptor: the shares absorbed, what it leaves in the media, hazard's and each receptor's for
 // cancer, and its reference values.
@@ -137,16 +131,29 @@ fn work_strictly(
     status
 }
 
-fn counts_in_memory(
+// The counts of a scenario's lines into the cells; or where it stops, whatever its values are, and 0 in every cell. Values of a deck were
+// tested where they were read, and are not tested again. Every call that writes a report ends here, those on a deck among them, so that it
+// tells line and field.
+pub fn counts_from(
+    tested: bool,
     site: Record,
     chemicals: Chemicals,
     receptors: Receptors,
     cells: &mut [u64; CELLS],
 ) -> Status
-    requires { ⌜ now cells ≡ noCells ⌝ }
-    ensures { λ r. ⌜ r ≡ first (sheetConditions (scenarioFrom site chemicals receptors)) ⌝ }
-    ensures { λ _. ⌜ now (cells .exit) ≡ cellsFor (first (sheetConditions (scenarioFrom site chemicals receptors))) (scenarioFrom site chemicals receptors) ⌝ }
+    ensures { λ r. ⌜ r ≡ statusBy tested (scenarioFrom site chemicals receptors) ⌝ }
+    ensures { λ _. ⌜ now (cells .exit) ≡ cellsBy tested (scenarioFrom site chemicals receptors) ⌝ }
 {
+    clear(cells);
+    if tested {
+        if counts_outside(Sort::Ordinary, chemicals.count, receptors.count) {
+            return Status::Stopped(MISCOUNTED, 0, 0);
+        }
+        if has_no_guidance(site) {
+            return Status::Stopped(OUT_OF_RANGE, 0, 0);
+        }
+        return work(site, chemicals, receptors, cells, true);
+    }
     let verdict = scenario_verdict(site, chemicals, receptors);
     if let Verdict::Refused(number) = verdict {
         return Status::Stopped(number, 0, 0);
@@ -157,45 +164,6 @@ fn counts_in_memory(
     work_strictly(site, chemicals, receptors, cells)
 }
 
-// Of values that were tested where they were read, and are not tested again: every value that has a pair is worked.
-fn counts_as_read(
-    site: Record,
-    chemicals: Chemicals,
-    receptors: Receptors,
-    cells: &mut [u64; CELLS],
-) -> Status
-    requires { ⌜ now cells ≡ noCells ⌝ }
-    ensures { λ r. ⌜ r ≡ first (enteredConditions (scenarioFrom site chemicals receptors)) ⌝ }
-    ensures { λ _. ⌜ now (cells .exit) ≡ cellsFor (first (enteredConditions (scenarioFrom site chemicals receptors))) (scenarioFrom site chemicals receptors) ⌝ }
-{
-    if counts_outside(Sort::Ordinary, chemicals.count, receptors.count) {
-        return Status::Stopped(MISCOUNTED, 0, 0);
-    }
-    if has_no_guidance(site) {
-        return Status::Stopped(OUT_OF_RANGE, 0, 0);
-    }
-    work(site, chemicals, receptors, cells, true)
-}
-
-// The counts of a scenario's lines into the cells; or where it stops, whatever its values are, and 0 in every cell. Every call that writes a
-// report ends here, those on a deck among them, so that it tells line and field.
-pub fn counts_from(
-    origin: Origin,
-    site: Record,
-    chemicals: Chemicals,
-    receptors: Receptors,
-    cells: &mut [u64; CELLS],
-) -> Status
-    ensures { λ r. ⌜ r ≡ statusBy origin (scenarioFrom site chemicals receptors) ⌝ }
-    ensures { λ _. ⌜ now (cells .exit) ≡ cellsBy origin (scenarioFrom site chemicals receptors) ⌝ }
-{
-    clear(cells);
-    match origin {
-        Origin::Deck => counts_as_read(site, chemicals, receptors, cells),
-        Origin::Memory => counts_in_memory(site, chemicals, receptors, cells),
-    }
-}
-
 // The same of a scenario in memory, for callers that have no report: the number alone.
 pub fn counts_of(
     site: Record,
@@ -203,10 +171,10 @@ pub fn counts_of(
     receptors: Receptors,
     cells: &mut [u64; CELLS],
 ) -> Verdict
-    ensures { λ r. ⌜ r ≡ verdictOf (statusBy Memory (scenarioFrom site chemicals receptors)) ⌝ }
-    ensures { λ _. ⌜ now (cells .exit) ≡ cellsBy Memory (scenarioFrom site chemicals receptors) ⌝ }
+    ensures { λ r. ⌜ r ≡ verdictOf (statusBy false (scenarioFrom site chemicals receptors)) ⌝ }
+    ensures { λ _. ⌜ now (cells .exit) ≡ cellsBy false (scenarioFrom site chemicals receptors) ⌝ }
 {
-    verdict_of(counts_from(Origin::Memory, site, chemicals, receptors, cells))
+    verdict_of(counts_from(false, site, chemicals, receptors, cells))
 }
 
 fn side_of(effect: Effect) -> usize

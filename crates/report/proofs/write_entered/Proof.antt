@@ -6,7 +6,7 @@ use lib.ListN.{length}
 use Rattle.scenario.specs.Scenario.{scenarioFrom}
 use Rattle.report.specs.Inner.{reportIn}
 use Rattle.report.specs.Report.{rowsOf}
-use Rattle.sheet.specs.declared.Origin.the-variants.{Deck}
+use mathlib.Core.Bool.{true}
 use Rattle.sheet.specs.Counts.{miscounted}
 use Rattle.sheet.proofs.SheetCaseLaws.{lines-figured}
 use Rattle.sheet.proofs.Held.{cells-many}
@@ -65,7 +65,7 @@ returns-3 c =
 slice-aggregate-write-rows : tie.Need-slice-aggregate-write-rows
 slice-aggregate-write-rows c =
     let a = c .before .before .before .before .before .before .before .before .before .before .before .args in
-    sym (ap length (c .before .before .before .before .counts-from .ensures .1) ∙ cells-many Deck (scenarioFrom (a .site) (a .chemicals) (a .receptors)))
+    sym (ap length (c .before .before .before .before .counts-from .ensures .1) ∙ cells-many true (scenarioFrom (a .site) (a .chemicals) (a .receptors)))
 
 write-rows-requires : tie.Need-write-rows-requires
 unfolding miscounted

@@ -6,7 +6,7 @@ use lib.ListN.{length}
 use Rattle.scenario.specs.Scenario.{scenarioFrom}
 use Rattle.report.specs.Inner.{reportIn}
 use Rattle.report.specs.Report.{rowsOf}
-use Rattle.sheet.specs.declared.Origin.the-variants.{Memory}
+use mathlib.Core.Bool.{false}
 use Rattle.sheet.proofs.SheetCaseLaws.{lines-figured}
 use Rattle.sheet.proofs.Held.{cells-many}
 use Rattle.sheet.proofs.CountLaws.{verdict-stops, verdict-passes, room-in-memory}
@@ -66,7 +66,7 @@ returns-3 c =
 slice-aggregate-write-rows : tie.Need-slice-aggregate-write-rows
 slice-aggregate-write-rows c =
     let a = c .before .before .before .before .before .before .before .before .before .before .before .before .args in
-    sym (ap length (c .before .before .before .before .counts-from .ensures .1) ∙ cells-many Memory (scenarioFrom (a .site) (a .chemicals) (a .receptors)))
+    sym (ap length (c .before .before .before .before .counts-from .ensures .1) ∙ cells-many false (scenarioFrom (a .site) (a .chemicals) (a .receptors)))
 
 write-rows-requires : tie.Need-write-rows-requires
 write-rows-requires c κs =
