@@ -1,9 +1,9 @@
 -- The report calls: what they answer and leave in the buffer is what the definitions say. First the call on a scenario in memory, stage by
 -- stage; then any call on a deck that hands it a sound scenario. Assumes nothing.
 use mathlib.Core.Path.{_≡_, refl, sym, ap, _∙_}
-use mathlib.Core.Bool.{true, false}
+use mathlib.Core.Bool.{Bool, true, false, cond}
 use mathlib.Core.List.{List, _++_}
-use Prim.Native.Nat.{ℕ, _*_, _≤_, _<_}
+use Prim.Native.Nat.{ℕ, _≤_, _<_}
 use borrow.Author.Tests.{lt-ltb, le-ltb}
 use lib.Dec.{ltb}
 use lib.ListN.{length, drop}
@@ -12,18 +12,19 @@ use Rattle.deck.specs.declared.Reading.{Reading}
 use Rattle.cases.specs.declared.Status.{Status}
 use Rattle.cases.specs.declared.Status.the-variants.{Passed, Stopped}
 use Rattle.cases.specs.declared.Told.{Told}
-use Rattle.cases.specs.Conditions.{Condition, at, first, toldOf}
+use Rattle.cases.specs.Conditions.{Condition, first, toldOf}
 use Rattle.deck.specs.DeckConditions.{conditions}
 use Rattle.deck.specs.DeckCase.{caseOf, caseFor, readOf}
 use Rattle.cases.proofs.FirstMet.{orElse, first-append, first-read, append-read}
 use Rattle.text.specs.declared.Row.{Row}
-use Rattle.text.specs.Text.{reportLineWidth, linesText}
+use Rattle.text.specs.Text.{linesText}
 use Rattle.scenario.specs.Scenario.{Scenario, scenarioWith, Exact, scenarioConditions}
 use Rattle.scenario.specs.declared.Receptors.{Receptors}
 use Rattle.sheet.specs.Sheet.{refusedLines, largeLines, faultyLines}
 use Rattle.sheet.specs.Counts.{miscounted, unmade, enteredConditions, refusals, sheetConditions, cellsOf, cellsFor, conditionsBy, statusBy, cellsBy}
 use Rattle.report.specs.Forms.{Form, lengthOf, tooShort, formConditions, Call, scenarioOf, exactOf, rowsFor, allConditions, statusOf, outcomeFor, outcomeOf, bufferFor, bufferOf}
 use Rattle.report.specs.InMemory.{Road, onMemory, asRead, writtenStatus, writtenOutcome, writtenBuffer}
+use Rattle.report.specs.Inner.{fromRoom}
 use Rattle.scenario.proofs.Sound.{Sound}
 use Rattle.sheet.proofs.SheetCaseLaws.{few-records, conditions-agree}
 use Rattle.sheet.proofs.FaultLaws.{faulty-clear}
@@ -62,89 +63,77 @@ refusal : (number : ℕ) (told : Told) → (told .number ≡ number) × (told .l
 unfolding toldOf
 refusal number told e = λ i. record { number = e .0 i; line = e .1 i; field = e .2 i }
 
--- ---- of values that were tested where they were read
+-- ---- from 51 on
+module _ (tested : Bool) (form : Form) (scenario : Scenario) (buffer : List ℕ) where
+  -- 51
+  pub too-short : length buffer < lengthOf (form scenario) → (told : Told) → (told .number ≡ 51) × (told .line ≡ 0) × (told .field ≡ 0) → Answered (fromRoom tested) form scenario buffer told buffer
+  unfolding writtenStatus fromRoom tooShort first
+  too-short h told t = refused (fromRoom tested) form scenario buffer (Stopped 51 0 0) 51 0 0 told (rw (lt-ltb _ _ h) refl) refl (refusal 51 told t)
+
+  -- the report has room
+  module _ (room : lengthOf (form scenario) ≤ length buffer) (status : Status) (is-status : status ≡ statusBy tested scenario) where
+    status-is : status ≡ writtenStatus (fromRoom tested) form scenario (length buffer)
+    unfolding writtenStatus fromRoom tooShort first statusBy
+    status-is = is-status ∙ rw (le-ltb _ _ room) refl
+
+    -- the sheet stops
+    pub sheet-stops : (number line field : ℕ) (told : Told) → status ≡ Stopped number line field → told ≡ toldOf status → Answered (fromRoom tested) form scenario buffer told buffer
+    sheet-stops number line field told q t = refused (fromRoom tested) form scenario buffer status number line field told status-is q t
+
+    -- and the report is written
+    pub written : status ≡ Passed → (cells : List ℕ) → cells ≡ cellsBy tested scenario → (from : List ℕ → List Row) → (writtenStatus (fromRoom tested) form scenario (length buffer) ≡ Passed → form scenario ≡ from (cellsOf scenario)) → (out : List ℕ) (n : ℕ) → n ≡ lengthOf (form scenario)
+        → out ≡ linesText (from cells) ++ drop (lengthOf (form scenario)) buffer → Answered (fromRoom tested) form scenario buffer (record { number = 0; line = n; field = 0 }) out
+    unfolding cellsBy cellsFor
+    written none cells held = rows-written (fromRoom tested) form scenario buffer (sym status-is ∙ none) cells (held ∙ ap (λ (x : Status). cellsFor x scenario) (sym is-status ∙ none))
+
+-- where it is written, 53 and 42 hold of no line
+clear-by : (tested : Bool) (scenario : Scenario) → first (conditionsBy tested scenario) ≡ Passed → (first (refusedLines scenario) ≡ Passed) × (first (largeLines scenario) ≡ Passed)
+unfolding conditionsBy enteredConditions sheetConditions refusals
+clear-by true scenario e =
+    let b = first-read _ _ (first-read _ _ e .1) .1 in
+    faulty-clear scenario (append-read (unmade scenario) (faultyLines scenario) b .1)
+clear-by false scenario e =
+    let b = first-read _ _ (append-read (scenarioConditions scenario) _ e .1) .1 in
+    append-read (refusedLines scenario) (largeLines scenario) (append-read (unmade scenario) (refusedLines scenario ++ largeLines scenario) b .1)
+
+pub written-clear : (tested : Bool) (form : Form) (scenario : Scenario) (room : ℕ) → writtenStatus (fromRoom tested) form scenario room ≡ Passed → (first (refusedLines scenario) ≡ Passed) × (first (largeLines scenario) ≡ Passed)
+unfolding writtenStatus fromRoom
+written-clear tested form scenario room e = clear-by tested scenario (first-read _ _ e .1)
+
+-- ---- the tests before it
 module _ (form : Form) (scenario : Scenario) (buffer : List ℕ) where
-  -- 21
+  -- a road that goes on as another
+  same-road : (r s : Road) → writtenStatus r form scenario (length buffer) ≡ writtenStatus s form scenario (length buffer) → (told : Told) (out : List ℕ) → Answered s form scenario buffer told out → Answered r form scenario buffer told out
+  unfolding writtenOutcome writtenBuffer
+  same-road r s e told out a =
+      (a .0 ∙ ap (λ (x : Status). outcomeFor x (form scenario)) (sym e), a .1 ∙ ap (λ (x : Status). bufferFor x (form scenario) buffer) (sym e))
+
+  -- 21 of values that were tested where they were read
   pub miscount : miscounted scenario ≡ true → (told : Told) → (told .number ≡ 21) × (told .line ≡ 0) × (told .field ≡ 0) → Answered asRead form scenario buffer told buffer
   unfolding writtenStatus asRead first
   miscount h told t = refused asRead form scenario buffer (Stopped 21 0 0) 21 0 0 told (rw h refl) refl (refusal 21 told t)
 
-  module _ (counts : miscounted scenario ≡ false) where
-    -- 51
-    pub too-short : length buffer < lengthOf (form scenario) → (told : Told) → (told .number ≡ 51) × (told .line ≡ 0) × (told .field ≡ 0) → Answered asRead form scenario buffer told buffer
-    unfolding writtenStatus asRead tooShort first
-    too-short h told t = refused asRead form scenario buffer (Stopped 51 0 0) 51 0 0 told (rw (counts, lt-ltb _ _ h) refl) refl (refusal 51 told t)
+  pub counted : miscounted scenario ≡ false → (told : Told) (out : List ℕ) → Answered (fromRoom true) form scenario buffer told out → Answered asRead form scenario buffer told out
+  unfolding writtenStatus asRead fromRoom conditionsBy first
+  counted h = same-road asRead (fromRoom true) (rw h refl)
 
-    -- the report has room
-    module _ (room : lengthOf (form scenario) ≤ length buffer) (status : Status) (is-status : status ≡ statusBy true scenario) where
-      status-is : status ≡ writtenStatus asRead form scenario (length buffer)
-      unfolding writtenStatus asRead tooShort first statusBy conditionsBy
-      status-is = is-status ∙ rw (counts, le-ltb _ _ room) refl
-
-      -- the sheet stops
-      pub sheet-stops : (number line field : ℕ) (told : Told) → status ≡ Stopped number line field → told ≡ toldOf status → Answered asRead form scenario buffer told buffer
-      sheet-stops number line field told q t = refused asRead form scenario buffer status number line field told status-is q t
-
-      -- and the report is written
-      pub written : status ≡ Passed → (cells : List ℕ) → cells ≡ cellsBy true scenario → (from : List ℕ → List Row) → (writtenStatus asRead form scenario (length buffer) ≡ Passed → form scenario ≡ from (cellsOf scenario)) → (out : List ℕ) (n : ℕ) → n ≡ lengthOf (form scenario)
-          → out ≡ linesText (from cells) ++ drop (lengthOf (form scenario)) buffer → Answered asRead form scenario buffer (record { number = 0; line = n; field = 0 }) out
-      unfolding cellsBy cellsFor
-      written none cells held = rows-written asRead form scenario buffer (sym status-is ∙ none) cells (held ∙ ap (λ (x : Status). cellsFor x scenario) (sym is-status ∙ none))
-
--- ---- of a scenario in memory, whatever its values are
-module _ (form : Form) (scenario : Scenario) (buffer : List ℕ) (s : Status) (is-first : s ≡ first (scenarioConditions scenario)) where
-  -- 21, 22, 32, 33
-  pub memory-stops : (number : ℕ) → s ≡ Stopped number 0 0 → (told : Told) → (told .number ≡ number) × (told .line ≡ 0) × (told .field ≡ 0) → Answered onMemory form scenario buffer told buffer
+  -- 21, 22, 32, 33 of a scenario in memory, whatever its values are
+  pub memory-stops : (number : ℕ) → Stopped number 0 0 ≡ first (scenarioConditions scenario) → (told : Told) → (told .number ≡ number) × (told .line ≡ 0) × (told .field ≡ 0) → Answered onMemory form scenario buffer told buffer
   unfolding writtenStatus onMemory
-  memory-stops number q told t =
-      refused onMemory form scenario buffer s number 0 0 told (first-stops (scenarioConditions scenario) _ s number 0 0 is-first q) q (refusal number told t ∙ ap toldOf (sym q))
+  memory-stops number is-first told t =
+      refused onMemory form scenario buffer (Stopped number 0 0) number 0 0 told (first-stops (scenarioConditions scenario) _ (Stopped number 0 0) number 0 0 is-first refl) refl (refusal number told t)
 
-  module _ (none : s ≡ Passed) where
-    passed : first (scenarioConditions scenario) ≡ Passed
-    passed = sym is-first ∙ none
-
-    -- 51
-    pub memory-short : length buffer < lengthOf (form scenario) → (told : Told) → (told .number ≡ 51) × (told .line ≡ 0) × (told .field ≡ 0) → Answered onMemory form scenario buffer told buffer
-    unfolding writtenStatus onMemory tooShort first
-    memory-short h told t =
-        refused onMemory form scenario buffer (Stopped 51 0 0) 51 0 0 told (first-passes (scenarioConditions scenario) _ (Stopped 51 0 0) passed (rw (lt-ltb _ _ h) refl)) refl (refusal 51 told t)
-
-    -- the report has room: 53 and 42 are the sheet's
-    module _ (room : lengthOf (form scenario) ≤ length buffer) (status : Status) (is-status : status ≡ statusBy false scenario) where
-      counts-are : status ≡ writtenStatus onMemory form scenario (length buffer)
-      unfolding writtenStatus onMemory tooShort first statusBy conditionsBy sheetConditions
-      counts-are =
-          is-status
-          ∙ sym (first-passes (scenarioConditions scenario) (refusals scenario) (first (refusals scenario)) passed refl)
-          ∙ first-passes (scenarioConditions scenario) _ (first (refusals scenario)) passed (rw (le-ltb _ _ room) refl)
-
-      pub counts-stop : (number line field : ℕ) (told : Told) → status ≡ Stopped number line field → told ≡ toldOf status → Answered onMemory form scenario buffer told buffer
-      counts-stop number line field told q t = refused onMemory form scenario buffer status number line field told counts-are q t
-
-      pub counts-written : status ≡ Passed → (cells : List ℕ) → cells ≡ cellsBy false scenario → (from : List ℕ → List Row) → (writtenStatus onMemory form scenario (length buffer) ≡ Passed → form scenario ≡ from (cellsOf scenario)) → (out : List ℕ) (n : ℕ) → n ≡ lengthOf (form scenario)
-          → out ≡ linesText (from cells) ++ drop (lengthOf (form scenario)) buffer → Answered onMemory form scenario buffer (record { number = 0; line = n; field = 0 }) out
-      unfolding cellsBy cellsFor
-      counts-written done cells held = rows-written onMemory form scenario buffer (sym counts-are ∙ done) cells (held ∙ ap (λ (x : Status). cellsFor x scenario) (sym is-status ∙ done))
+  pub memory-passes : Passed ≡ first (scenarioConditions scenario) → (told : Told) (out : List ℕ) → Answered (fromRoom false) form scenario buffer told out → Answered onMemory form scenario buffer told out
+  unfolding writtenStatus onMemory fromRoom tooShort conditionsBy sheetConditions first
+  memory-passes passed =
+      same-road onMemory (fromRoom false)
+      (sym (first-passes (scenarioConditions scenario) _ _ (sym passed) refl)
+      ∙ ap (cond (ltb (length buffer) (lengthOf (form scenario))) (Stopped 51 0 0)) (first-passes (scenarioConditions scenario) (refusals scenario) (first (refusals scenario)) (sym passed) refl))
 
 -- ---- a sound scenario: its list is the call's
 status-agrees : (form : Form) (scenario : Scenario) {exact : Exact} → Sound scenario exact → (room : ℕ) → writtenStatus asRead form scenario room ≡ first (formConditions (form scenario) scenario room)
 unfolding writtenStatus asRead formConditions tooShort first
 status-agrees form scenario sound room = rw (few-records scenario sound, conditions-agree scenario sound) refl
-
--- ---- where it is written, 53 and 42 hold of no line
-pub memory-clear : (form : Form) (scenario : Scenario) (room : ℕ) → writtenStatus onMemory form scenario room ≡ Passed → (first (refusedLines scenario) ≡ Passed) × (first (largeLines scenario) ≡ Passed)
-unfolding writtenStatus onMemory refusals
-memory-clear form scenario room e =
-    let a = append-read (scenarioConditions scenario) _ e .1 in
-    let b = first-read _ _ (first-read _ _ a .1) .1 in
-    append-read (refusedLines scenario) (largeLines scenario) (append-read (unmade scenario) (refusedLines scenario ++ largeLines scenario) b .1)
-
-pub read-clear : (form : Form) (scenario : Scenario) (room : ℕ) → writtenStatus asRead form scenario room ≡ Passed → (first (refusedLines scenario) ≡ Passed) × (first (largeLines scenario) ≡ Passed)
-unfolding writtenStatus asRead enteredConditions
-read-clear form scenario room e =
-    let a = first-read _ _ (first-read _ _ e .1) .1 in
-    let b = first-read _ _ (first-read _ _ a .1) .1 in
-    faulty-clear scenario (append-read (unmade scenario) (faultyLines scenario) b .1)
 
 -- ---- any call on a deck
 module _ (call : Call) (deck buffer : List ℕ) where

@@ -5,7 +5,6 @@ use mathlib.Core.List.{List, [], _∷_, _++_, append-assoc}
 use mathlib.Core.Logic.{_⊎_, inl, inr}
 use Prim.Native.Nat.{ℕ, _+_, _*_, _-_, _^_, _<_}
 use native.Mathlib.Omega.{arith}
-use lib.Dec.{ltb}
 use lib.IntN.{ℤ}
 use lib.ListN.{length, take, drop, length-append}
 use lib.Seq.{take-at, drop-at}
@@ -13,11 +12,10 @@ use Rattle.pair.specs.Calls.{is, entry, oneMinusEntry}
 use Rattle.slots.specs.declared.Sort.{Sort}
 use Rattle.slots.specs.declared.Sort.the-variants.{Ordinary}
 use Rattle.slots.specs.Slots.{Slot, placeOf, atMostOne}
-use Rattle.equations.specs.declared.Effect.{Effect}
 use Rattle.cases.specs.declared.Case.{Case}
 use Rattle.cases.specs.declared.Status.{Status}
 use Rattle.cases.specs.declared.Status.the-variants.{Passed, Stopped}
-use Rattle.cases.specs.Conditions.{Condition, at, first, NoneHolds}
+use Rattle.cases.specs.Conditions.{Condition, first, NoneHolds}
 use Rattle.deck.specs.DeckConditions.{conditions}
 use Rattle.cases.specs.declared.Value.the-variants as Values
 use Rattle.deck.specs.Parts.{linesOf}
@@ -34,11 +32,11 @@ use Rattle.text.proofs.Rows.{length-row, length-lines, lines-append}
 use Rattle.scenario.specs.declared.Receptor as receptors
 use Rattle.scenario.specs.declared.Receptors.{Receptors}
 use Rattle.scenario.specs.Scenario.{Scenario, chemicalIn, receptorIn, stayIn, givenIn, pairsAt, timeGiven, depositionOf, receptorWith, scenarioWith, entered, enteredFrom, ordinaryOf, exactAt, Exact}
-use Rattle.sheet.specs.Sheet.{pathwayAt, hasReference, linesPerReceptor, largeLines}
+use Rattle.sheet.specs.Sheet.{linesPerReceptor, largeLines}
 use Rattle.lists.specs.Lists.{chained}
 use Rattle.report.specs.Forms.{Form, lengthOf, tooShort, formConditions, Call, scenarioOf, exactOf, rowsFor, allConditions, statusOf, outcomeFor, outcomeOf, bufferFor, bufferOf}
 use Rattle.report.specs.Report.{rowAt, totalRow, rowsAt, rowsOf, ordinary}
-use Rattle.report.specs.DemandTwo.{lineIn, ByRule, Printed, Reported, Refused, Demand2, Exposed, Entered}
+use Rattle.report.specs.DemandTwo.{lineIn, Printed, Reported, Refused, Demand2, Exposed, Entered}
 use Rattle.sheet.proofs.SheetCaseLaws.{line-by-rule}
 use Rattle.scenario.proofs.Sound.{Sound}
 use Rattle.scenario.proofs.InputLaws.{source-entered, source-rested}
@@ -169,12 +167,6 @@ module _ (scenario : Scenario) where
 
   -- the whole of it
   module _ (ids : SmallIds scenario) {exact : Exact} (sound : Sound scenario exact) (small : first (largeLines scenario) ≡ Passed) where
-    by-rule : (e : Effect) (j i p : ℕ) → j < scenario .receptors .count → i < scenario .chemicals .count → p < pathwaysPerChemical → hasReference e scenario i (pathwayAt p) ≡ true
-        → ByRule e scenario j i (pathwayAt p)
-    by-rule e j i p a b h t =
-        let l = line-by-rule scenario sound small e j i p a b h t in
-        record { pair = l .pair; rule = l .rule; proper = l .proper; units = l .units; counted = l .counted; columns = l .columns }
-
     printed : Sources scenario → (rest : List ℕ) → Printed scenario (linesText (rowsOf scenario) ++ rest)
     printed sources rest =
         record {
@@ -186,7 +178,7 @@ module _ (scenario : Scenario) where
               let e : j * linesPerReceptor scenario + (scenario .chemicals .count * pathwaysPerChemical + 0) ≡ j * linesPerReceptor scenario + scenario .chemicals .count * pathwaysPerChemical = omega arith in
               subst (λ (l : ℕ). lineIn (linesText (rowsOf scenario) ++ rest) l ≡ rowText (totalRow scenario j)) e
               (at-line (rowsOf scenario) (j * linesPerReceptor scenario + (scenario .chemicals .count * pathwaysPerChemical + 0)) (totalRow scenario j) rest (total-at j a));
-          rule = by-rule;
+          rule = line-by-rule scenario sound small;
           line-fits = row-fits scenario ids sound small;
           total-fits = total-row-fits scenario ids sound small;
           entered = λ j i h. sources .entered j i;

@@ -9,9 +9,7 @@ use Prim.Native.Nat.{ℕ, _+_, _*_, _<_}
 use lib.IntN.{ℤ}
 use lib.ListN.{length, take, drop}
 use Rattle.pair.specs.declared.Pair.{Pair}
-use Rattle.pair.specs.declared.Units.{Units}
-use Rattle.pair.specs.Number.{isPair}
-use Rattle.pair.specs.Calls.{is, inUnits, entry, oneMinusEntry}
+use Rattle.pair.specs.Calls.{is, entry, oneMinusEntry}
 use Rattle.slots.specs.Slots.{Slot, ownerOf, placeOf, atMostOne}
 use Rattle.slots.specs.declared.Owner.the-variants.{Receptor}
 use Rattle.times.specs.declared.Years.{Years}
@@ -19,7 +17,6 @@ use Rattle.times.specs.Times as years
 use Rattle.equations.specs.declared.Stay.{Stay}
 use Rattle.equations.specs.declared.Stay.the-variants.{Within, Beyond}
 use Rattle.equations.specs.declared.Effect.{Effect}
-use Rattle.equations.specs.declared.Pathway.{Pathway}
 use Rattle.cases.specs.declared.Case.{Case}
 use Rattle.cases.specs.declared.Value.{Value}
 use Rattle.cases.specs.declared.Value.the-variants as Values
@@ -28,26 +25,16 @@ use Rattle.deck.specs.Parts.{linesOf, lineOf}
 use Rattle.deck.specs.DeckConditions.{idOf}
 use Rattle.deck.specs.DeckCase.{chemicalsStart, caseOf}
 use Rattle.cases.specs.Cases.{valueAt, chemicalAt, receptorAt}
-use Rattle.totals.specs.declared.Columns.the-variants as Cols
 use Rattle.text.specs.Text.{reportLineWidth, rowText, FitsColumns}
 use Rattle.scenario.specs.Scenario.{Scenario, receptorIn, stayIn, givenIn, pairsAt, timeGiven, depositionOf, ordinaryOf}
 use Rattle.sizes.specs.Sizes.{siteLines, recordLines, pathwaysPerChemical}
-use Rattle.sheet.specs.Sheet.{pathwayAt, hasReference, figureAt, unitOf, columnsAt, linesPerReceptor}
+use Rattle.sheet.specs.Sheet.{pathwayAt, hasReference, ByRule, linesPerReceptor}
 use Rattle.report.specs.Forms.{Call, scenarioOf, allConditions, lengthOf, outcomeOf, bufferOf, rowsFor}
 use Rattle.report.specs.Report.{rowAt, totalRow}
 
 -- line l of a report, counted from 0
 unfoldable pub lineIn : List ℕ → ℕ → List ℕ
 lineIn report l = take reportLineWidth (drop (reportLineWidth * l) report)
-
--- a line's two columns are the pair that the working rule gives for its equation, counted in units
-pub record ByRule (e : Effect) (scenario : Scenario) (j i : ℕ) (p : Pathway) : Type 0 where
-  pub pair : Pair
-  pub rule : figureAt e scenario j i p ≡ is pair
-  pub proper : isPair pair ≡ true
-  pub units : Units
-  pub counted : inUnits pair (unitOf e) ≡ is units
-  pub columns : columnsAt e scenario j i p ≡ Cols.Counted (units .low) (units .high)
 
 pub record Printed (scenario : Scenario) (report : List ℕ) : Type 0 where
   -- receptor j's line of chemical i and pathway p, and its total line after them, where they stand in the report

@@ -1,7 +1,8 @@
--- For the contracts of this crate's inner functions only: the report's rows as they are written, from the cells that hold its counts. proofs/ shows that
--- they are those of Report.antt, of which alone the calls speak.
+-- For the contracts of this crate's inner functions only: the report's rows as they are written, from the cells that hold its counts, and where a report
+-- stops once there is room for its records. proofs/ shows that they are those of Report.antt and InMemory.antt, of which alone the calls speak.
 use Prim.Native.Nat.{ℕ, _+_, _*_, _/_, _%_}
 use mathlib.Core.List.{List, [], _∷_, _++_}
+use mathlib.Core.Bool.{Bool}
 use lib.ListN.{getD}
 use Rattle.equations.specs.declared.Effect.the-variants.{Hazard, Cancer}
 use Rattle.cases.specs.declared.Chemicals.{Chemicals}
@@ -9,10 +10,12 @@ use Rattle.cases.specs.Cases.{noRecord}
 use Rattle.text.specs.declared.Row.{Row}
 use Rattle.sizes.specs.Sizes.{pathwaysPerChemical}
 use Rattle.lists.specs.Lists.{chained}
-use Rattle.sheet.specs.Counts.{columnsIn, totalIn}
+use Rattle.sheet.specs.Counts.{conditionsBy, columnsIn, totalIn}
 pub use Rattle.sheet.specs.Inner.{perReceptor}
 use Rattle.scenario.specs.declared.Receptor.{Receptor}
 use Rattle.scenario.specs.Scenario.{noReceptor}
+use Rattle.report.specs.Forms.{tooShort}
+use Rattle.report.specs.InMemory.{Road}
 
 -- receptor j's line q, counted from 0, and the total line of its first n lines
 unfoldable pub rowIn : List ℕ → ℕ → ℕ → ℕ → ℕ → Row
@@ -33,3 +36,7 @@ rowsIn cells j id′ chemicals′ =
 
 unfoldable pub reportIn : List ℕ → Chemicals → List Receptor → ℕ → List Row
 reportIn cells chemicals′ list = chained (λ j. rowsIn cells j (getD list j noReceptor .id) chemicals′)
+
+-- where a report stops from 51 on: for the buffer's length, then as its sheet stops
+unfoldable pub fromRoom : Bool → Road
+fromRoom tested rows scenario room = tooShort rows room ∷ conditionsBy tested scenario

@@ -24,7 +24,7 @@ ghost use Rattle.scenario.specs.Scenario.{scenarioFrom};
 ghost use Rattle.report.specs.Forms.{outcomeOf, bufferOf};
 ghost use Rattle.report.specs.Report.{rowsOf, ordinary};
 ghost use Rattle.report.specs.InMemory.{onMemory, asRead, writtenOutcome, writtenBuffer};
-ghost use Rattle.report.specs.Inner.{perReceptor};
+ghost use Rattle.report.specs.Inner.{perReceptor, fromRoom};
 ghost use Rattle.report.specs.Rooms.{deckRoom, longestReport};
 
 // The longest report: 388 lines.
@@ -56,6 +56,35 @@ fn refused(number: u32) -> Told
     }
 }
 
+// The report of a scenario for whose records there is room, from 51 on.
+fn write_from(
+    tested: bool,
+    site: Record,
+    chemicals: Chemicals,
+    receptors: Receptors,
+    out: &mut [u8],
+) -> Told
+    requires { ⌜ (chemicals .count ≤ maxChemicals) × (receptors .count ≤ mostReceptors) ⌝ }
+    ensures { λ r. ⌜ r ≡ writtenOutcome (fromRoom tested) rowsOf (scenarioFrom site chemicals receptors) (length (now (out .entry))) ⌝ }
+    ensures { λ _. ⌜ now (out .exit) ≡ writtenBuffer (fromRoom tested) rowsOf (scenarioFrom site chemicals receptors) (now (out .entry)) ⌝ }
+{
+    let length = length_of(chemicals.count, receptors.count);
+    if out.len() < length {
+        return refused(TOO_SHORT);
+    }
+    let mut cells = [0u64; CELLS];
+    let worked = sheet::counts_from(tested, site, chemicals, receptors, &mut cells);
+    let Status::Passed = worked else {
+        return cases::tell(worked);
+    };
+    write_rows(out, &cells, chemicals, receptors);
+    Told {
+        number: 0,
+        line: length,
+        field: 0,
+    }
+}
+
 // The report of a scenario into the buffer, whatever its values are: 0, the report's length, 0; or the number, line and field of the first
 // condition that stops it, and the buffer as it was.
 pub fn write_report(
@@ -71,21 +100,7 @@ pub fn write_report(
     if let Verdict::Refused(number) = verdict {
         return refused(number);
     }
-    let needed = length_of(chemicals.count, receptors.count);
-    if out.len() < needed {
-        return refused(TOO_SHORT);
-    }
-    let mut cells = [0u64; CELLS];
-    let worked = sheet::counts_from(false, site, chemicals, receptors, &mut cells);
-    let Status::Passed = worked else {
-        return cases::tell(worked);
-    };
-    write_rows(out, &cells, chemicals, receptors);
-    Told {
-        number: 0,
-        line: needed,
-        field: 0,
-    }
+    write_from(false, site, chemicals, receptors, out)
 }
 
 // The same of values that a deck's reading has tested, and that are not tested again. Every call on a deck ends here, however it made its
@@ -102,21 +117,7 @@ pub fn write_entered(
     if cases::counts_outside(Sort::Ordinary, chemicals.count, receptors.count) {
         return refused(MISCOUNTED);
     }
-    let length = length_of(chemicals.count, receptors.count);
-    if out.len() < length {
-        return refused(TOO_SHORT);
-    }
-    let mut cells = [0u64; CELLS];
-    let worked = sheet::counts_from(true, site, chemicals, receptors, &mut cells);
-    let Status::Passed = worked else {
-        return cases::tell(worked);
-    };
-    write_rows(out, &cells, chemicals, receptors);
-    Told {
-        number: 0,
-        line: length,
-        field: 0,
-    }
+    write_from(true, site, chemicals, receptors, out)
 }
 
 // The report of an ordinary deck into the buffer.

@@ -43,7 +43,7 @@ use Rattle.totals.specs.declared.Columns.the-variants as Cols
 use Rattle.totals.specs.Totals.{_added_}
 use Rattle.scenario.specs.Scenario.{isRefused, Scenario, restOf, valuesOf, particlesOf, chemicalIn, receptorIn, stayIn, guidanceIn, givenIn, pairsAt, Exact}
 use Rattle.sizes.specs.Sizes.{maxChemicals, mostReceptors, pathwaysPerChemical, mostLines}
-use Rattle.sheet.specs.Sheet.{pathwayAt, hasReference, figureAt, unitOf, counted, countedIn, columnsAt, addedOver, totalAt, highAbove, unworked, overCap, capOf, lineRefused, lineTooLarge, refusedLines, largeLines, faultyLines}
+use Rattle.sheet.specs.Sheet.{pathwayAt, hasReference, figureAt, unitOf, ByRule, counted, countedIn, columnsAt, addedOver, totalAt, highAbove, unworked, overCap, capOf, lineRefused, lineTooLarge, refusedLines, largeLines, faultyLines}
 use Rattle.lists.specs.Lists.{chained}
 use Rattle.sheet.specs.Counts.{miscounted, groundFor, meanWith, meanFor, stopsAt, noMediaAt, unmade, enteredConditions, Part, Mark, Low, High, cellOf, cellsOf, totalIn, CountsMost}
 use Rattle.scenario.proofs.Sound.{Sound}
@@ -137,15 +137,7 @@ conditions-agree scenario sound =
     rw (few-records scenario sound, sound .guided, sound .whole)
     (none-first (noMediaAt scenario) (scenario .chemicals .count) (faultyLines scenario) (λ i h r. rw (sound .wholes i h, none-refused scenario sound i h) refl) ∙ lines-unbroken scenario sound)
 
--- ---- a line with its reference value: the pair that the working rule gives, and its counts
-pub record Line (scenario : Scenario) (e : Effect) (j i : ℕ) (w : Pathway) : Type 0 where
-  pub pair : Pair
-  pub rule : figureAt e scenario j i w ≡ is pair
-  pub proper : isPair pair ≡ true
-  pub units : Units
-  pub counted : inUnits pair (unitOf e) ≡ is units
-  pub columns : columnsAt e scenario j i w ≡ Cols.Counted (units .low) (units .high)
-
+-- ---- a line with its reference value
 columns-counted : (t : Bool) (e : Effect) (o : Outcome Pair) (p : Pair) (u : Units) → t ≡ true → o ≡ is p → inUnits p (unitOf e) ≡ is u →
     cond t (countedIn (unitOf e) o) Cols.Absent ≡ Cols.Counted (u .low) (u .high)
 unfolding countedIn counted
@@ -194,7 +186,7 @@ module _ (scenario : Scenario) {exact : Exact} (sound : Sound scenario exact) (s
         figure-counted scenario sound j i j-small i-small e (pathwayAt p)
         (capped (hasReference e scenario i (pathwayAt p)) (highAbove (capOf e) (figureAt e scenario j i (pathwayAt p))) h (not-large scenario small e j i p j-small i-small p-small))
 
-    pub line-by-rule : hasReference e scenario i (pathwayAt p) ≡ true → Line scenario e j i (pathwayAt p)
+    pub line-by-rule : hasReference e scenario i (pathwayAt p) ≡ true → ByRule e scenario j i (pathwayAt p)
     unfolding figureAt columnsAt
     line-by-rule h =
         let f = figure h in

@@ -20,7 +20,7 @@ use Rattle.media.specs.Media.{mediaInputs, groundOf, meanMedia}
 use Rattle.scenario.specs.declared.Receptor.{Receptor}
 use Rattle.cases.specs.declared.Status.{Status}
 use Rattle.cases.specs.declared.Status.the-variants.{Passed, Stopped}
-use Rattle.sizes.specs.Sizes.{maxChemicals, mostReceptors, pathwaysPerChemical, mostLines}
+use Rattle.sizes.specs.Sizes.{mostReceptors, pathwaysPerChemical, mostLines}
 use Rattle.cases.specs.Conditions.{Condition, at, first}
 use Rattle.lists.specs.Lists.{tabulate, chained, anyOf}
 use Rattle.totals.specs.declared.Columns.{Columns}

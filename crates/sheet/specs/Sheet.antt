@@ -1,5 +1,6 @@
 -- The lines of a scenario, their counts and totals (document 01, "Units and totals"), and 53 and 42 of "Where a deck stops". Receptor j,
 -- chemical i and pathway p come in this order and are counted from 0.
+use mathlib.Core.Path.{_≡_}
 use mathlib.Core.Bool.{Bool, true, false, cond, not, _&&_, _||_}
 use mathlib.Core.List.{List, [], _∷_, _++_}
 use Prim.Native.Nat.{ℕ, zero, suc, _+_, _*_}
@@ -7,6 +8,7 @@ use lib.IntN.{ℤ, negsuc}
 use Rattle.pair.specs.declared.Number.{Number}
 use Rattle.pair.specs.declared.Pair.{Pair}
 use Rattle.pair.specs.declared.Units.{Units}
+use Rattle.pair.specs.Number.{isPair}
 use Rattle.pair.specs.Calls.{Outcome, is, refused, compared, inUnits}
 use Rattle.equations.specs.declared.Pathway.{Pathway}
 use Rattle.equations.specs.declared.Pathway.the-variants.{Air, SoilSummer, SoilWinter, Skin, AboveGround, BelowGround}
@@ -60,6 +62,15 @@ countedIn u (refused n) = Cols.Absent
 -- the two columns of a line; - in both without the reference value
 unfoldable pub columnsAt : Effect → Scenario → ℕ → ℕ → Pathway → Columns
 columnsAt e scenario j i p = cond (hasReference e scenario i p) (countedIn (unitOf e) (figureAt e scenario j i p)) Cols.Absent
+
+-- a line's two columns are the pair that the working rule gives for its equation, counted in units
+pub record ByRule (e : Effect) (scenario : Scenario) (j i : ℕ) (p : Pathway) : Type 0 where
+  pub pair : Pair
+  pub rule : figureAt e scenario j i p ≡ is pair
+  pub proper : isPair pair ≡ true
+  pub units : Units
+  pub counted : inUnits pair (unitOf e) ≡ is units
+  pub columns : columnsAt e scenario j i p ≡ Cols.Counted (units .low) (units .high)
 
 -- f 0 added f 1 .. added f (n − 1)
 unfoldable pub addedOver : (ℕ → Columns) → ℕ → Columns
