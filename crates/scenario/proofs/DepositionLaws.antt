@@ -13,7 +13,6 @@ use borrow.Author.Tests.{leb-true, leb-false, le-leb, lt-leb, le-ltb}
 use Rattle.pair.specs.declared.Pair.{Pair}
 use Rattle.pair.specs.Fraction.{Fraction, Proper, minus}
 use Rattle.pair.specs.Calls.{Outcome, is}
-use Rattle.pair.specs.Number.{rise}
 use Rattle.pair.proofs.Promises.{_=ᶠ_, scaled-proper, equal-turned, equal-through, minus-equal}
 use Rattle.times.specs.declared.Years.{Years}
 use Rattle.times.specs.Times as years
@@ -54,7 +53,7 @@ high-enough (pos n) h = le-leb n 9 h
 high-enough (negsuc n) h = refl
 
 amount-few : (m : ℕ) (e : ℤ) → below e ≤ 27 → m * 10 ^ above e ≤ 1000000000 * 10 ^ below e → years.printedAmount m e < 10 ^ 37
-unfolding above below years.printedAmount years.least rise
+unfolding above below years.printedAmount years.places years.least
 amount-few m (pos n) h k = rw (pow-add 10 n 27) (omega (arith, mul-le-mul-right (10 ^ 27) k))
 amount-few m (negsuc n) h k =
     let d : 27 - suc n + suc n ≡ 27 = omega arith in

@@ -13,13 +13,13 @@ use lib.Signed.{leZ}
 use borrow.Author.Tests.{ltb-true, lt-ltb, leb-true, leb-false, le-leb}
 use Rattle.pair.specs.declared.Pair.{Pair}
 use Rattle.pair.specs.Fraction.{Fraction, Proper, _≤ᶠ_, plus, minus}
-use Rattle.pair.specs.Number.{rise, place, depth}
+use Rattle.pair.specs.Number.{place, depth}
 use Rattle.pair.specs.Calls.{is}
 use Rattle.pair.specs.Promises.{Around, Sized, scaled}
 use Rattle.pair.proofs.Providing.{both-from, provided-is, provided-true}
 use Rattle.pair.proofs.Promises.{_<ᶠ_, _=ᶠ_, equal-through, equal-turned, minus-equal, around-equal, scaled-proper, long-entry-around, long-entry-answered}
 use Rattle.times.specs.declared.Years.{Years}
-use Rattle.times.specs.Times.{amount, yearsOf, inYears, isYears, wordsOf, timeOf, none, least, printedAmount, printed, together, atMost, asPair, beyond}
+use Rattle.times.specs.Times.{amount, yearsOf, inYears, isYears, wordsOf, timeOf, none, least, places, printedAmount, printed, together, atMost, asPair, beyond}
 use Rattle.times.proofs.TwoWords.{Bounded, bounded, words-from}
 pub use Rattle.times.proofs.TwoWords.{amount-words, words-are, amount-below}
 use Rattle.times.proofs.TimeDigits.{Placed, placed, ten-above}
@@ -66,10 +66,10 @@ module _ (m : ℕ) (e : ℤ) (y : Years) (h : printed m e ≡ is y) where
 
   -- It is what is printed.
   pub printed-same : scaled m e =ᶠ inYears y
-  unfolding scaled inYears yearsOf printedAmount rise least
+  unfolding scaled inYears yearsOf printedAmount places least
   printed-same =
       let p : Placed e = placed e (printed-parts .0) in
-      let k : ℕ = rise least e in
+      let k : ℕ = places e in
       record { across = shift m (amount y) (10 ^ place e) (10 ^ 27) (10 ^ k) (10 ^ depth) (sym (pow-add 10 (place e) 27) ∙ ap (λ (i : ℕ). 10 ^ i) (sym (p .at)) ∙ pow-add 10 k depth) printed-amount }
     where
       shift : (m a p d r w : ℕ) → p * d ≡ r * w → a ≡ m * r → m * p * d ≡ a * w

@@ -4,11 +4,10 @@
 use Prim.Native.Nat.{ℕ, _+_, _-_, _*_, _/_, _%_, _^_}
 use mathlib.Core.Bool.{Bool, _&&_}
 use lib.Dec.{leb, ltb}
-use lib.IntN.{ℤ, pos, negsuc}
+use lib.IntN.{ℤ, pos, negsuc, _-ℤ_, natAbs}
 use lib.Signed.{leZ}
 use Rattle.pair.specs.declared.Pair.{Pair}
 use Rattle.pair.specs.Fraction.{Fraction}
-use Rattle.pair.specs.Number.{rise}
 use Rattle.pair.specs.Calls.{Outcome, is, refused, provided, longEntry}
 use Rattle.times.specs.declared.Years.{Years}
 use Rattle.times.specs.declared.Time.{Time}
@@ -44,12 +43,16 @@ timeOf n = provided (ltb n (10 ^ 37)) (is (wordsOf n))
 unfoldable pub none : Years
 none = record { high = 0; low = 0 }
 
--- m × 10^e years as printed: e counted from the least place, 1E-27
+-- the least place of a last printed digit, 1E-27, and how far the last digit of m × 10^e stands above it
 unfoldable pub least : ℤ
 least = negsuc 26
 
+unfoldable pub places : ℤ → ℕ
+places e = natAbs (e -ℤ least)
+
+-- m × 10^e years as printed
 unfoldable pub printedAmount : ℕ → ℤ → ℕ
-printedAmount m e = m * 10 ^ rise least e
+printedAmount m e = m * 10 ^ places e
 
 unfoldable pub printed : ℕ → ℤ → Outcome Years
 printed m e = provided (leZ least e && leZ e (pos 9)) (timeOf (printedAmount m e))

@@ -9,7 +9,6 @@ ghost use Prim.Native.Nat.{_+_, _-_, _*_, _^_, _≤_, _<_};
 ghost use lib.Dec.{leb};
 ghost use lib.IntN.{pos};
 ghost use lib.Signed.{leZ};
-ghost use Rattle.pair.specs.Number.{rise};
 ghost use Rattle.pair.specs.Calls.{answer, order};
 ghost use Rattle.times.specs.Times as specs;
 ghost use Rattle.times.specs.Times.{time, amount, isYears, wordsOf, timeOf, least};
@@ -92,7 +91,7 @@ fn is_place(power: i32) -> bool
 // How far above 1E-27.
 fn places(power: i32) -> usize
     requires { ⌜ (leZ least power && leZ power (pos 9)) ≡ true ⌝ }
-    ensures { λ r. ⌜ (r ≡ rise least power) × (r ≤ 36) ⌝ }
+    ensures { λ r. ⌜ (r ≡ specs.places power) × (r ≤ 36) ⌝ }
 {
     (power + 27) as usize
 }

@@ -1,7 +1,6 @@
 -- The sum is not negative, so the cast keeps it. Assumes nothing.
 use mir.Facts.{toZ-ofZ, fits-natAbs}
-use Rattle.pair.specs.Number.{rise}
-use Rattle.times.specs.Times.{least}
+use Rattle.times.specs.Times.{least, places}
 use Rattle.times.proofs.TimeDigits.{Placed, placed, sum-small}
 use mathlib.Core.Path.{refl}
 use Rattle.times.proofs.places.Statement.{statement}
@@ -17,7 +16,7 @@ cast-result c =
     simp (toZ-ofZ (c .fits .power), toZ-ofZ (sum-small e p)) (p .counted, fits-natAbs tt (sum-small e p))
 
 returns : tie.Need-returns
-unfolding rise least
+unfolding places least
 returns c =
     let e = c .args .power in
     let p : Placed e = placed e (c .pre) in

@@ -8,10 +8,9 @@ use lib.Signed.{leZ}
 use mir.Facts.{toZ-ofZ}
 use borrow.Author.Needs.{needs}
 use borrow.Author.Tests.{lt-ltb}
-use Rattle.pair.specs.Number.{rise}
 use Rattle.pair.specs.Calls.{is}
 use Rattle.pair.proofs.Providing.{refused-as, told-as, failed, passed, provided-true}
-use Rattle.times.specs.Times.{time, wordsOf, timeOf, least, printedAmount, printed}
+use Rattle.times.specs.Times.{time, wordsOf, timeOf, least, places, printedAmount, printed}
 use Rattle.times.proofs.Years.printed.Statement.{statement}
 use Rattle.times.proofs.Years.printed.Tie as tie
 
@@ -40,7 +39,7 @@ returns-2 c =
     let m = s .args .digits in
     let e = s .args .power in
     let k = c .before .before .places .result in
-    let r : k ≡ rise least e = rw (toZ-ofZ (s .fits .power)) at (c .before .before .places .ensures .0) in
+    let r : k ≡ places e = rw (toZ-ofZ (s .fits .power)) at (c .before .before .places .ensures .0) in
     ap is (c .across .ensures .0)
     ∙ sym (provided-true (is (wordsOf (m * 10 ^ k))) (lt-ltb (m * 10 ^ k) (10 ^ 37) (c .across .ensures .1)))
     ∙ ap (λ (i : ℕ). timeOf (m * 10 ^ i)) r
@@ -57,7 +56,7 @@ returns-3 c =
     let m = s .args .digits in
     let e = s .args .power in
     let k = c .before .before .places .result in
-    let r : k ≡ rise least e = rw (toZ-ofZ (s .fits .power)) at (c .before .before .places .ensures .0) in
+    let r : k ≡ places e = rw (toZ-ofZ (s .fits .power)) at (c .before .before .places .ensures .0) in
     c .upper .ensures
     ∙ ap (λ (i : ℕ). timeOf (m * 10 ^ i)) (back k (c .before .if2 .left) ∙ r)
     ∙ told-as (leZ least e && leZ e (pos 9)) (timeOf (printedAmount m e)) (sym (passed (rw (toZ-ofZ (s .fits .power)) at (t .before .is-place .ensures)) (t .if1 .left)))
