@@ -9,7 +9,7 @@ mod Shares
 mod Alignment
 mod Sums
 mod Counts
-pub mod Providing
+mod Providing
 pub mod Refusals
 mod Ordered
 mod Fractions

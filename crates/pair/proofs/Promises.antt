@@ -38,7 +38,9 @@ pub use Rattle.pair.proofs.Keeps.{stays-above, stays-below, keeps-order
 pub use Rattle.pair.proofs.Sizes.{joint-size, sized-on}
 unfoldable pub use Rattle.pair.proofs.Sizes.{joint}
 pub use Rattle.pair.proofs.Answers.{Ordered, ordered, pair-from}
-use Rattle.pair.proofs.Answers.{provided-is, provided-true, pair, ends-are, ends-from, usable-on, Answered, told, answers, Operand, operand, held-along}
+use Rattle.pair.proofs.Answers.{pair, ends-are, ends-from, usable-on, Answered, told, answers, Operand, operand, held-along}
+-- How a refusal is made: the crates above refuse in the same way.
+pub use Rattle.pair.proofs.Providing.{refused-as, told-as, provided-is, provided-true}
 
 -- The operands of an answered call are pairs, and a divisor's low end is above 0.
 pub operands : (o : Operation) (p q r : Pair) → call o p q ≡ is r → (isPair p ≡ true) × (isPair q ≡ true) × Usable o (value (q .low))

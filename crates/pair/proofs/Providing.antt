@@ -1,5 +1,4 @@
--- A call's tests one after the other are its definition's condition; for the crates above too, whose calls are refused in the same way.
--- Assumes nothing.
+-- A call's tests one after the other are its definition's condition. Assumes nothing.
 use mathlib.Core.Path.{_≡_, refl, sym, _∙_, ap}
 use mathlib.Core.Bool.{Bool, true, false, _&&_, not, and-false}
 use Prim.Native.Nat.{ℕ}

@@ -1,6 +1,6 @@
 -- What is printed as a time: where its last digit stands, and its digits over the two words. Assumes nothing.
 use mathlib.Core.Path.{_≡_, sym, _∙_, ap}
-use mathlib.Core.Bool.{true, false, _&&_}
+use mathlib.Core.Bool.{true, false, _&&_, and-eq-true-iff}
 use Prim.Native.Nat.{ℕ, suc, _+_, _-_, _*_, _/_, _%_, _^_, _≤_, _<_}
 use native.Mathlib.Nat.{one-le-pow, pow-le-pow-right, mul-le-mul-right, mul-lt-mul-of-pos-right, div-add-mod', mod-lt}
 use native.Mathlib.Omega.{arith}
@@ -13,7 +13,6 @@ use mir.Val.{SFits}
 use borrow.Author.Tests.{leb-true, le-ltb}
 use Rattle.pair.specs.Number.{place, depth}
 use Rattle.pair.specs.Calls.{is, refused}
-use Rattle.pair.proofs.Providing.{both}
 use Rattle.times.specs.Times.{wordsOf, timeOf, least}
 use Rattle.times.proofs.TwoWords.{words-from, time-is, time-refused}
 
@@ -33,7 +32,7 @@ placed (pos n) h =
     let l : n ≤ 9 = leb-true n 9 h in
     record { small = omega arith; counted = tt; most = omega arith; at = omega arith }
 placed (negsuc n) h =
-    let l : n ≤ 26 = leb-true n 26 (both (leb n 26) true h .0) in
+    let l : n ≤ 26 = leb-true n 26 (and-eq-true-iff (leb n 26) true .0 h .0) in
     let t : ltb 27 (suc n) ≡ false = le-ltb 27 (suc n) (omega arith) in
     record { small = omega arith; counted = rw t tt; most = rw t (omega arith); at = rw t (omega arith) }
 

@@ -3,6 +3,7 @@
 use mathlib.Core.Path.{_≡_, refl, sym, _∙_, ap, ap₂, subst}
 use mathlib.Core.Bool.{Bool, true, false, _&&_}
 use mathlib.Core.Logic.{_⊎_, inl, inr}
+use mathlib.Mathlib.Data.Bool.Basic.{and-intro}
 use Prim.Native.Nat.{ℕ, _+_, _-_, _*_, _^_, _≤_, _<_}
 use native.Mathlib.Nat.{eq-zero-or-pos, mul-comm, mul-sub, mul-assoc, mul-le-mul-right, le-trans, le-of-mul-le-mul-right, lt-of-mul-lt-mul-right, mul-lt-mul-of-pos-right, mul-pos}
 use native.Mathlib.Omega.{arith}
@@ -16,8 +17,7 @@ use Rattle.pair.specs.Fraction.{Fraction, Proper, _≤ᶠ_, plus, minus}
 use Rattle.pair.specs.Number.{place, depth}
 use Rattle.pair.specs.Calls.{is}
 use Rattle.pair.specs.Promises.{Around, Sized, scaled}
-use Rattle.pair.proofs.Providing.{both-from, provided-is, provided-true}
-use Rattle.pair.proofs.Promises.{_<ᶠ_, _=ᶠ_, equal-through, equal-turned, minus-equal, around-equal, scaled-proper, long-entry-around, long-entry-answered}
+use Rattle.pair.proofs.Promises.{provided-is, provided-true, _<ᶠ_, _=ᶠ_, equal-through, equal-turned, minus-equal, around-equal, scaled-proper, long-entry-around, long-entry-answered}
 use Rattle.times.specs.declared.Years.{Years}
 use Rattle.times.specs.Times.{amount, yearsOf, inYears, isYears, wordsOf, timeOf, none, least, places, printedAmount, printed, together, atMost, asPair, beyond}
 use Rattle.times.proofs.TwoWords.{Bounded, bounded, words-from}
@@ -32,7 +32,7 @@ words-again y h = words-from (amount y) (y .high) (y .low) (bounded y h .low) (o
 -- 0 years is a time.
 pub none-is : (isYears none ≡ true) × (amount none ≡ 0)
 unfolding isYears amount none
-none-is = (both-from (lt-ltb 0 (10 ^ 19) (lit< tt)) (lt-ltb 0 (10 ^ 18) (lit< tt)), omega arith)
+none-is = (and-intro (lt-ltb 0 (10 ^ 19) (lit< tt)) (lt-ltb 0 (10 ^ 18) (lit< tt)), omega arith)
 
 time-told : (n : ℕ) (y : Years) → timeOf n ≡ is y → (isYears y ≡ true) × (amount y ≡ n)
 unfolding timeOf
@@ -51,7 +51,7 @@ time-from n h = provided-true (is (wordsOf n)) (lt-ltb n (10 ^ 37) h)
 -- m × 10^e years as printed, with the last digit from 1E-27 to 1E+9 and below 1E+10 years.
 pub printed-told : (m : ℕ) (e : ℤ) → leZ least e ≡ true → leZ e (pos 9) ≡ true → printedAmount m e < 10 ^ 37 → printed m e ≡ is (wordsOf (printedAmount m e))
 unfolding printed
-printed-told m e l h n = provided-true (timeOf (printedAmount m e)) (both-from l h) ∙ time-from (printedAmount m e) n
+printed-told m e l h n = provided-true (timeOf (printedAmount m e)) (and-intro l h) ∙ time-from (printedAmount m e) n
 
 module _ (m : ℕ) (e : ℤ) (y : Years) (h : printed m e ≡ is y) where
   printed-parts : ((leZ least e && leZ e (pos 9)) ≡ true) × (timeOf (printedAmount m e) ≡ is y)
@@ -78,7 +78,7 @@ module _ (m : ℕ) (e : ℤ) (y : Years) (h : printed m e ≡ is y) where
 -- The sum of two times, where it is below 1E+10 years.
 pub together-told : (a b : Years) → isYears a ≡ true → isYears b ≡ true → amount a + amount b < 10 ^ 37 → together a b ≡ is (wordsOf (amount a + amount b))
 unfolding together
-together-told a b p q n = provided-true (timeOf (amount a + amount b)) (both-from p q) ∙ time-from (amount a + amount b) n
+together-told a b p q n = provided-true (timeOf (amount a + amount b)) (and-intro p q) ∙ time-from (amount a + amount b) n
 
 module _ (a b c : Years) (h : together a b ≡ is c) where
   together-parts : ((isYears a && isYears b) ≡ true) × (timeOf (amount a + amount b) ≡ is c)
@@ -101,7 +101,7 @@ module _ (a b c : Years) (h : together a b ≡ is c) where
 -- Two times can always be compared.
 pub at-most-told : (a b : Years) → isYears a ≡ true → isYears b ≡ true → atMost a b ≡ is (leb (amount a) (amount b))
 unfolding atMost
-at-most-told a b p q = provided-true (is (leb (amount a) (amount b))) (both-from p q)
+at-most-told a b p q = provided-true (is (leb (amount a) (amount b))) (and-intro p q)
 
 -- A time, and whatever comes to the same fraction of years, is at most another exactly where the comparison says true.
 pub at-most-right : (a b : Years) (t : Bool) (x y : Fraction) → atMost a b ≡ is t → Proper x → Proper y → x =ᶠ inYears a → y =ᶠ inYears b → (t ≡ true → x ≤ᶠ y) × (t ≡ false → y <ᶠ x)
@@ -170,12 +170,15 @@ beyond-around-minus a b p x y h m n i j =
     (equal-turned (equal-through (minus-proper (years-proper (amount a)) (years-proper (amount b))) (minus-equal i j) (minus-years a b)))
     (beyond-around a b p h)
 
-pub beyond-answered : (a b : Years) → isYears a ≡ true → isYears b ≡ true → amount b ≤ amount a → (p : Pair) × (beyond a b ≡ is p)
+pub beyond-told : (a b : Years) → isYears a ≡ true → isYears b ≡ true → amount b ≤ amount a → beyond a b ≡ asPair (wordsOf (amount a - amount b))
 unfolding beyond
+beyond-told a b p q h = provided-true (asPair (wordsOf (amount a - amount b))) (and-intro p (and-intro q (le-leb (amount b) (amount a) h)))
+
+pub beyond-answered : (a b : Years) → isYears a ≡ true → isYears b ≡ true → amount b ≤ amount a → (p : Pair) × (beyond a b ≡ is p)
 beyond-answered a b p q h =
     let n : ℕ = amount a - amount b in
     let r = pair-answered (wordsOf n) (words-are n (omega (arith, amount-below a p))) in
-    (r .0, provided-true (asPair (wordsOf n)) (both-from p (both-from q (le-leb (amount b) (amount a) h))) ∙ r .1)
+    (r .0, beyond-told a b p q h ∙ r .1)
 
 -- A time, or a difference of two, is 0 or from 1E-27 to 1E+27 years.
 pub years-sized : (n : ℕ) → n < 10 ^ 37 → Sized 27 (yearsOf n)

@@ -1,13 +1,14 @@
 -- A time's two words: what the test of them says, and the words of an amount. Assumes nothing.
-use mathlib.Core.Path.{_≡_, sym, _∙_, ap}
-use mathlib.Core.Bool.{true}
+use mathlib.Core.Path.{_≡_, refl, sym, _∙_, ap}
+use mathlib.Core.Bool.{Bool, true, false, and-eq-true-iff}
+use mathlib.Mathlib.Data.Bool.Basic.{and-intro}
 use Prim.Native.Nat.{ℕ, _+_, _-_, _*_, _/_, _%_, _^_, _≤_, _<_}
 use native.Mathlib.Nat.{le-antisymm, div-add-mod', mod-lt}
 use native.Mathlib.Omega.{arith}
 use lib.Dec.{leb, ltb, lit<}
 use borrow.Author.Tests.{ltb-true, leb-true, leb-false, lt-ltb, le-ltb, le-leb, lt-leb}
 use Rattle.pair.specs.Calls.{is, refused}
-use Rattle.pair.proofs.Providing.{by-cases, both, both-from, provided-true, refused-as}
+use Rattle.pair.proofs.Promises.{provided-true, refused-as}
 use Rattle.times.specs.declared.Years.{Years}
 use Rattle.times.specs.Times.{amount, isYears, wordsOf, timeOf}
 
@@ -19,12 +20,12 @@ pub record Bounded (y : Years) : Type 0 where
 pub bounded : (y : Years) → isYears y ≡ true → Bounded y
 unfolding isYears
 bounded y h =
-    let b = both (ltb (y .high) (10 ^ 19)) (ltb (y .low) (10 ^ 18)) h in
+    let b = and-eq-true-iff (ltb (y .high) (10 ^ 19)) (ltb (y .low) (10 ^ 18)) .0 h in
     record { high = omega (arith, ltb-true (y .high) 10000000000000000000 (b .0)); low = omega (arith, ltb-true (y .low) 1000000000000000000 (b .1)) }
 
 pub from-bounds : (y : Years) → Bounded y → isYears y ≡ true
 unfolding isYears
-from-bounds y b = both-from (lt-ltb (y .high) (10 ^ 19) (omega (arith, b .high))) (lt-ltb (y .low) (10 ^ 18) (omega (arith, b .low)))
+from-bounds y b = and-intro (lt-ltb (y .high) (10 ^ 19) (omega (arith, b .high))) (lt-ltb (y .low) (10 ^ 18) (omega (arith, b .low)))
 
 -- an amount has one way to be written in two words
 only : (h l h' l' : ℕ) → l ≤ 999999999999999999 → l' ≤ 999999999999999999 → h * 1000000000000000000 + l ≡ h' * 1000000000000000000 + l' → h ≤ h'
@@ -76,9 +77,11 @@ highs-order a b h l = omega (arith, bounded a h .low, l)
 pub lows-order : (a b : Years) → a .high ≡ b .high → leb (a .low) (b .low) ≡ leb (amount a) (amount b)
 unfolding amount
 lows-order a b e =
-    by-cases (leb (a .low) (b .low))
-    (λ t. t ∙ sym (le-leb (a .high * 10 ^ 18 + a .low) (b .high * 10 ^ 18 + b .low) (omega (arith, e, leb-true (a .low) (b .low) t))))
-    (λ t. t ∙ sym (lt-leb (a .high * 10 ^ 18 + a .low) (b .high * 10 ^ 18 + b .low) (omega (arith, e, leb-false (a .low) (b .low) t))))
+    by-test (leb (a .low) (b .low)) refl
+  where
+    by-test : (t : Bool) → leb (a .low) (b .low) ≡ t → leb (a .low) (b .low) ≡ leb (a .high * 10 ^ 18 + a .low) (b .high * 10 ^ 18 + b .low)
+    by-test true t = t ∙ sym (le-leb (a .high * 10 ^ 18 + a .low) (b .high * 10 ^ 18 + b .low) (omega (arith, e, leb-true (a .low) (b .low) t)))
+    by-test false t = t ∙ sym (lt-leb (a .high * 10 ^ 18 + a .low) (b .high * 10 ^ 18 + b .low) (omega (arith, e, leb-false (a .low) (b .low) t)))
 
 -- a − b, for b at most a, with and without a one taken from the upper word
 module _ (a b : Years) (p : isYears a ≡ true) (q : isYears b ≡ true) (h : amount b ≤ amount a) where

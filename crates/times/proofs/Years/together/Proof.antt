@@ -1,12 +1,13 @@
 -- The words are added, and the lower ones carry. Assumes nothing.
 use mathlib.Core.Path.{_≡_, sym, _∙_}
-use mathlib.Core.Bool.{true, _&&_}
+use mathlib.Core.Bool.{true, and-false}
 use Prim.Native.Nat.{_+_, _-_, _/_, _≤_}
 use native.Mathlib.Omega.{arith}
 use mir.Syntax.{w64}
 use mir.Val.{Fits}
 use borrow.Author.Needs.{needs}
-use Rattle.pair.proofs.Providing.{first-fails, second-fails, first-holds, refused-as, told-as, failed, passed}
+use borrow.Author.Tests.{not-true, not-false}
+use Rattle.pair.proofs.Promises.{refused-as, told-as}
 use Rattle.times.specs.declared.Years.{Years}
 use Rattle.times.specs.Times.{time, amount, isYears, timeOf, together}
 use Rattle.times.proofs.TwoWords.{Bounded, bounded, carry-most, highs-refused, sum-refused, sum-is}
@@ -16,7 +17,7 @@ use Rattle.times.proofs.Years.together.Tie as tie
 -- two times
 both-told : (a b : Years) → isYears a ≡ true → isYears b ≡ true → timeOf (amount a + amount b) ≡ together a b
 unfolding together
-both-told a b p q = told-as (isYears a && isYears b) (timeOf (amount a + amount b)) (first-holds (isYears a) (isYears b) true p (sym q))
+both-told a b p q = told-as _ _ (rw (p, q))
 
 few-enough : (a b : Years) → isYears a ≡ true → isYears b ≡ true → b .high ≤ 9999999999999999999 - a .high → Fits w64 (a .high + b .high + (a .low + b .low) / 1000000000000000000)
 few-enough a b p q h = record { fits = omega (arith, h, bounded a p .high, carry-most a b p q) }
@@ -27,9 +28,7 @@ is-years-requires c κs = search needs
 returns : tie.Need-returns
 unfolding time together
 returns c =
-    let s = c .before .before .args in
-    refused-as (isYears (s .self) && isYears (s .other)) (timeOf (amount (s .self) + amount (s .other)))
-    (first-fails (isYears (s .self)) (isYears (s .other)) (failed (c .before .is-years .ensures) (c .if1 .taken)))
+    refused-as _ _ (rw (sym (c .before .is-years .ensures) ∙ not-true _ (c .if1 .taken)))
 
 is-years-requires-2 : tie.Need-is-years-requires-2
 is-years-requires-2 c κs = search needs
@@ -37,31 +36,29 @@ is-years-requires-2 c κs = search needs
 returns-2 : tie.Need-returns-2
 unfolding time together
 returns-2 c =
-    let s = c .before .before .before .before .args in
-    refused-as (isYears (s .self) && isYears (s .other)) (timeOf (amount (s .self) + amount (s .other)))
-    (second-fails (isYears (s .self)) (isYears (s .other)) (failed (c .before .is-years2 .ensures) (c .if2 .taken)))
+    refused-as _ _ (rw (sym (c .before .is-years2 .ensures) ∙ not-true _ (c .if2 .taken), and-false))
 
 sub-if3 : tie.Need-sub-if3
 sub-if3 c =
     let t = c .before in
     let s = t .before .before .before .before .args in
-    bounded (s .self) (passed (t .before .before .before .is-years .ensures) (t .before .before .if1 .left)) .high
+    bounded (s .self) (sym (t .before .before .before .is-years .ensures) ∙ not-false _ (t .before .before .if1 .left)) .high
 
 returns-3 : tie.Need-returns-3
 unfolding time
 returns-3 c =
     let t = c .before .before .before in
     let s = t .before .before .before .before .args in
-    let p : isYears (s .self) ≡ true = passed (t .before .before .before .is-years .ensures) (t .before .before .if1 .left) in
-    let q : isYears (s .other) ≡ true = passed (t .before .is-years2 .ensures) (t .if2 .left) in
+    let p : isYears (s .self) ≡ true = sym (t .before .before .before .is-years .ensures) ∙ not-false _ (t .before .before .if1 .left) in
+    let q : isYears (s .other) ≡ true = sym (t .before .is-years2 .ensures) ∙ not-false _ (t .if2 .left) in
     highs-refused (s .self) (s .other) p q (c .if3 .taken) ∙ both-told (s .self) (s .other) p q
 
 add-low : tie.Need-add-low
 add-low c =
     let t = c .before .before .before .before .before in
     let s = t .before .before .before .before .args in
-    let a : Bounded (s .self) = bounded (s .self) (passed (t .before .before .before .is-years .ensures) (t .before .before .if1 .left)) in
-    let b : Bounded (s .other) = bounded (s .other) (passed (t .before .is-years2 .ensures) (t .if2 .left)) in
+    let a : Bounded (s .self) = bounded (s .self) (sym (t .before .before .before .is-years .ensures) ∙ not-false _ (t .before .before .if1 .left)) in
+    let b : Bounded (s .other) = bounded (s .other) (sym (t .before .is-years2 .ensures) ∙ not-false _ (t .if2 .left)) in
     record { fits = omega (arith, a .low, b .low) }
 
 add-high : tie.Need-add-high
@@ -71,8 +68,8 @@ add-high-2 : tie.Need-add-high-2
 add-high-2 c =
     let t = c .before .before .before .before .before .before .before in
     let s = t .before .before .before .before .args in
-    let p : isYears (s .self) ≡ true = passed (t .before .before .before .is-years .ensures) (t .before .before .if1 .left) in
-    let q : isYears (s .other) ≡ true = passed (t .before .is-years2 .ensures) (t .if2 .left) in
+    let p : isYears (s .self) ≡ true = sym (t .before .before .before .is-years .ensures) ∙ not-false _ (t .before .before .if1 .left) in
+    let q : isYears (s .other) ≡ true = sym (t .before .is-years2 .ensures) ∙ not-false _ (t .if2 .left) in
     few-enough (s .self) (s .other) p q (c .before .before .before .before .if3 .left)
 
 returns-4 : tie.Need-returns-4
@@ -80,8 +77,8 @@ unfolding time
 returns-4 c =
     let t = c .before .before .before .before .before .before .before .before in
     let s = t .before .before .before .before .args in
-    let p : isYears (s .self) ≡ true = passed (t .before .before .before .is-years .ensures) (t .before .before .if1 .left) in
-    let q : isYears (s .other) ≡ true = passed (t .before .is-years2 .ensures) (t .if2 .left) in
+    let p : isYears (s .self) ≡ true = sym (t .before .before .before .is-years .ensures) ∙ not-false _ (t .before .before .if1 .left) in
+    let q : isYears (s .other) ≡ true = sym (t .before .is-years2 .ensures) ∙ not-false _ (t .if2 .left) in
     sum-refused (s .self) (s .other) p q (c .if4 .taken) ∙ both-told (s .self) (s .other) p q
 
 returns-5 : tie.Need-returns-5
@@ -89,8 +86,8 @@ unfolding time
 returns-5 c =
     let t = c .before .before .before .before .before .before .before .before in
     let s = t .before .before .before .before .args in
-    let p : isYears (s .self) ≡ true = passed (t .before .before .before .is-years .ensures) (t .before .before .if1 .left) in
-    let q : isYears (s .other) ≡ true = passed (t .before .is-years2 .ensures) (t .if2 .left) in
+    let p : isYears (s .self) ≡ true = sym (t .before .before .before .is-years .ensures) ∙ not-false _ (t .before .before .if1 .left) in
+    let q : isYears (s .other) ≡ true = sym (t .before .is-years2 .ensures) ∙ not-false _ (t .if2 .left) in
     sum-is (s .self) (s .other) p q (c .if4 .left) ∙ both-told (s .self) (s .other) p q
 
 pub together-spec : {M : Type 1} → statement M
