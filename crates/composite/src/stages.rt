@@ -165,7 +165,7 @@ fn no_receptor() -> Receptor
         id: 0,
         values: scenario::no_values(),
         stay: Stay::Within,
-        later: scenario::NO_PAIR,
+        later: scenario::no_pair(),
     }
 }
 

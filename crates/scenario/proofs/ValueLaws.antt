@@ -1,10 +1,13 @@
 -- What a call tells of a value however it is given. Assumes nothing.
 use mathlib.Core.Path.{_≡_, refl, sym, _∙_, ap}
 use mathlib.Core.Bool.{true, false}
-use Prim.Native.Nat.{ℕ}
+use mathlib.Mathlib.Data.Bool.Basic.{eq-false-of-not-eq-true}
+use Prim.Native.Nat.{ℕ, _*_, _≤_}
+use native.Mathlib.Omega.{arith}
 use lib.IntN.{ℤ}
-use Rattle.pair.specs.Number.{isZero, nineFigures, isNumber, isPair}
-use Rattle.pair.specs.Calls.{Outcome, is, refused}
+use Rattle.pair.specs.Number.{isPair, zero, one}
+use Rattle.pair.specs.Calls.{Outcome, is, refused, zeroPair, onePair}
+use Rattle.pair.proofs.Promises.{through, value-proper, ordered, zero-pair, one-pair}
 use Rattle.times.specs.Times.{isYears}
 use Rattle.cases.specs.declared.Value.{Value}
 use Rattle.cases.specs.declared.Value.the-variants.{Given}
@@ -37,8 +40,11 @@ told-not o x e = rw e refl
 
 -- ---- what stands for no pair and for no time is none: every call refuses it
 pub no-pair : isPair noPair ≡ false
-unfolding noPair isPair isNumber isZero nineFigures
-no-pair = refl
+unfolding noPair zeroPair onePair
+no-pair = eq-false-of-not-eq-true (λ h. no-order (through (value-proper one) (one-pair .1 .high) (through (value-proper zero) (ordered noPair h .rising) (zero-pair .1 .low)) .across))
+  where
+    no-order : 1 * 1 ≤ 0 * 1 → ⊥
+    no-order h = omega arith
 
 pub no-time : isYears noTime ≡ false
 unfolding noTime isYears

@@ -7,7 +7,7 @@ use lib.IntN.{ℤ, pos}
 use lib.ListN.{getD, replicate}
 use Rattle.pair.specs.declared.Pair.{Pair}
 use Rattle.pair.specs.Fraction.{Fraction}
-use Rattle.pair.specs.Number.{asPrinted}
+use Rattle.pair.specs.Number.{zero, one}
 use Rattle.pair.specs.Calls.{Outcome, is, refused, entry, oneMinusEntry, zeroPair, onePair}
 use Rattle.pair.specs.Promises.{scaled}
 use Rattle.times.specs.declared.Years.{Years}
@@ -36,9 +36,9 @@ use Rattle.scenario.specs.declared.Receptors.{Receptors}
 use Rattle.sizes.specs.Sizes.{maxChemicals, mostReceptors, mostStages, slotsPerRecord}
 use Rattle.scenario.specs.declared.Site.{Site}
 
--- what is no pair: every call refuses it, so that no figure is worked from it
+-- what is no pair, from 1 down to 0: every call refuses it, so that no figure is worked from it
 unfoldable pub noPair : Pair
-noPair = record { low = asPrinted 1 (pos 0); high = asPrinted 1 (pos 0) }
+noPair = record { low = one; high = zero }
 
 unfoldable pub orNoPair : Outcome Pair → Pair
 orNoPair (is p) = p

@@ -7,7 +7,6 @@ use cases::is_other_year;
 use cases::plain;
 use equations::Values;
 use pair::Answer;
-use pair::Number;
 use pair::Pair;
 use sizes::SLOTS;
 use slots::FV;
@@ -16,25 +15,23 @@ ghost use mathlib.Core.Path.{_≡_};
 ghost use Rattle.cases.specs.Cases.{valueAt, isOtherYear};
 ghost use Rattle.pair.specs.Calls.{answer, entry, oneMinusEntry};
 ghost use Rattle.slots.specs.Slots.{placeOf};
-ghost use Rattle.scenario.specs.Scenario.{orNoPair, ofValue, told, pairOf, restOf, noPairs, valuesOf, particlesOf, siteOf};
+ghost use Rattle.scenario.specs.Scenario.{noPair, orNoPair, ofValue, told, pairOf, restOf, noPairs, valuesOf, particlesOf, siteOf};
 
-// What is no pair: every call refuses it, so that no figure is worked from it.
-const NO_NUMBER: Number = Number {
-    significand: 1,
-    exponent: 0,
-};
-
-pub const NO_PAIR: Pair = Pair {
-    low: NO_NUMBER,
-    high: NO_NUMBER,
-};
+// What is no pair, from 1 down to 0: every call refuses it, so that no figure is worked from it.
+pub fn no_pair() -> Pair
+    ensures { λ p. ⌜ p ≡ noPair ⌝ }
+{
+    let low = Pair::ONE.low;
+    let high = Pair::ZERO.high;
+    Pair { low, high }
+}
 
 // What a call answered; no pair where it refused, which no value in its range meets.
 pub fn or_no_pair(a: Answer) -> Pair
     ensures { λ r. ⌜ r ≡ orNoPair (answer a) ⌝ }
 {
     let Answer::Is(p) = a else {
-        return NO_PAIR;
+        return no_pair();
     };
     p
 }
@@ -119,8 +116,9 @@ pub fn particles_of(chemical: Record) -> Pair
 pub fn no_values() -> Values
     ensures { λ v. ⌜ v ≡ noPairs ⌝ }
 {
+    let none = no_pair();
     Values {
-        list: [NO_PAIR; SLOTS],
+        list: [none; SLOTS],
     }
 }
 
