@@ -12,6 +12,7 @@ use Rattle.pair.specs.declared.Pair.{Pair}
 use Rattle.pair.specs.Fraction.{Fraction, minus, times, over}
 use Rattle.pair.specs.Calls.{Outcome, is, entry, onePair}
 use Rattle.pair.proofs.Promises.{_=ᶠ_}
+use Rattle.pair.proofs.Profiles.{Profile, Good, answeredAs}
 use Rattle.times.specs.declared.Years.{Years}
 use Rattle.times.specs.Times as years
 use Rattle.times.specs.Times.{amount}
@@ -23,7 +24,6 @@ use Rattle.slots.specs.Slots.{Slot, positive, table, same, isIn, placeIn, entry
 use Rattle.slots.proofs.SlotLaws.{places, inside}
 use Rattle.equations.specs.Formula.{pairs, fractions}
 use Rattle.equations.specs.Readings.{valueIn, byOwner, inputs}
-use Rattle.equations.proofs.Profile.{Profile, Good, answeredAs}
 use Rattle.equations.proofs.LineLaws.{ofPrinted, ofSlot, ofLater}
 use Rattle.cases.specs.declared.Case.{Case}
 use Rattle.cases.specs.declared.Value.{Value}

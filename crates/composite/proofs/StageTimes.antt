@@ -14,6 +14,7 @@ use Rattle.pair.specs.Number.{depth, place}
 use Rattle.pair.specs.Calls.{Outcome, is, refused}
 use Rattle.pair.specs.Promises.{scaled}
 use Rattle.pair.proofs.Promises.{_=ᶠ_, equal-turned, equal-through, plus-equal}
+use Rattle.pair.proofs.Profiles.{Good, answeredAs, good-around, good-equal}
 use Rattle.times.specs.declared.Years.{Years}
 use Rattle.times.specs.Times as years
 use Rattle.times.specs.Times.{amount, inYears}
@@ -22,7 +23,6 @@ use Rattle.slots.specs.declared.Sort.{Sort}
 use Rattle.slots.specs.declared.Rule.{Rule}
 use Rattle.slots.specs.Slots.{Slot, positive, ruleFor}
 use Rattle.equations.specs.Formula.{fractions}
-use Rattle.equations.proofs.Profile.{Good, answeredAs, good-around, good-equal}
 use Rattle.cases.specs.declared.Value.{Value}
 use Rattle.cases.specs.declared.Value.the-variants.{Given}
 use Rattle.powers.specs.Powers.{above, below}

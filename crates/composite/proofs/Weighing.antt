@@ -12,14 +12,15 @@ use Rattle.sizes.specs.Sizes.{mostStages}
 use Rattle.pair.specs.declared.Pair.{Pair}
 use Rattle.pair.specs.Fraction.{Fraction}
 use Rattle.pair.specs.Calls.{Outcome}
-use Rattle.pair.specs.Promises.{sums, products, quotients, call, exactResult}
+use Rattle.pair.specs.Promises.{sums, products, quotients, call, exactResult, spread}
 use Rattle.pair.proofs.Promises.{joint}
+use Rattle.pair.proofs.Profiles.{Profile, ofNumber, positives, usable, joined, Good, answeredAs, parts, good-op, good-more, good-number}
+use Rattle.lists.proofs.Booleans.{both}
 use Rattle.slots.specs.declared.Owner.the-variants.{Receptor}
 use Rattle.slots.specs.Slots.{Slot, ownerOf, placeOf, neverZero}
 use Rattle.equations.specs.Formula.{pairs, fractions}
 use Rattle.equations.specs.Readings.{byOwner}
-use Rattle.equations.proofs.Nearness.{spread}
-use Rattle.equations.proofs.Profile.{Profile, profiles, ofNumber, positives, usable, joined, Good, answeredAs, both, parts, good-op, good-more, good-number}
+use Rattle.equations.proofs.Profile.{profiles}
 use Rattle.equations.proofs.LineLaws.{ofSlot}
 use Rattle.composite.specs.Composite.{summed, sumOfYears, mean, composed}
 

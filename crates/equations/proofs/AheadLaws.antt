@@ -3,11 +3,11 @@ use mathlib.Core.Path.{_≡_, refl, ap, ap₂}
 use mathlib.Core.Bool.{Bool, true, false, false≢true, cond}
 use Rattle.pair.specs.declared.Pair.{Pair}
 use Rattle.pair.specs.Calls.{is}
+use Rattle.lists.proofs.Booleans.{both}
 use Rattle.slots.specs.Slots.{Slot}
 use Rattle.equations.specs.Formula.{Letter, slot, rest, later, g-at-x, h-at-x, g-at-x′, Formula, letter, constant, _⊕_, _⊗_, _⊘_, Algebra, read, pairs}
 use Rattle.equations.specs.Readings.{Inputs, letters, plainWith, plain, asAnswers, worked}
 use Rattle.equations.specs.Ahead.{only, aSlot, isReceptors, ahead, readFrom, plainFrom}
-use Rattle.equations.proofs.Profile.{both}
 
 module _ {A : Type 0} (alg : Algebra A) (ours : Letter → Bool) (env env' : Letter → A) (alike : (l : Letter) → ours l ≡ true → env l ≡ env' l) where
   pub only-same : (f : Formula) → only ours f ≡ true → read alg env f ≡ read alg env' f

@@ -19,9 +19,9 @@ use Rattle.pair.specs.Promises.{Operation, sums, products, quotients, call, exa
 use Rattle.pair.proofs.Promises.{Within, Usable, joint, sized-on, value-proper, through, scaled-proper, ordered, answered-within, pair-again, rounds, entry-exact, entry-above}
 use Rattle.pair.proofs.Partials.{Plain, plain-entry, plain-after}
 use Rattle.pair.proofs.Settling.{Under, Settled, lifts, settled-sum, settled-total, under-from-zero, absorbed, raised-is, times-under, over-under, number-above, significand-above, below-through, sized-exponent, sized-room}
+use Rattle.pair.proofs.Profiles.{Good, ofNumber, good-number}
 use Rattle.equations.specs.Formula.{pairs, fractions}
 use Rattle.equations.specs.Series.{Series, phi, psi, first, step, terms, fromZero, pairSeries}
-use Rattle.equations.proofs.Profile.{Good, ofNumber, good-number}
 use Rattle.equations.proofs.Tail.{place-zero, up, down, up-above, down-above, step-is, step-proper}
 use Rattle.equations.proofs.SeriesTerms.{From, from, low-itself, low-step}
 

@@ -13,16 +13,16 @@ use Rattle.pair.specs.declared.Pair.{Pair}
 use Rattle.pair.specs.Fraction.{Fraction, Proper, _≤ᶠ_, plus, over, rest}
 use Rattle.pair.specs.Number.{isPair, value, place, depth}
 use Rattle.pair.specs.Calls.{Outcome, is, after, afterOne, oneMinus}
-use Rattle.pair.specs.Promises.{sums, quotients, call, exactResult, lowEnd, highEnd, withLow, withHigh, Holds, scaled}
+use Rattle.pair.specs.Promises.{sums, quotients, call, exactResult, lowEnd, highEnd, withLow, withHigh, Holds, scaled, Near, spread}
 use Rattle.pair.proofs.Promises.{Within, Usable, joint, value-proper, ordered, answered-within, rounds, ends-proper, pair-again, holds, entry-written, rest-answered, rest-rounds, rest-pair, rest-within, rest-holds}
+use Rattle.pair.proofs.Widths.{near-from, near-through, near-above, near-down, near-up, two-more}
+use Rattle.pair.proofs.Profiles.{Profile, ofNumber, positives, usable, joined, Fits, Good, down-is, good-op, good-number, answeredAs}
 use Rattle.equations.specs.Formula.{pairs, fractions}
 use Rattle.equations.specs.Series.{phi, exactSeries}
 use Rattle.equations.specs.Page.{Fast, gWith, growth}
 use Rattle.equations.specs.Ranges.{nextToNothing}
 use Rattle.equations.specs.Readings.{pairGrowing, exactGrowing}
 use Rattle.equations.proofs.Tail.{place-zero}
-use Rattle.equations.proofs.Nearness.{Near, near-from, near-through, near-above, near-down, near-up, spread}
-use Rattle.equations.proofs.Profile.{Profile, ofNumber, positives, usable, joined, Fits, Good, down-is, good-op, good-number, answeredAs, two-more}
 use Rattle.equations.proofs.SeriesLaws.{series-proper, zero-num, above-zero, above-zero-pair, above-zero-within, above-zero-holds, near-half, small-plus}
 use Rattle.equations.proofs.Large.{phi-large}
 

@@ -6,8 +6,9 @@ use Rattle.pair.specs.declared.Pair.{Pair}
 use Rattle.pair.specs.Fraction.{Fraction}
 use Rattle.pair.specs.Calls.{Outcome}
 use Rattle.pair.specs.Promises.{sums, products, quotients, call, exactResult}
+use Rattle.pair.proofs.Profiles.{Profile, Good, parts, good-op, good-number}
 use Rattle.equations.specs.Formula.{Letter, Formula, letter, constant, _⊕_, _⊗_, _⊘_, read, pairs, fractions}
-use Rattle.equations.proofs.Profile.{Profile, profiles, Good, parts, good-op, good-number}
+use Rattle.equations.proofs.Profile.{profiles}
 
 -- the profile of a formula, from its letters'
 unfoldable pub profile : (Letter → Profile) → Formula → Profile

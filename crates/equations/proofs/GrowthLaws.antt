@@ -11,16 +11,16 @@ use Rattle.pair.specs.declared.Pair.{Pair}
 use Rattle.pair.specs.Fraction.{Fraction, _≤ᶠ_}
 use Rattle.pair.specs.Number.{isPair, atMost, value, depth}
 use Rattle.pair.specs.Calls.{Outcome, is, refused, compared}
-use Rattle.pair.specs.Promises.{sums, products, quotients, call, exactResult}
+use Rattle.pair.specs.Promises.{sums, products, quotients, call, exactResult, Near, spread}
 use Rattle.pair.proofs.Promises.{_<ᶠ_, joint, ordered, compared-right, compared-answered, sixty-four-entry}
+use Rattle.pair.proofs.Profiles.{Profile, ofNumber, positives, usable, joined, Good, answeredAs, good-op, good-more, good-number}
 use Rattle.equations.specs.Formula.{pairs, fractions}
 use Rattle.equations.specs.Series.{Series, phi, psi, first, step, terms, pairSeries, exactSeries}
 use Rattle.equations.specs.Page.{Pace, Slow, Fast, gWith, growth}
 use Rattle.equations.specs.Ranges.{sixtyFour}
 use Rattle.equations.specs.Readings.{paceIf, paceOf, pairGrowing, exactGrowing}
 use Rattle.equations.proofs.Limits.{sixty-four-number, at-most-whole, at-least-whole}
-use Rattle.equations.proofs.Nearness.{Near, spread}
-use Rattle.equations.proofs.Profile.{Profile, profiles, ofNumber, positives, usable, joined, Good, answeredAs, good-op, good-more, good-number}
+use Rattle.equations.proofs.Profile.{profiles}
 use Rattle.equations.proofs.SeriesTerms.{cost}
 use Rattle.equations.proofs.SeriesLaws.{seriesProfile, series-good}
 use Rattle.equations.proofs.FastLaws.{ofExponent, fast-g, fast-h}

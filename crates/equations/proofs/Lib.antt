@@ -1,6 +1,5 @@
 -- The crate's laws: every formula's pair reading is answered, holds the exact reading and is narrow. `LineLaws` is what the crates above
--- may count on, with `Profile`, by which inputs are judged, `Guided`, `Pathways`, `AheadLaws`, `Limits`, `Plain`, `Rising`, `PageRefusals` and `Tail`'s `term-is`. Assumes nothing.
-pub mod Nearness
+-- may count on, with `Profile`, the formulas' reading on profiles, `Guided`, `Pathways`, `AheadLaws`, `Limits`, `Plain`, `Rising`, `PageRefusals` and `Tail`'s `term-is`. Assumes nothing.
 pub mod Profile
 mod FormulaLaws
 pub mod Plain

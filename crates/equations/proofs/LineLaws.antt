@@ -15,8 +15,11 @@ use Rattle.pair.specs.Fraction as exact
 use Rattle.pair.specs.Fraction.{Fraction}
 use Rattle.pair.specs.Number.{isPair, value, depth}
 use Rattle.pair.specs.Calls.{Outcome, is}
-use Rattle.pair.specs.Promises.{Holds, products, quotients}
+use Rattle.pair.specs.Promises.{Holds, products, quotients, Near, spread}
 use Rattle.pair.proofs.Promises.{joint}
+use Rattle.pair.proofs.Widths.{near-more}
+use Rattle.pair.proofs.Profiles.{Profile, ofNumber, positives, usable, joined, Fits, Good, answeredAs, parts, good-more, good-number}
+use Rattle.lists.proofs.Booleans.{both}
 use Rattle.equations.specs.declared.Pathway.{Pathway}
 use Rattle.equations.specs.declared.Effect.{Effect}
 use Rattle.equations.specs.declared.Effect.the-variants.{Hazard, Cancer}
@@ -31,8 +34,7 @@ use Rattle.equations.specs.Formula.{Letter, slot, rest, later, g-at-x, h
 use Rattle.equations.specs.Page as page
 use Rattle.equations.specs.Page.{Growth, growth, x, x′}
 use Rattle.equations.specs.Readings.{Inputs, AtBoth, letters, noGrowth, plainWith, plain, exponents, growthAtBoth, asAnswers, pacesOf, pairGrowing, worked, exactInputs, exactGrowing, exactly, byOwner}
-use Rattle.equations.proofs.Nearness.{Near, near-more, spread}
-use Rattle.equations.proofs.Profile.{Profile, profiles, ofNumber, positives, usable, joined, Fits, Good, answeredAs, both, parts, good-more, good-number}
+use Rattle.equations.proofs.Profile.{profiles}
 use Rattle.equations.proofs.FormulaLaws.{profile, reads-good}
 use Rattle.equations.proofs.Pathways.{pathways, passes, onEach, byEither, on-guided}
 use Rattle.equations.proofs.Plain.{x-plain, x′-plain}

@@ -6,6 +6,7 @@ use Prim.Native.Nat.{ℕ, zero, suc, _<_}
 use native.Mathlib.Nat.{le-of-suc-le-suc, not-suc-le-zero}
 use lib.Dec.{lit<}
 use lib.ListN.{length, getD}
+use Rattle.lists.proofs.Booleans.{both}
 use Rattle.equations.specs.declared.Pathway.{Pathway}
 use Rattle.equations.specs.declared.Pathway.the-variants.{Air, SoilSummer, SoilWinter, Skin, AboveGround, BelowGround}
 use Rattle.equations.specs.declared.Effect.{Effect}
@@ -14,7 +15,6 @@ use Rattle.equations.specs.declared.Stay.{Stay}
 use Rattle.equations.specs.declared.Stay.the-variants.{Within, Beyond}
 use Rattle.slots.specs.declared.Guidance.{Guidance}
 use Rattle.slots.specs.declared.Guidance.the-variants.{Of2005, Of2009}
-use Rattle.equations.proofs.Profile.{both}
 
 unfoldable pub pathways : List Pathway
 pathways = Air ∷ SoilSummer ∷ SoilWinter ∷ Skin ∷ AboveGround ∷ BelowGround ∷ []

@@ -12,6 +12,7 @@ use Rattle.pair.specs.Fraction.{_≤ᶠ_}
 use Rattle.pair.specs.Calls.{Outcome, is, refused, after, entry, sum, product, quotient}
 use Rattle.pair.specs.Promises.{sums, products, quotients, call, _≤ₑ_, scaled}
 use Rattle.pair.proofs.Promises.{Toward, rises, ends-itself, entry-rises}
+use Rattle.lists.proofs.Booleans.{both}
 use Rattle.equations.specs.declared.Pathway.{Pathway}
 use Rattle.equations.specs.declared.Effect.{Effect}
 use Rattle.equations.specs.declared.Stay.{Stay}
@@ -24,7 +25,6 @@ use Rattle.equations.specs.Page.{Growth, x, x′}
 use Rattle.equations.specs.Readings.{Inputs, AtBoth, letters, noGrowth, plainWith, plain, exponents, growthAtBoth, asAnswers, paceOf, pacesOf, pairGrowing, worked}
 use Rattle.equations.proofs.Pathways.{pathways, passes, onEach, byEither, on-guided}
 use Rattle.equations.proofs.AheadLaws.{only-same}
-use Rattle.equations.proofs.Profile.{both}
 use Rattle.equations.proofs.Plain.{x-plain, x′-plain}
 
 -- no marked letter stands in the formula

@@ -13,12 +13,14 @@ use Rattle.pair.specs.Fraction.{Fraction, Proper, _≤ᶠ_, plus}
 use Rattle.pair.specs.Number as numbers
 use Rattle.pair.specs.Number.{isPair, value, depth}
 use Rattle.pair.specs.Calls.{Outcome, is, after, afterOne, zeroPair}
-use Rattle.pair.specs.Promises.{sums, call, exactResult, lowEnd, highEnd, withLow, withHigh, Holds}
+use Rattle.pair.specs.Promises.{sums, call, exactResult, lowEnd, highEnd, withLow, withHigh, Holds, Near}
 use Rattle.pair.proofs.Promises as promises
 use Rattle.pair.proofs.Promises.{Within, Usable, joint, value-proper, through, ordered, pair-from, zero-pair, answered-within, rounds, ends-proper, pair-again, holds}
+use Rattle.pair.proofs.Widths.{near-from, near-through, near-down, near-up}
+use Rattle.pair.proofs.Profiles.{Profile, Fits, Good}
+use Rattle.lists.proofs.Booleans.{both}
 use Rattle.equations.specs.Series.{Series, terms, fromZero, pairSeries, exactSeries}
-use Rattle.equations.proofs.Nearness.{Near, near-from, near-through, near-down, near-up}
-use Rattle.equations.proofs.Profile.{Profile, profiles, Fits, Good, both}
+use Rattle.equations.proofs.Profile.{profiles}
 use Rattle.equations.proofs.Tail.{term, total, total-proper, total-half, total-small, total-least, total-most, last-small}
 use Rattle.equations.proofs.Sharper.{not-double}
 use Rattle.equations.proofs.SeriesTerms.{cost, terms-good, term-width, total-wide}

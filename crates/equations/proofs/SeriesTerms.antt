@@ -11,12 +11,13 @@ use Rattle.pair.specs.declared.Pair.{Pair}
 use Rattle.pair.specs.Fraction.{Fraction, Proper, _≤ᶠ_, plus}
 use Rattle.pair.specs.Number.{value, depth}
 use Rattle.pair.specs.Calls.{Outcome, is, refused, after, entry}
-use Rattle.pair.specs.Promises.{Operation, sums, products, quotients, call, exactResult, lowEnd, highEnd, withLow, withHigh, Beside, scaled}
+use Rattle.pair.specs.Promises.{Operation, sums, products, quotients, call, exactResult, lowEnd, highEnd, withLow, withHigh, Beside, scaled, Near, spread}
 use Rattle.pair.proofs.Promises.{Along, value-proper, through, ordered, below-itself, rounds, ends-proper, exactly-rises, entry-exact}
+use Rattle.pair.proofs.Widths.{near-down, near-up}
+use Rattle.pair.proofs.Profiles.{Profile, ofNumber, joined, Good, parts, good-op, good-number}
 use Rattle.equations.specs.Formula.{pairs, fractions}
 use Rattle.equations.specs.Series.{Series, phi, psi, first, step, terms}
-use Rattle.equations.proofs.Nearness.{Near, near-down, near-up, spread}
-use Rattle.equations.proofs.Profile.{Profile, profiles, ofNumber, joined, Good, parts, good-op, good-number}
+use Rattle.equations.proofs.Profile.{profiles}
 use Rattle.equations.proofs.Tail.{term, total, step-most, step-proper}
 use Rattle.equations.proofs.Sharper.{Summed, sum-narrow}
 

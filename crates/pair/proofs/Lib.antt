@@ -1,4 +1,4 @@
--- The crate's laws. `Promises` is what the crates above may count on, with `Refusals`. Assumes nothing.
+-- The crate's laws. `Promises` is what the crates above may count on, with `Refusals`, `Widths` and `Profiles`. Assumes nothing.
 mod Exponents
 mod Powers
 mod Excess
@@ -24,4 +24,6 @@ mod Worked
 mod Steps
 pub mod Partials
 pub mod Settling
+pub mod Widths
+pub mod Profiles
 pub mod PairFigures

@@ -2,7 +2,7 @@
 use mathlib.Core.Path.{_≡_}
 use mathlib.Core.Bool.{Bool, true, false}
 use mathlib.Core.Logic.{_⊎_}
-use Prim.Native.Nat.{ℕ, _*_, _^_, _≤_}
+use Prim.Native.Nat.{ℕ, _+_, _*_, _^_, _≤_, max}
 use lib.IntN.{ℤ}
 use Rattle.pair.specs.declared.Number.{Number}
 use Rattle.pair.specs.declared.Pair.{Pair}
@@ -94,3 +94,19 @@ highEnd o p q = exactResult o (value (p .high)) (value (withHigh o q))
 -- m × 10^e as a fraction
 unfoldable pub scaled : ℕ → ℤ → Fraction
 scaled m e = record { num = m * 10 ^ place e; den = 10 ^ depth }
+
+-- How wide: x is at most y with w parts in 10^8 more, one upon the other. A pair is w wide where its high end lies so near its low end.
+pub record Near (w : ℕ) (x y : Fraction) : Type 0 where
+  pub across : x .num * y .den * 100000000 ^ w ≤ y .num * x .den * 100000001 ^ w
+
+-- the parts that an operation makes of its operands' parts, before both ends are rounded
+unfoldable pub spread : Operation → ℕ → ℕ → ℕ
+spread sums v w = max v w
+spread products v w = v + w
+spread quotients v w = v + w
+
+-- near in the direction in which an operation takes its second operand
+unfoldable pub NearAlong : Operation → ℕ → Fraction → Fraction → Type 0
+NearAlong sums w y y' = Near w y y'
+NearAlong products w y y' = Near w y y'
+NearAlong quotients w y y' = Near w y' y

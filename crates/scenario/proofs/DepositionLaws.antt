@@ -14,6 +14,7 @@ use Rattle.pair.specs.declared.Pair.{Pair}
 use Rattle.pair.specs.Fraction.{Fraction, Proper, minus}
 use Rattle.pair.specs.Calls.{Outcome, is}
 use Rattle.pair.proofs.Promises.{_=ᶠ_, scaled-proper, equal-turned, equal-through, minus-equal}
+use Rattle.pair.proofs.Profiles.{Good, good-around, good-equal}
 use Rattle.times.specs.declared.Years.{Years}
 use Rattle.times.specs.Times as years
 use Rattle.times.specs.Times.{amount, inYears, isYears}
@@ -31,7 +32,6 @@ use Rattle.cases.specs.Cases.{valueAt, ownersRecord, given}
 use Rattle.cases.specs.Ranged.{Spelled, Fits, Ranged}
 use Rattle.cases.proofs.FitsLaws.{range-positive, range-most, finest, needed}
 use Rattle.equations.specs.declared.Stay.the-variants.{Within, Beyond}
-use Rattle.equations.proofs.Profile.{Good, good-around, good-equal}
 use Rattle.equations.proofs.LineLaws.{ofLater}
 use Rattle.scenario.specs.Scenario.{orNoPair, told, ofValue, otherwise, orNoTime, fractionOf, timeGiven, stayIf, laterIf, stayBy}
 

@@ -11,11 +11,11 @@ use Rattle.sizes.specs.Sizes.{mostReceptors}
 use Rattle.pair.specs.declared.Pair.{Pair}
 use Rattle.pair.specs.Fraction.{minus}
 use Rattle.pair.specs.Calls.{is, entry}
+use Rattle.pair.proofs.Profiles.{Good}
 use Rattle.slots.specs.declared.Sort.the-variants.{Ordinary}
 use Rattle.slots.specs.Slots.{Slot, positive, table, same, isIn, placeIn, ruleIn, ruleAt, ruleFor, ownerOf, placeOf}
 use Rattle.slots.specs.declared.Owner.the-variants.{Receptor}
 use Rattle.equations.specs.Readings.{valueIn, byOwner, inputs}
-use Rattle.equations.proofs.Profile.{Good}
 use Rattle.equations.proofs.LineLaws.{ofSlot, ofLater, printed-good}
 use Rattle.lists.proofs.ListLaws.{read-any}
 use Rattle.cases.specs.declared.Case.{Case}

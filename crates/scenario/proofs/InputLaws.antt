@@ -21,6 +21,7 @@ use Rattle.pair.specs.Number.{depth, place}
 use Rattle.pair.specs.Calls.{Outcome, is, entry, oneMinusEntry, zeroPair, onePair}
 use Rattle.pair.specs.Promises.{Sized, scaled}
 use Rattle.pair.proofs.Promises.{one-entry, one-less-one, entry-answered, entry-around, scaled-proper, rest-entry-answered, rest-entry-around, rest-scaled-proper, rest-scaled-sized}
+use Rattle.pair.proofs.Profiles.{Good, good-around}
 use Rattle.slots.specs.Slots.{Slot, table, same, isIn, placeIn, ruleIn, ruleAt, ownerOf, placeOf, ruleOf, ruleFor, neverZero, atMostOne}
 use Rattle.slots.specs.declared.Sort.{Sort}
 use Rattle.slots.specs.declared.Sort.the-variants.{Ordinary, Composite}
@@ -30,7 +31,6 @@ use Rattle.slots.specs.declared.Owner.the-variants.{Site, Chemical, Receptor}
 use Rattle.slots.proofs.SlotLaws.{most-rule, rule-cases}
 use Rattle.equations.specs.declared.Values.{Values}
 use Rattle.equations.specs.Readings.{valueIn, byOwner, inputs}
-use Rattle.equations.proofs.Profile.{Good, good-around}
 use Rattle.equations.proofs.LineLaws.{ofPrinted, ofSlot, ofRest, ofLater, InRange, printed-good}
 use Rattle.cases.specs.declared.Case.{Case}
 use Rattle.cases.specs.declared.Value.{Value}

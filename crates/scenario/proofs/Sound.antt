@@ -5,11 +5,11 @@ use mathlib.Core.Bool.{true, false}
 use Prim.Native.Nat.{ℕ, _≤_, _<_}
 use Rattle.pair.specs.Fraction.{minus}
 use Rattle.pair.specs.Calls.{is}
+use Rattle.pair.proofs.Profiles.{Good}
 use Rattle.slots.specs.Slots.{Slot}
 use Rattle.slots.specs.declared.Owner.the-variants.{Site, Chemical}
 use Rattle.slots.specs.declared.Sort.the-variants.{Ordinary}
 use Rattle.cases.specs.CaseConditions.{lacks}
-use Rattle.equations.proofs.Profile.{Good}
 use Rattle.equations.proofs.LineLaws.{ofLater, InRange}
 use Rattle.sizes.specs.Sizes.{maxChemicals, mostReceptors}
 use Rattle.scenario.specs.Scenario.{Scenario, chemicalIn, stayIn, pairsAt, noGuidance, Exact, exactStay}

@@ -14,6 +14,7 @@ use Rattle.pair.specs.Fraction.{minus}
 use Rattle.pair.specs.Calls.{Outcome, is, refused, after, inUnits}
 use Rattle.pair.specs.Promises.{Operation, quotients, products, call}
 use Rattle.pair.proofs.Promises.{pair-again}
+use Rattle.pair.proofs.Profiles.{Good}
 use Rattle.equations.specs.Formula.{Formula, read, pairs}
 use Rattle.equations.proofs.Guided.{on-route}
 use Rattle.slots.specs.declared.Guidance.{Guidance}
@@ -27,7 +28,6 @@ use Rattle.equations.specs.declared.Stay.the-variants.{Within}
 use Rattle.equations.specs.Page as page
 use Rattle.equations.specs.Page.{byMedium}
 use Rattle.equations.specs.Readings.{Inputs, worked, inputs, byOwner}
-use Rattle.equations.proofs.Profile.{Good}
 use Rattle.equations.proofs.LineLaws.{ofLater, Works, medium-works, ground-works}
 use Rattle.slots.specs.Slots.{table, same, isIn, placeIn, ownerOf, placeOf}
 use Rattle.media.specs.declared.Media.{Media}
