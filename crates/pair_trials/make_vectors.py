@@ -10,13 +10,21 @@ A vector is a line: an operation's word, its operands, =, and the answer, 53 whe
     long             high low e                                =  lo.m lo.e hi.m hi.e     ((high x 10^18 + low) x 10^e)
     compare          m e  m e                                  =  1 (at most) | 0 (above)
     units            lo.m lo.e hi.m hi.e  u                    =  low high                (counts of 10^u)
+    checked          p                                         =  p                       (p, q, .. pairs, four numbers each)
+    timesover        p q r                                     =  a pair                  (p x q / r)
+    plusproduct      p q r                                     =  a pair                  (p + q x r)
+    through          p * q / r * t                             =  a pair                  (three steps, each * or /)
+    next             t s x d                                   =  two pairs               (the term t x x / d, and s with it)
+    absorbs          p q                                       =  1 (so) | 0 (not so)
+    raised           p n                                       =  a pair
 
 0 is written 0 0. The answers come from the project's independent oracle, written from the documents alone on Python's whole numbers and
 fractions. Those of add, mul, div and rest are pairs.py's: its random vectors as they come, and its answers to the edges below. Those of
 entry are oracle.py's at level 1, of twelve digits (request P1), also where pairs.py drew the operands; where these have at most nine
 digits both must agree. Those of less are what oracle.py makes of 1 - a printed value; which operands are refused is said here, since the
 oracle has no such call. The answers of compare, units and long are worked here: from document 01 on fractions, and long by whole numbers,
-held to the oracle's rounding of the fraction where its exponent is small.
+held to the oracle's rounding of the fraction where its exponent is small. Those of timesover, plusproduct, through and next are the oracle's
+answers one after the other; those of checked, absorbs and raised are worked here, from the words of crates/pair/README.md.
 """
 import math
 import random
@@ -307,6 +315,104 @@ def show(*words):
     return " ".join(f"{w[0]} {w[1]}" for w in words)
 
 
+# ---- chains, series and single pairs ----
+
+def is_pair(p):
+    return is_number(p[0]) and is_number(p[1]) and at_most(*p)
+
+
+def checked(p):
+    return show(*p) if is_pair(p) else "53"
+
+
+def absorbs(p, q):
+    """whether q is above 0 and below one unit of the last figure of p's low end"""
+    unit = p[0][1]
+    return "1" if is_pair(p) and is_pair(q) and p[0] != ZERO and 0 < in_units(q[1], unit) < 1 else "0"
+
+
+def raised(p, n):
+    """n times the working number next above the high end"""
+    if not is_pair(p) or p[1] == ZERO:
+        return "53"
+    high = p[1]
+    for _ in range(n):
+        if high == above(high):
+            return "53"
+        high = above(high)
+    return show(p[0], high)
+
+
+def read(text):
+    ms = list(map(int, text.split()))
+    return (ms[0], ms[1]), (ms[2], ms[3])
+
+
+def chain(answer, start, *steps):
+    """one call after the other, a refusal carried along"""
+    text = checked(start)
+    for op, q in steps:
+        text = "53" if text == "53" else answer(op, [read(text), q])
+    return text
+
+
+def next_term(answer, t, s, x, d):
+    term = chain(answer, t, ("mul", x), ("div", d))
+    total = "53" if term == "53" else answer("add", [s, read(term)])
+    return "53" if total == "53" else term + " " + total
+
+
+def operand(r):
+    """mostly of a size that leaves a chain in reach; some far out, some 0, few none"""
+    k = r.random()
+    if k < .03:
+        return r.choice([alone(r.choice(NONE)), (ZERO, r.choice(NONE)), (above((HI, 0)), (HI, 0))])
+    lo = number(r) if k < .15 else (r.choice(EDGE + [r.randint(LO, HI)] * 6), r.choice([-8, -9, -7, r.randint(-25, 10)]))
+    return r.choice([alone(lo), wide(lo), wide(lo), (ZERO, lo), (lo, above(above(above(lo))))])
+
+
+def single_pairs(r):
+    for w in NONE:
+        yield from [alone(w), (ZERO, w), (w, (HI, 9))]
+    for m, e in product(EDGE, [0, -8, REACH, -REACH]):
+        yield from [alone((m, e)), wide((m, e)), (ZERO, (m, e)), (above((m, e)), (m, e))]
+    yield from [alone(ZERO), ((0, 1), (LO, 0)), ((LO, 3), (HI, 2)), ((HI, 2), (LO, 3))]
+    for _ in range(60):
+        yield operand(r)
+
+
+def small_terms(r):
+    """a sum and a term just below, at and above one unit of its last figure; 0 and none on either side"""
+    for m, n, gap in product([LO, 123_456_789, HI], [LO, LO + 1, HI], [7, 8, 9, 10, 11, 500]):
+        yield alone((m, 0)), alone((n, -gap))
+        yield wide((m, -20)), (ZERO, (n, -20 - gap))
+    for gap in [8, 9]:
+        yield ((LO, 0), (HI, 2)), alone((HI, -gap))
+        yield ((LO, 0), (HI, 2)), ((LO, -gap - 3), (HI, -gap))
+        yield alone((HI, -REACH + gap)), alone((LO, -REACH))
+        yield alone((LO, REACH)), wide((HI, REACH - gap))
+    for w in NONE:
+        yield alone(w), alone((LO, -20))
+        yield alone((LO, 20)), alone(w)
+    yield from [(alone(ZERO), alone((LO, -20))), (alone((LO, 0)), alone(ZERO)), ((ZERO, (LO, 0)), alone((LO, -20)))]
+    for _ in range(60):
+        yield operand(r), operand(r)
+
+
+def raisings(r):
+    """carries to ten figures by one unit and by many, at the end of the reach too; 0 and none"""
+    for back, n, e in product([0, 1, 2, 100, 253, 254, 255, 256], [0, 1, 2, 255], [-8, REACH - 1, REACH]):
+        yield alone((HI - back, e)), n
+    for m, n in product(EDGE, [1, 9, 10, 200, 255]):
+        yield wide((m, -REACH)), n
+        yield (ZERO, (m, 3)), n
+    for n in [0, 1, 255]:
+        yield alone(ZERO), n
+        yield from ((alone(w), n) for w in NONE)
+    for _ in range(60):
+        yield operand(r), r.randint(0, 255)
+
+
 def lines(oracle, seed):
     sys.path.insert(0, oracle)
     import oracle as level_1
@@ -338,6 +444,28 @@ def lines(oracle, seed):
     yield from (f"less {m} {e} = {less(level_1, m, e)}" for m, e in once(printed_shares(r)))
     yield from (f"long {high} {low} {e} = {long_entry(level_1, high, low, e)}" for high, low, e in once(long_numbers(random.Random(seed + 2))))
 
+    def worked(op, ps):
+        return pairs.answer(op, [plain(p) for p in ps])
+
+    r = random.Random(seed + 3)
+    yield from (f"checked {show(*p)} = {checked(p)}" for p in once(single_pairs(r)))
+    for _ in range(200):
+        p, q, d = operand(r), operand(r), operand(r)
+        yield f"timesover {show(*p, *q, *d)} = {chain(worked, p, ('mul', q), ('div', d))}"
+    for _ in range(200):
+        p, a, b = operand(r), operand(r), operand(r)
+        by = chain(worked, a, ("mul", b))
+        yield f"plusproduct {show(*p, *a, *b)} = {'53' if by == '53' else chain(worked, p, ('add', read(by)))}"
+    for signs in list(product("*/", repeat=3)) * 30:
+        p, by = operand(r), [operand(r) for _ in signs]
+        steps = [("mul" if x == "*" else "div", q) for x, q in zip(signs, by)]
+        yield f"through {show(*p)} {' '.join(f'{x} {show(*q)}' for x, q in zip(signs, by))} = {chain(worked, p, *steps)}"
+    for _ in range(200):
+        t, s, x, d = (operand(r) for _ in range(4))
+        yield f"next {show(*t, *s, *x, *d)} = {next_term(worked, t, s, x, d)}"
+    yield from (f"absorbs {show(*p, *q)} = {absorbs(p, q)}" for p, q in once(small_terms(r)))
+    yield from (f"raised {show(*p)} {n} = {raised(p, n)}" for p, n in once(raisings(r)))
+
 
 def main(oracle, seed, data):
     made = list(lines(oracle, int(seed)))
@@ -349,7 +477,7 @@ def main(oracle, seed, data):
     for k, part in enumerate(files, 1):
         with open(f"{data}/vectors_{k}", "w") as f:
             f.write("\n".join(part) + "\n")
-    for op in ["add", "mul", "div", "rest", "entry", "compare", "units", "less", "long"]:
+    for op in ["add", "mul", "div", "rest", "entry", "compare", "units", "less", "long", "checked", "timesover", "plusproduct", "through", "next", "absorbs", "raised"]:
         own = [x for x in made if x.startswith(op + " ")]
         print(op, len(own), "of these refused", sum(x.endswith("= 53") for x in own))
     print("total", len(made), "of these refused", sum(x.endswith("= 53") for x in made), "in", len(files), "files")

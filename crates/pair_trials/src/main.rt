@@ -8,15 +8,15 @@ use trials::Tally;
 use trials::said;
 ghost use Prim.Native.Nat.{_≤_};
 
-// The tallies of the nine operations, at 9 that of what names none of them, and that of all.
+// The tallies of the sixteen operations, at 16 that of what names none of them, and that of all.
 struct Tallies {
-    each: [Tally; 10],
+    each: [Tally; 17],
     all: Tally,
 }
 
 // One line of a file, or as line 0 the file: whether it agrees.
 fn counted(tallies: Tallies, path: &[u8], line: u64, operation: usize, agrees: bool) -> Tallies
-    requires { ⌜ operation ≤ 9 ⌝ }
+    requires { ⌜ operation ≤ 16 ⌝ }
 {
     if !agrees {
         io::write_all(STDOUT_FILENO, path);
@@ -62,7 +62,7 @@ fn file(tallies: Tallies, path: &[u8]) -> Tallies {
     if 0 < n && n < buffer.len() {
         return next;
     }
-    counted(next, path, 0, 9, false)
+    counted(next, path, 0, 16, false)
 }
 
 fn result(name: &[u8], tally: Tally) {
@@ -81,7 +81,14 @@ fn results(tallies: Tallies) {
     result(b"in_units ", each[6]);
     result(b"one_minus_entry ", each[7]);
     result(b"long_entry ", each[8]);
-    let other = each[9];
+    result(b"checked ", each[9]);
+    result(b"times_over ", each[10]);
+    result(b"plus_product ", each[11]);
+    result(b"through ", each[12]);
+    result(b"next_term ", each[13]);
+    result(b"absorbs ", each[14]);
+    result(b"raised ", each[15]);
+    let other = each[16];
     said(b"no operation ", other.failed, b" differ\n");
     said(b"total ", tallies.all.run, b", ");
     said(b"", tallies.all.failed, b" differ\n");
@@ -90,7 +97,7 @@ fn results(tallies: Tallies) {
 fn main() {
     let none = Tally::new();
     let t = Tallies {
-        each: [none; 10],
+        each: [none; 17],
         all: none,
     };
     let t = file(t, b"vectors_1");
@@ -100,5 +107,7 @@ fn main() {
     let t = file(t, b"vectors_5");
     let t = file(t, b"vectors_6");
     let t = file(t, b"vectors_7");
-    results(file(t, b"vectors_8"));
+    let t = file(t, b"vectors_8");
+    let t = file(t, b"vectors_9");
+    results(file(t, b"vectors_10"));
 }

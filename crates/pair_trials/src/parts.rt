@@ -1,7 +1,9 @@
-//! The parts of a vector: working numbers and pairs as they are written, each after a space. Whether they are numbers and pairs is the
+//! The parts of a vector: working numbers, pairs and steps as they are written, each after a space. Whether they are numbers and pairs is the
 //! library's to say: here a number is any significand and any exponent of 32 bits.
 use pair::Number;
 use pair::Pair;
+use pair::Step;
+use trials::after;
 use trials::read_signed;
 use trials::read_whole;
 ghost use mathlib.Core.Path.{_≡_};
@@ -15,6 +17,13 @@ pub struct Numeral {
 }
 
 pub struct Ends {
+    pub value: Pair,
+    pub at: usize,
+    pub good: bool,
+}
+
+pub struct Stepped {
+    pub step: Step,
     pub value: Pair,
     pub at: usize,
     pub good: bool,
@@ -63,4 +72,25 @@ pub fn read_ends(s: &[u8], at: usize, good: bool) -> Ends {
         at: high.at,
         good: high.good,
     }
+}
+
+fn with_step(step: Step, by: Ends) -> Stepped {
+    let p = by.value;
+    Stepped {
+        step,
+        value: p,
+        at: by.at,
+        good: by.good,
+    }
+}
+
+// * or /, and a pair.
+pub fn read_step(s: &[u8], at: usize, good: bool) -> Stepped {
+    let sign = after(s, at, b' ', good);
+    let times = after(s, sign.at, b'*', sign.good);
+    if times.good {
+        return with_step(Step::Times, read_ends(s, times.at, true));
+    }
+    let over = after(s, sign.at, b'/', sign.good);
+    with_step(Step::Over, read_ends(s, over.at, over.good))
 }
