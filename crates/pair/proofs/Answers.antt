@@ -2,26 +2,25 @@
 -- Assumes nothing.
 use mathlib.Core.Path.{_≡_, refl, sym, _∙_, ap}
 use mathlib.Core.Bool.{Bool, true, false, _&&_, not, and-true, true≢false}
-use mathlib.Core.Logic.{_⊎_, inl, inr}
-use Prim.Native.Nat.{ℕ, _*_, _^_, _≤_, _<_}
-use native.Mathlib.Nat.{mul-pos, lt-of-mul-lt-mul-right}
+use mathlib.Core.Logic.{⊎-elim}
+use Prim.Native.Nat.{_<_}
+use native.Mathlib.Nat.{eq-zero-or-pos, mul-pos, lt-of-mul-lt-mul-right}
 use native.Mathlib.Omega.{arith}
-use lib.Dec.{eqb}
-use borrow.Author.Tests.{eqb-true, not-true}
+use borrow.Author.Tests.{not-true}
 use Rattle.pair.specs.declared.Number.{Number}
 use Rattle.pair.specs.declared.Pair.{Pair}
 use Rattle.pair.specs.Fraction.{Fraction, Proper, _≤ᶠ_}
 use Rattle.pair.specs.Number as N
-use Rattle.pair.specs.Number.{inReach, isZero, zeroExponent, isNumber, isPair, atMost, value, place}
+use Rattle.pair.specs.Number.{inReach, isZero, isNumber, isPair, atMost, value, place}
 use Rattle.pair.specs.Rounding.{sumEnd, productEnd, quotientEnd}
 use Rattle.pair.specs.Calls.{is, provided, ends, sum, product, quotient}
 use Rattle.pair.specs.Promises.{Operation, sums, products, quotients, call, withLow, withHigh, Holds}
 use Rattle.pair.proofs.Exponents.{by-cases}
 use Rattle.pair.proofs.Powers.{ten-above}
 use Rattle.pair.proofs.Fractions.{Usable, Along}
-use Rattle.pair.proofs.Numbers.{both}
+use Rattle.pair.proofs.Numbers.{both, zero-is, none-is-zero}
 pub use Rattle.pair.proofs.Providing.{provided-is, provided-true}
-use Rattle.pair.proofs.Ordered.{both-from, Working, working, at-most, value-proper}
+use Rattle.pair.proofs.Ordered.{both-from, at-most, value-proper}
 use Rattle.pair.proofs.ExactEnds.{top, bottom, power, endOf}
 
 abbrev pub pair : Number → Number → Pair
@@ -70,35 +69,27 @@ call-is sums p q = ap (λ (t : Bool). provided (isPair p && t) (ends (endOf sums
 call-is products p q = ap (λ (t : Bool). provided (isPair p && t) (ends (endOf products false (p .low) (q .low)) (endOf products true (p .high) (q .high)))) (sym (and-true (isPair q)))
 call-is quotients p q = refl
 
-zero-is : isZero N.zero ≡ true
-unfolding isZero zeroExponent N.zero
-zero-is = refl
+-- A number that is 0 has the value 0, and any other a value above 0.
+pub zero-means : (w : Number) → isZero w ≡ true → value w .num ≡ 0
+unfolding value N.zero
+zero-means w h = rw (zero-is w h) (omega arith)
 
-above-zero : (w : Number) → Working w → isZero w ≡ false → 0 < value w .num
+pub zero-not : (w : Number) → isNumber w ≡ true → isZero w ≡ false → 0 < value w .num
 unfolding value
-above-zero w h z = go (h .least)
-  where
-    go : (w ≡ N.zero) ⊎ (100000000 ≤ w .significand) → 0 < w .significand * 10 ^ place (w .exponent)
-    go (inl e) = absurd (true≢false (sym zero-is ∙ ap isZero (sym e) ∙ z))
-    go (inr l) = mul-pos (omega arith) (ten-above (place (w .exponent)))
+zero-not w n h =
+    ⊎-elim (λ z. absurd (true≢false (sym (none-is-zero w n z) ∙ h))) (λ p. mul-pos p (ten-above (place (w .exponent)))) (eq-zero-or-pos (w .significand))
 
 fits-usable : (o : Operation) (q : Pair) → isNumber (q .low) ≡ true → fits o q ≡ true → Usable o (value (q .low))
 unfolding fits Usable
 fits-usable sums q n h = tt
 fits-usable products q n h = tt
-fits-usable quotients q n h = above-zero (q .low) (working (q .low) n) (not-true (isZero (q .low)) h)
+fits-usable quotients q n h = zero-not (q .low) n (not-true (isZero (q .low)) h)
 
 usable-fits : (o : Operation) (q : Pair) → Usable o (value (q .low)) → fits o q ≡ true
-unfolding fits Usable value isZero
+unfolding fits Usable
 usable-fits sums q h = refl
 usable-fits products q h = refl
-usable-fits quotients q h =
-    by-cases (isZero (q .low))
-    (λ t.
-    absurd
-    (omega
-    (arith, ap (λ (n : ℕ). n * 10 ^ place (q .low .exponent)) (eqb-true (q .low .significand) 0 (both (eqb (q .low .significand) 0) (zeroExponent (q .low .exponent)) t .0)))))
-    (λ t. ap not t)
+usable-fits quotients q h = by-cases (isZero (q .low)) (λ t. absurd (omega (arith, zero-means (q .low) t))) (λ t. ap not t)
 
 -- what is at least a divisor may divide too
 pub usable-on : (o : Operation) {y y' : Fraction} → Proper y' → Usable o y → y ≤ᶠ y' → Usable o y'

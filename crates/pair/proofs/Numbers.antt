@@ -59,11 +59,17 @@ number-nine w h p =
       reach = reach-mag (w .exponent) (both (nineFigures (w .significand)) (inReach (w .exponent)) n .1);
     })
 
+-- 0 is held in one way.
+pub zero-is : (w : Number) → isZero w ≡ true → w ≡ specs.zero
+unfolding isZero specs.zero
+zero-is w h =
+    let t = both (eqb (w .significand) 0) (zeroExponent (w .exponent)) h in
+    λ i. record { significand = eqb-true (w .significand) 0 (t .0) i; exponent = zero-mag (w .exponent) (t .1) i }
+
 pub number-zero : (w : Number) → isNumber w ≡ true → w .significand ≡ 0 → w ≡ specs.zero
-unfolding isNumber isZero nineFigures specs.zero
+unfolding isNumber nineFigures
 number-zero w h p =
-    either (isZero w) (nineFigures (w .significand) && inReach (w .exponent)) h
-    (λ z. λ i. record { significand = p i; exponent = zero-mag (w .exponent) (both (eqb (w .significand) 0) (zeroExponent (w .exponent)) z .1) i })
+    either (isZero w) (nineFigures (w .significand) && inReach (w .exponent)) h (zero-is w)
     (λ n. absurd (omega (arith, leb-true 100000000 (w .significand) (both (leb 100000000 (w .significand)) (leb (w .significand) 999999999) (both (nineFigures (w .significand)) (inReach (w .exponent)) n .0) .0))))
 
 pub number-mag : (w : Number) → isNumber w ≡ true → mag (w .exponent) < 100000
@@ -137,10 +143,10 @@ pub number-minus : (v w : Number) → isNumber v ≡ true → isNumber w ≡ tru
 number-minus v w h k = rw (number-back v h, number-back w k) (fits-minus (v .exponent) (w .exponent) (omega (arith, number-mag v h, number-mag w k)))
 
 -- 0 is told by the significand alone
-pub zero-is : (w : Number) → isNumber w ≡ true → w .significand ≡ 0 → isZero w ≡ true
+pub none-is-zero : (w : Number) → isNumber w ≡ true → w .significand ≡ 0 → isZero w ≡ true
 unfolding isZero
-zero-is w h z = rw (eq-eqb (w .significand) 0 z) (is-zero-number w z ∙ h)
+none-is-zero w h z = rw (eq-eqb (w .significand) 0 z) (is-zero-number w z ∙ h)
 
-pub not-zero-is : (w : Number) → 0 < w .significand → isZero w ≡ false
+pub some-is-not-zero : (w : Number) → 0 < w .significand → isZero w ≡ false
 unfolding isZero
-not-zero-is w p = rw (ne-eqb (w .significand) 0 (ne-of-gt p)) refl
+some-is-not-zero w p = rw (ne-eqb (w .significand) 0 (ne-of-gt p)) refl

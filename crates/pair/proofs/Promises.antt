@@ -19,7 +19,7 @@ use Rattle.pair.specs.Fraction.{Fraction, Proper, _≤ᶠ_, plus, times,
 use Rattle.pair.specs.Number as N
 use Rattle.pair.specs.Number.{isZero, zeroExponent, unitsAt, lower, lesser, rise, inReach, isNumber, isPair, atMost, value, place, depth, one}
 use Rattle.pair.specs.Rounding.{rounded, restEnd, unitsEnd, divided}
-use Rattle.pair.specs.Calls.{is, provided, zeroPair, onePair, ends, checked, mostPrinted, entry, longEntry, oneMinusEntry, sum, product, quotient, oneMinus, compared, inUnits}
+use Rattle.pair.specs.Calls.{is, refused, provided, zeroPair, onePair, ends, checked, mostPrinted, entry, written, longEntry, oneMinusEntry, sum, product, quotient, oneMinus, compared, inUnits}
 use Rattle.pair.specs.Promises.{Operation, sums, products, quotients, call, exactResult, lowEnd, highEnd, withLow, withHigh, Holds, Beside, Close, grown, Rounded, Around, Sized, _≤ₑ_, scaled}
 use Rattle.pair.proofs.Exponents.{mag-minus}
 use Rattle.pair.proofs.Alignment.{order-level}
@@ -29,6 +29,8 @@ use Rattle.pair.proofs.Fractions.{rest-falls-exactly}
 pub use Rattle.pair.proofs.Fractions.{_<ᶠ_, _=ᶠ_, equal-itself, equal-turned, equal-through, plus-equal, minus-equal, below-itself, through, exactly-rises, exactly-proper}
 unfoldable pub use Rattle.pair.proofs.Fractions.{Usable, Along}
 use Rattle.pair.proofs.Numbers.{both, reach-mag, number-reach}
+pub use Rattle.pair.proofs.Numbers.{zero-is}
+use Rattle.pair.proofs.Providing.{by-cases, never}
 use Rattle.pair.proofs.Ordered.{both-from, number, number-from, zero-number, working, not-at-most, size-small}
 pub use Rattle.pair.proofs.Ordered.{at-most, value-proper, size-reach}
 use Rattle.pair.proofs.Nearest.{rounded-nearest, rounded-reach, rounded-narrow, rounded-itself}
@@ -37,7 +39,7 @@ use Rattle.pair.proofs.ExactEnds.{endOf, end-rounds, end-reach, end-its
 pub use Rattle.pair.proofs.Keeps.{stays-above, stays-below, keeps-order, sized-end}
 pub use Rattle.pair.proofs.Sizes.{joint-size, sized-on}
 unfoldable pub use Rattle.pair.proofs.Sizes.{joint}
-pub use Rattle.pair.proofs.Answers.{Ordered, ordered, pair-from}
+pub use Rattle.pair.proofs.Answers.{Ordered, ordered, pair-from, zero-means, zero-not}
 use Rattle.pair.proofs.Answers.{pair, ends-are, ends-from, usable-on, Answered, told, answers, Operand, operand, held-along}
 -- How a refusal is made: the crates above refuse in the same way.
 pub use Rattle.pair.proofs.Providing.{refused-as, told-as, provided-is, provided-true}
@@ -507,6 +509,23 @@ rest-entry-answered m e h l k =
           (rounded-reach true (rest-ratio f s) 12 z (lit≤ tt)),
     )
 
+-- A number written with at most nine digits, and an exponent from −99000 to 99000, is a working number of just that value, and both ends
+-- of its entry.
+module _ (m : ℕ) (e : ℤ) (few : m ≤ 999999999) (size : mag e ≤ 99000) where
+  pub written-entry : entry m e ≡ is (pair (written m e) (written m e))
+  unfolding written
+  written-entry =
+      let r = entry-answered m e (omega arith) size in
+      r .1 ∙ ap is (entry-told m e (r .0) (r .1) .ends-is ∙ ap (pair (rounded false m 1 e)) (sym (entry-same m e few)))
+
+  pub written-number : isNumber (written m e) ≡ true
+  written-number = entry-around m e (pair (written m e) (written m e)) written-entry .low .working
+
+  pub written-value : value (written m e) =ᶠ scaled m e
+  written-value =
+      let x : Holds (pair (written m e) (written m e)) (scaled m e) = entry-exact m e (pair (written m e) (written m e)) few written-entry .1 in
+      record { across = le-antisymm (x .low .across) (x .high .across) }
+
 -- Nine figures and an exponent in reach make a working number.
 pub number-written : (m : ℕ) (e : ℤ) → 100000000 ≤ m → m ≤ 999999999 → mag e < 99999 → isNumber (number m e) ≡ true
 number-written m e l h n = number-from (number m e) l h (size-reach e n)
@@ -554,10 +573,34 @@ pub one-less-one : oneMinusEntry 1 (pos 0) ≡ is zeroPair
 unfolding oneMinusEntry restEnd rounded provided ends inReach atMost unitsAt lower lesser rise one zeroPair N.zero
 one-less-one = refl
 
--- What is a pair is passed on.
+-- A pair whose high end is 0 is 0.
+pub pair-none-is : (p : Pair) → isPair p ≡ true → isZero (p .high) ≡ true → p ≡ zeroPair
+unfolding zeroPair
+pair-none-is p h z =
+    let o : Ordered p = ordered p h in
+    ap₂ pair
+    (by-cases (isZero (p .low)) (zero-is (p .low))
+    (λ t. absurd (omega (arith, o .rising .across, mul-pos (zero-not (p .low) (o .low) t) (value-proper (p .high) .above-zero), ap (λ (n : ℕ). n * value (p .low) .den) (zero-means (p .high) z)))))
+    (zero-is (p .high) z)
+
+-- What is a pair is passed on, and nothing else is.
 pub checked-is : (p : Pair) → isPair p ≡ true → checked p ≡ is p
 unfolding checked
 checked-is p h = provided-true (is p) h
+
+pub checked-pair : (x p : Pair) → checked x ≡ is p → (isPair x ≡ true) × (x ≡ p)
+unfolding checked
+checked-pair x p h =
+    let t = provided-is (isPair x) (is x) p h in
+    let e : is x ≡ is p = t .1 in
+    (t .0, (cc))
+
+pub checked-refused : (x : Pair) → (isPair x ≡ false) ↔ (checked x ≡ refused 53)
+unfolding checked
+checked-refused x = (
+  λ h. sym (refused-as (isPair x) (is x) (sym h)),
+  λ h. by-cases (isPair x) (λ t. never (sym h ∙ provided-true (is x) t)) (λ t. t),
+)
 
 -- 0 and 1 are pairs, and hold 0 and 1.
 pub zero-pair : (isPair zeroPair ≡ true) × Holds zeroPair (record { num = 0; den = 1 })

@@ -4,9 +4,9 @@ use mathlib.Core.Path.{_≡_, refl, sym, _∙_, ap, ap₂, subst}
 use mathlib.Core.Bool.{Bool, true, false, _&&_, not, true≢false}
 use mathlib.Core.Logic.{_⊎_, inl, inr, ⊎-elim}
 use Prim.Native.Nat.{ℕ, zero, suc, _+_, _-_, _*_, _^_, _≤_, _<_}
-use native.Mathlib.Nat.{eq-zero-or-pos, mul-le-mul-right, le-of-mul-le-mul-right, lt-of-mul-lt-mul-right, mul-lt-mul-of-pos-right, add-zero, add-suc, le-trans, mul-pos}
+use native.Mathlib.Nat.{eq-zero-or-pos, mul-le-mul-right, le-of-mul-le-mul-right, lt-of-mul-lt-mul-right, mul-lt-mul-of-pos-right, add-zero, add-suc, mul-pos}
 use native.Mathlib.Omega.{arith}
-use lib.Dec.{ltb, lit<, lit≤}
+use lib.Dec.{ltb}
 use lib.IntN.{ℤ, pos, negsuc, _+ℤ_}
 use lib.Signed.{mag, leZ, ltZ}
 use borrow.Author.Tests.{ltb-true, ltb-false, lt-ltb, le-ltb, leb-true}
@@ -17,17 +17,17 @@ use Rattle.pair.specs.Number.{isNumber, isPair, inReach, value, place, d
 use Rattle.pair.specs.Fraction.{Fraction, _≤ᶠ_, times, over}
 use Rattle.pair.specs.Rounding.{divided, carried, rounded, sumEnd, lifted}
 use Rattle.pair.specs.Calls.{Outcome, is, refused, after, sum, entry, zeroPair, absorbs, raised, ends}
-use Rattle.pair.specs.Promises.{sums, products, quotients, call, exactResult, lowEnd, highEnd, withLow, withHigh, Beside, Sized, scaled}
+use Rattle.pair.specs.Promises.{sums, products, quotients, call, exactResult, highEnd, withHigh, Sized, scaled}
 use Rattle.pair.proofs.Exponents.{by-cases, mag-plus, place-plus, leZ-place, leZ-of}
 use Rattle.pair.proofs.Powers.{ten-above, ten-add, ten-rises, ten-falls}
 use Rattle.pair.proofs.Dividing.{divided-from}
-use Rattle.pair.proofs.Numbers.{Nine, both, number-nine, number-zero, number-reach}
-use Rattle.pair.proofs.Alignment.{Small, nine-small, place-next, order-above}
+use Rattle.pair.proofs.Numbers.{Nine, both, number-nine, number-zero, number-reach, none-is-zero}
+use Rattle.pair.proofs.Alignment.{nine-small, place-next, order-above}
 use Rattle.pair.proofs.Sums.{sum-rounded, sum-zero-right, nine-kept}
 use Rattle.pair.proofs.Fractions.{_<ᶠ_, Along, exactly-rises, exactly-proper}
 use Rattle.pair.proofs.Ordered.{number, number-from, power-rise, reach-from, at-most, both-from, zero-number}
 use Rattle.pair.proofs.ExactEnds.{place-size, place-whole}
-use Rattle.pair.proofs.Promises.{operands, pair-again, rounds, ends-proper, Usable, through, value-proper, stays-below, scaled-proper, entry-answered, entry-exact, entry-around}
+use Rattle.pair.proofs.Promises.{pair-again, rounds, ends-proper, Usable, through, value-proper, stays-below, scaled-proper, entry-answered, entry-exact, entry-around, pair-none-is}
 use Rattle.pair.proofs.Providing.{first-fails, second-fails, refused-as}
 use Rattle.pair.proofs.Answers.{Ordered, ordered, pair-from, provided-true, ends-from}
 
@@ -459,13 +459,6 @@ sized-room w k n s l = ⊎-elim none (λ p. sized-exponent w k n p s l .1) (eq-z
     none : w .significand ≡ 0 → place (w .exponent) ≤ depth + 99990
     none z = unfold N.zero place in rw (number-zero w n z) (omega arith)
 
--- A pair whose high end is 0 is 0.
+-- A pair whose high end has no figures is 0.
 pub pair-none : (p : Pair) → isPair p ≡ true → p .high .significand ≡ 0 → p ≡ zeroPair
-unfolding zeroPair
-pair-none p h z =
-    let o : Ordered p = ordered p h in
-    let low : p .low .significand ≡ 0 = ⊎-elim (λ e. e) (λ s. absurd (omega (arith, low-none o, mul-pos s (ten-above (place (p .low .exponent)))))) (eq-zero-or-pos (p .low .significand)) in
-    ap₂ (λ (a b : Number). record { low = a; high = b }) (number-zero (p .low) (o .low) low) (number-zero (p .high) (o .high) z)
-  where
-    low-none : Ordered p → p .low .significand * 10 ^ place (p .low .exponent) ≤ 0
-    low-none o = unfold value in le-of-mul-le-mul-right {k = 10 ^ depth} (le-trans (o .rising .across) (omega (arith, ap (λ (m : ℕ). m * 10 ^ place (p .high .exponent) * 10 ^ depth) z))) (ten-above depth)
+pair-none p h z = pair-none-is p h (none-is-zero (p .high) (ordered p h .high) z)

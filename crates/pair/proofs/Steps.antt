@@ -11,19 +11,19 @@ use Rattle.pair.specs.declared.Pair.{Pair}
 use Rattle.pair.specs.declared.Step.{Step}
 use Rattle.pair.specs.declared.Step.the-variants.{Times, Over}
 use Rattle.pair.specs.Number.{isZero, isNumber, isPair}
-use Rattle.pair.specs.Rounding.{productEnd, quotientEnd}
+use Rattle.pair.specs.Rounding.{productEnd}
 use Rattle.pair.specs.Calls.{Outcome, is, refused, provided, ends, product, quotient, stepped, after}
 use Rattle.pair.specs.Inner.{divides, isOperand, lowBy, highBy, bothInReach}
 use Rattle.pair.specs.Promises.{Operation, products, quotients, call}
 use Rattle.pair.proofs.Answers.{pair}
-use Rattle.pair.proofs.Numbers.{both, pair-low, zero-is, not-zero-is}
+use Rattle.pair.proofs.Numbers.{both, pair-low, none-is-zero, some-is-not-zero}
 use Rattle.pair.proofs.Promises.{pair-again}
 use Rattle.pair.proofs.Providing.{first-fails, second-fails, first-holds, refused-as, told-as}
 
 -- 0 told by the significand
 pub zero-test : (w : Number) → isNumber w ≡ true → eqb (w .significand) 0 ≡ isZero w
 zero-test w h =
-    ⊎-elim (λ z. eq-eqb (w .significand) 0 z ∙ sym (zero-is w h z)) (λ l. ne-eqb (w .significand) 0 (ne-of-gt l) ∙ sym (not-zero-is w l)) (eq-zero-or-pos (w .significand))
+    ⊎-elim (λ z. eq-eqb (w .significand) 0 z ∙ sym (none-is-zero w h z)) (λ l. ne-eqb (w .significand) 0 (ne-of-gt l) ∙ sym (some-is-not-zero w l)) (eq-zero-or-pos (w .significand))
 
 -- ---- an operand
 pub operand-pair : (s : Step) (q : Pair) → isOperand s q ≡ true → isPair q ≡ true
@@ -34,7 +34,7 @@ pub divisor-above : (s : Step) (q : Pair) → s ≡ Over → isOperand s q ≡ t
 unfolding isOperand divides
 divisor-above s q over k =
     let b = both (isPair q) (not (isZero (q .low))) (rw over at k) in
-    ⊎-elim (λ z. absurd (true≢false (sym (b .1) ∙ ap not (zero-is (q .low) (pair-low q (b .0)) z)))) (λ l. l) (eq-zero-or-pos (q .low .significand))
+    ⊎-elim (λ z. absurd (true≢false (sym (b .1) ∙ ap not (none-is-zero (q .low) (pair-low q (b .0)) z)))) (λ l. l) (eq-zero-or-pos (q .low .significand))
 
 -- ---- a step
 operation : Step → Operation

@@ -7,10 +7,10 @@ use native.Mathlib.Nat.{eq-zero-or-pos}
 use Rattle.pair.specs.declared.Pair.{Pair}
 use Rattle.pair.specs.Number.{inReach, isZero, isPair}
 use Rattle.pair.specs.Rounding.{productEnd, quotientEnd}
-use Rattle.pair.specs.Calls.{Outcome, is, refused, provided, ends, product, quotient, after}
+use Rattle.pair.specs.Calls.{is, refused, provided, ends, product, quotient, after}
 use Rattle.pair.proofs.Alignment.{order-zero-right}
 use Rattle.pair.proofs.Answers.{pair}
-use Rattle.pair.proofs.Numbers.{pair-low, pair-order, zero-is, not-zero-is}
+use Rattle.pair.proofs.Numbers.{pair-low, pair-order, none-is-zero, some-is-not-zero}
 use Rattle.pair.proofs.Providing.{first-fails, second-fails, first-holds, refused-as, told-as}
 
 module _ (p q : Pair) where
@@ -41,7 +41,7 @@ module _ (p q : Pair) where
   quotient-by-zero k z =
       refused-as (isPair p && (isPair q && not (isZero (q .low)))) (ends (quotientEnd false (p .low) (q .high)) (quotientEnd true (p .high) (q .low)))
       (second-fails (isPair p) (isPair q && not (isZero (q .low)))
-      (sym (second-fails (isPair q) (not (isZero (q .low))) (ap not (zero-is (q .low) (pair-low q k) z)))))
+      (sym (second-fails (isPair q) (not (isZero (q .low))) (ap not (none-is-zero (q .low) (pair-low q k) z)))))
 
   pub quotient-worked : isPair p ≡ true → isPair q ≡ true → 0 < q .low .significand →
       ends (quotientEnd false (p .low) (q .high)) (quotientEnd true (p .high) (q .low)) ≡ quotient p q
@@ -49,7 +49,7 @@ module _ (p q : Pair) where
   quotient-worked h k l =
       told-as (isPair p && (isPair q && not (isZero (q .low)))) (ends (quotientEnd false (p .low) (q .high)) (quotientEnd true (p .high) (q .low)))
       (first-holds (isPair p) (isPair q && not (isZero (q .low))) true h
-      (first-holds (isPair q) (not (isZero (q .low))) true k (sym (ap not (not-zero-is (q .low) l)))))
+      (first-holds (isPair q) (not (isZero (q .low))) true k (sym (ap not (some-is-not-zero (q .low) l)))))
 
 -- a low end above 0 has a high end above 0
 pub high-above : (q : Pair) → isPair q ≡ true → 0 < q .low .significand → 0 < q .high .significand

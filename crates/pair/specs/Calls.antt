@@ -67,6 +67,10 @@ mostPrinted = 999999999999
 unfoldable pub entry : ℕ → ℤ → Outcome Pair
 entry m e = provided (leb m mostPrinted && inReach e) (ends (rounded false m 1 e) (rounded true m 1 e))
 
+-- m × 10^e, of at most nine digits, as a working number: a constant is named by it, and not by its nine figures
+unfoldable pub written : ℕ → ℤ → Number
+written m e = rounded false m 1 e
+
 -- (high × 10^18 + low) × 10^e, two words of nineteen and eighteen digits: the working numbers next to it
 unfoldable pub longEntry : ℕ → ℕ → ℤ → Outcome Pair
 longEntry high low e =

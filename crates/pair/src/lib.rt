@@ -16,6 +16,7 @@ use crate::ends::rest;
 use crate::ends::sum;
 use crate::ends::units;
 use crate::exponent::in_reach;
+use crate::exponent::is_zero;
 use crate::exponent::less;
 use crate::exponent::plus;
 use crate::exponent::within;
@@ -24,7 +25,7 @@ use crate::rounding::long;
 use crate::rounding::normal;
 ghost use mathlib.Core.Path.{_≡_};
 ghost use mathlib.Core.Bool.{true};
-ghost use Rattle.pair.specs.Number.{isNumber, isPair};
+ghost use Rattle.pair.specs.Number.{isZero, isNumber, isPair};
 ghost use Rattle.pair.specs.Calls as calls;
 ghost use Rattle.pair.specs.Inner.{isOperand, lowBy, highBy, bothInReach};
 
@@ -251,6 +252,15 @@ impl Number {
         }
         Order::Above
     }
+
+    pub fn is_zero(self) -> bool
+        ensures { λ r. ⌜ r ≡ isZero self ⌝ }
+    {
+        if self.significand != 0 {
+            return false;
+        }
+        is_zero(self.exponent)
+    }
 }
 
 impl Pair {
@@ -332,6 +342,13 @@ impl Pair {
             rest(false, significand, exponent),
             rest(true, significand, exponent),
         )
+    }
+
+    // The pair of two numbers, if they make one.
+    pub fn of_ends(low: Number, high: Number) -> Answer
+        ensures { λ r. ⌜ calls.answer r ≡ calls.checked (record { low = low; high = high }) ⌝ }
+    {
+        Pair { low, high }.checked()
     }
 
     // The pair itself, if it is one.

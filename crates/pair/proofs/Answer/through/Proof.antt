@@ -3,7 +3,7 @@ use mathlib.Core.Path.{_≡_, refl}
 use mathlib.Core.Bool.{true}
 use borrow.Author.Needs.{needs}
 use Rattle.pair.specs.Number.{isPair}
-use Rattle.pair.specs.Calls.{answer, after, stepped}
+use Rattle.pair.specs.Calls.{answer, after}
 use Rattle.pair.specs.Inner.{isOperand}
 use Rattle.pair.proofs.Answers.{pair}
 use Rattle.pair.proofs.Numbers.{pair-low, pair-high}

@@ -2,7 +2,7 @@
 use mathlib.Core.Path.{refl}
 use borrow.Author.Needs.{needs}
 use Rattle.pair.specs.declared.Step.the-variants.{Times, Over}
-use Rattle.pair.specs.Calls.{answer, product, stepped, after}
+use Rattle.pair.specs.Calls.{answer, stepped, after}
 use Rattle.pair.proofs.Providing.{failed, passed}
 use Rattle.pair.proofs.Steps.{not-pair, refused-on}
 use Rattle.pair.proofs.Worked.{refused-after}
