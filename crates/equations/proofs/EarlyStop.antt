@@ -1,12 +1,12 @@
 -- A series on pairs, stopped early: where the sum so far absorbs a term and x is so small that a step shrinks what it is given, every later term
 -- leaves the low end and raises the high end by one unit, and so does the last term once more. Assumes nothing.
 use mathlib.Core.Path.{_≡_, refl, sym, _∙_, ap, ap₂, subst}
-use mathlib.Core.Bool.{Bool, true, _&&_}
+use mathlib.Core.Bool.{true}
 use Prim.Native.Nat.{ℕ, zero, suc, _+_, _-_, _*_, _^_, _≤_, _<_}
 use native.Mathlib.Nat.{add-zero, add-suc, mul-le-mul, mul-le-mul-right, le-of-mul-le-mul-right, lt-of-mul-lt-mul-right, mul-pos, one-le-pow, max-eq-left, le-refl, le-dest}
 use native.Mathlib.Omega.{arith}
-use lib.Dec.{leb, lit<, lit≤}
-use lib.IntN.{ℤ, pos, negsuc, _+ℤ_}
+use lib.Dec.{lit<, lit≤}
+use lib.IntN.{ℤ, pos, negsuc}
 use lib.Signed.{mag}
 use borrow.Author.Tests.{le-leb}
 use Rattle.pair.specs.declared.Number.{Number}
@@ -18,11 +18,11 @@ use Rattle.pair.specs.Calls.{Outcome, is, refused, after, afterOne, absorbs, ra
 use Rattle.pair.specs.Promises.{Operation, sums, products, quotients, call, exactResult, highEnd, withHigh, Beside, scaled}
 use Rattle.pair.proofs.Promises.{Within, Usable, joint, sized-on, value-proper, through, scaled-proper, ordered, answered-within, pair-again, rounds, entry-exact, entry-above}
 use Rattle.pair.proofs.Partials.{Plain, plain-entry, plain-after}
-use Rattle.pair.proofs.Settling.{Under, Settled, lifts, settled-sum, settled-total, under-from-zero, absorbed, raised-is, times-under, over-under, number-above, significand-above, below-through, sized-exponent, sized-room}
+use Rattle.pair.proofs.Settling.{Under, Absorbed, absorbed, settled-sum, settled-total, under-from-zero, times-under, over-under, below-through}
 use Rattle.pair.proofs.Profiles.{Good, ofNumber, good-number}
 use Rattle.equations.specs.Formula.{pairs, fractions}
 use Rattle.equations.specs.Series.{Series, phi, psi, first, step, terms, fromZero, pairSeries}
-use Rattle.equations.proofs.Tail.{place-zero, up, down, up-above, down-above, step-is, step-proper}
+use Rattle.equations.proofs.Tail.{place-zero, up, down, down-above, step-is, step-proper}
 use Rattle.equations.proofs.SeriesTerms.{From, from, low-itself, low-step}
 
 -- a result that is a pair of this size
@@ -235,8 +235,8 @@ module _ (s : Series) (x : Pair) (pair : isPair x ≡ true) (within : Within 300
         let shrunk : value (u .low) ≤ᶠ value (t .low) =
         through (step-proper s i (value-proper (x .low)) (value-proper (t .low))) low (step-shrinks s i (value (x .low)) (value (t .low)) (value-proper (x .low)) (x-least i k)) in
         let high = high-step e size s i l (record { high = λ p d. (subst (λ (q : Pair). value (q .high) ≤ᶠ scaled (reach s i) (pos 0)) (same refl d) (through (scaled-proper c (pos 0)) most (scaled-on (pos 0) k)), subst (λ (q : Pair). 0 < value (q .high) .num) (same refl d) above) })
-        (record { high = λ p d. subst (λ (q : Pair). (value (q .high) ≤ᶠ scaled 1 e) × (0 < value (q .high) .num)) (same h d) (b .high, number-above (t .high) (b .above)) }) .high u h' in
-        record { pair = p; low = below-through (u .low) (t .low) shrunk (b .low); high = high .0; above = significand-above (u .high) (high .1) }
+        (record { high = λ p d. subst (λ (q : Pair). (value (q .high) ≤ᶠ scaled 1 e) × (0 < value (q .high) .num)) (same h d) (b .high, b .above) }) .high u h' in
+        record { pair = p; low = below-through (u .low) (t .low) shrunk (b .low); high = high .0; above = high .1 }
 
     term-under : (k : ℕ) → n + k ≤ 255 → (t : Pair) → term n ≡ is t → Under e t → (u : Pair) × (term (n + k) ≡ is u) × Under e u
     term-under zero l t h u = (t, ap term (add-zero n) ∙ h, u)
@@ -246,7 +246,7 @@ module _ (s : Series) (x : Pair) (pair : isPair x ≡ true) (within : Within 300
         (w .answer, ap term (add-suc n k) ∙ w .told, step-under (n + k) (omega arith) (reach-on s n k c least) (i .0) (w .answer) (i .1) (w .told) (w .pair) (i .2))
 
   -- The series is the sum so far, raised by one unit for each term left and for the last once more.
-  pub series-stopped : (n c : ℕ) (T t d : Pair) → n ≤ 255 → c ≤ reach s n → 0 < x .high .significand → term n ≡ is t → total n ≡ is T → absorbs T t ≡ true →
+  pub series-stopped : (n c : ℕ) (T t d : Pair) → n ≤ 255 → c ≤ reach s n → 0 < value (x .high) .num → term n ≡ is t → total n ≡ is T → absorbs T t ≡ true →
       entry c (pos 0) ≡ is d → value (x .high) ≤ᶠ value (d .low) → pairSeries s (is x) ≡ raised (256 - n) T
   unfolding pairSeries after afterOne fromZero call
   series-stopped n c T t d l less above h k a i most =
@@ -255,19 +255,16 @@ module _ (s : Series) (x : Pair) (pair : isPair x ≡ true) (within : Within 300
       let w : Told (10 + 330 * n) (term n) = term-told n l in
       let v : Told (10 + 331 * n) (total n) = total-told n l in
       let size-t : Within (10 + 330 * n) t = subst (Within (10 + 330 * n)) (same (w .told) h) (w .within) in
-      let pair-t : isPair t ≡ true = subst (λ (p : Pair). isPair p ≡ true) (same (w .told) h) (w .pair) in
       let size-T : Within (10 + 331 * n) T = subst (Within (10 + 331 * n)) (same (v .told) k) (v .within) in
-      let pair-T : isPair T ≡ true = subst (λ (p : Pair). isPair p ≡ true) (same (v .told) k) (v .pair) in
-      let b = absorbed T t a (sized-room (T .high) (10 + 331 * n) (ordered T pair-T .high) (size-T .high) (omega arith)) in
-      let z = sized-exponent (t .high) (10 + 330 * n) (ordered t pair-t .high) (b .1 .above) (size-t .high) (omega arith) in
+      let b : Absorbed T t = absorbed (10 + 331 * n) (10 + 330 * n) T t a size-T size-t (omega arith) (omega arith) in
       let x-most : value (x .high) ≤ᶠ scaled c (pos 0) = through (value-proper (d .low)) most (entry-exact c (pos 0) d (reach-few s n c l less) i .1 .low) in
-      let under : (j : ℕ) → n + j ≤ 255 → (u : Pair) × (term (n + j) ≡ is u) × Under (t .high .exponent +ℤ pos 9) u =
-      λ j g. term-under n c (t .high .exponent +ℤ pos 9) (z .0) x-most (number-above (x .high) above) less j g t h (b .1) in
-      let r = settled-total (t .high .exponent +ℤ pos 9) T (b .0) term total n k (λ j. adds (n + j)) m (omega arith) (λ j g. let u = under (suc j) (omega arith) in (u .0, ap term (sym (add-suc n j)) ∙ u .1, u .2)) in
+      let under : (j : ℕ) → n + j ≤ 255 → (u : Pair) × (term (n + j) ≡ is u) × Under (b .bound) u =
+      λ j g. term-under n c (b .bound) (b .size) x-most above less j g t h (b .under) in
+      let r : total (n + m) ≡ raised m T =
+      settled-total (b .bound) T (b .settled) term total n k (λ j. adds (n + j)) m (omega arith) (λ j g. let u = under (suc j) (omega arith) in (u .0, ap term (sym (add-suc n j)) ∙ u .1, u .2)) in
       let last = under m (omega arith) in
-      ap₂ (λ (o u : Outcome Pair). after sum o (afterOne fromZero u)) (ap total (sym e) ∙ r .0) (ap term (sym e) ∙ last .1)
-      ∙ settled-sum (t .high .exponent +ℤ pos 9) T (b .0) m (record { low = numbers.zero; high = last .0 .high }) (omega arith) (r .1) (under-from-zero (last .2))
-      ∙ sym (raised-is (t .high .exponent +ℤ pos 9) T (b .0) (suc m) (omega arith))
+      ap₂ (λ (o u : Outcome Pair). after sum o (afterOne fromZero u)) (ap total (sym e) ∙ r) (ap term (sym e) ∙ last .1)
+      ∙ settled-sum (b .bound) T (b .settled) m (record { low = numbers.zero; high = last .0 .high }) (omega arith) (under-from-zero (last .2))
       ∙ ap (λ (j : ℕ). raised j T) (omega arith)
     where
       adds : (j : ℕ) → total (suc j) ≡ after sum (total j) (term (suc j))

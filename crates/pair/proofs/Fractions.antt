@@ -58,6 +58,10 @@ minus-equal {x} {x'} {y} {y'} h k =
 pub below-itself : (x : Fraction) → x ≤ᶠ x
 below-itself x = record { across = le-refl (x .num * x .den) }
 
+-- x = y gives x ≤ y
+pub equal-below : {x y : Fraction} → x =ᶠ y → x ≤ᶠ y
+equal-below h = record { across = omega (arith, h .across) }
+
 -- x ≤ y and y ≤ z give x ≤ z
 pub through : {x y z : Fraction} → Proper y → x ≤ᶠ y → y ≤ᶠ z → x ≤ᶠ z
 through {x} {y} {z} p h k =

@@ -23,6 +23,8 @@ pub mod Promises
 mod Worked
 mod Steps
 pub mod Partials
+mod Raising
+pub mod ChainPromises
 pub mod Settling
 pub mod Widths
 pub mod Profiles

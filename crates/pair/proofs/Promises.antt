@@ -26,7 +26,7 @@ use Rattle.pair.proofs.Alignment.{order-level}
 use Rattle.pair.proofs.Powers.{ten-above, ten-reflects}
 use Rattle.pair.proofs.Dividing.{down-least, down-most, up-least, up-most}
 use Rattle.pair.proofs.Fractions.{rest-falls-exactly}
-pub use Rattle.pair.proofs.Fractions.{_<ᶠ_, _=ᶠ_, equal-itself, equal-turned, equal-through, plus-equal, minus-equal, below-itself, through, exactly-rises, exactly-proper}
+pub use Rattle.pair.proofs.Fractions.{_<ᶠ_, _=ᶠ_, equal-itself, equal-turned, equal-through, equal-below, plus-equal, minus-equal, below-itself, through, exactly-rises, exactly-proper}
 unfoldable pub use Rattle.pair.proofs.Fractions.{Usable, Along}
 use Rattle.pair.proofs.Numbers.{both, reach-mag, number-reach}
 pub use Rattle.pair.proofs.Numbers.{zero-is}
@@ -339,10 +339,10 @@ grown-proper p = record { above-zero = mul-pos (p .above-zero) (lit< tt) }
 -- A pair around x is the pair around every fraction equal to x.
 module _ {x y : Fraction} (m : Proper x) (n : Proper y) (s : x =ᶠ y) where
   below-equal : x ≤ᶠ y
-  below-equal = record { across = omega (arith, s .across) }
+  below-equal = equal-below s
 
   above-equal : y ≤ᶠ x
-  above-equal = record { across = omega (arith, s .across) }
+  above-equal = equal-below (equal-turned s)
 
   none-equal : y .num ≡ 0 → x .num ≡ 0
   none-equal z = le-antisymm (le-of-mul-le-mul-right {m = x .num} {n = 0} (omega (arith, s .across, ap (λ (k : ℕ). k * x .den) z)) (n .above-zero)) (omega arith)

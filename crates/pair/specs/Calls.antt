@@ -144,6 +144,16 @@ unfoldable pub afterOne : (Pair → Outcome Pair) → Outcome Pair → Outcome P
 afterOne f (is p) = f p
 afterOne f (refused n) = refused n
 
+-- u × q / v, u + p × q, and three steps one after the other
+abbrev pub timesOver : Outcome Pair → Pair → Outcome Pair → Outcome Pair
+timesOver u q v = after quotient (after product u (is q)) v
+
+abbrev pub plusProduct : Outcome Pair → Pair → Pair → Outcome Pair
+plusProduct u p q = after sum u (after product (is p) (is q))
+
+abbrev pub through : Outcome Pair → Step → Pair → Step → Pair → Step → Pair → Outcome Pair
+through u first a second b third c = after (stepped third) (after (stepped second) (after (stepped first) u (is a)) (is b)) (is c)
+
 -- a quantity made of a result: a refusal is carried along
 unfoldable pub mapped : {A B : Type 0} → (A → B) → Outcome A → Outcome B
 mapped f (is x) = is (f x)

@@ -6,11 +6,13 @@ use Prim.Native.Nat.{ℕ, _+_, _*_, _^_, _≤_, max}
 use lib.IntN.{ℤ}
 use Rattle.pair.specs.declared.Number.{Number}
 use Rattle.pair.specs.declared.Pair.{Pair}
+use Rattle.pair.specs.declared.Step.{Step}
+use Rattle.pair.specs.declared.Step.the-variants as Steps
 use Rattle.pair.specs.Fraction as exact
 use Rattle.pair.specs.Fraction.{Fraction, Proper, _≤ᶠ_}
 use Rattle.pair.specs.Number.{isNumber, value, place, depth, zero}
 use Rattle.pair.specs.Calls as calls
-use Rattle.pair.specs.Calls.{Outcome}
+use Rattle.pair.specs.Calls.{Outcome, is}
 
 -- p holds x: the exact fraction lies between the ends
 pub record Holds (p : Pair) (x : Fraction) : Type 0 where
@@ -57,6 +59,14 @@ pub record _≤ₑ_ (p q : Pair) : Type 0 where
   pub low : value (p .low) ≤ᶠ value (q .low)
   pub high : value (p .high) ≤ᶠ value (q .high)
 
+-- The same of what calls told, wherever they are answered: it holds x, and each end of one is at most the same end of the other
+abbrev pub Held : Outcome Pair → Fraction → Type 0
+Held u x = (p : Pair) → u ≡ is p → Holds p x
+
+infix 30 _≤ₒ_
+abbrev pub _≤ₒ_ : Outcome Pair → Outcome Pair → Type 0
+u ≤ₒ v = (p q : Pair) → u ≡ is p → v ≡ is q → _≤ₑ_ p q
+
 -- The three operations on two pairs, so that each promise is stated once
 pub data Operation : Type 0 where
   sums products quotients : Operation
@@ -72,6 +82,14 @@ unfoldable pub exactResult : Operation → Fraction → Fraction → Fraction
 exactResult sums x y = exact.plus x y
 exactResult products x y = exact.times x y
 exactResult quotients x y = exact.over x y
+
+-- a step of a chain is one of them
+unfoldable pub operationOf : Step → Operation
+operationOf Steps.Times = products
+operationOf Steps.Over = quotients
+
+unfoldable pub exactStep : Step → Fraction → Fraction → Fraction
+exactStep s x y = exactResult (operationOf s) x y
 
 -- the end of the second operand that the low and the high end of the result take: a quotient's takes the other
 unfoldable pub withLow : Operation → Pair → Number
@@ -94,6 +112,10 @@ highEnd o p q = exactResult o (value (p .high)) (value (withHigh o q))
 -- m × 10^e as a fraction
 unfoldable pub scaled : ℕ → ℤ → Fraction
 scaled m e = record { num = m * 10 ^ place e; den = 10 ^ depth }
+
+-- n units of a number's last figure
+unfoldable pub unitsOf : ℕ → Number → Fraction
+unitsOf n w = scaled n (w .exponent)
 
 -- How wide: x is at most y with w parts in 10^8 more, one upon the other. A pair is w wide where its high end lies so near its low end.
 pub record Near (w : ℕ) (x y : Fraction) : Type 0 where

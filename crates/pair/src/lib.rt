@@ -561,7 +561,7 @@ impl Answer {
 
     // self × factor / divisor, as times and over one after the other.
     pub fn times_over(self, factor: Pair, divisor: Answer) -> Answer
-        ensures { λ r. ⌜ calls.answer r ≡ calls.after calls.quotient (calls.after calls.product (calls.answer self) (calls.is factor)) (calls.answer divisor) ⌝ }
+        ensures { λ r. ⌜ calls.answer r ≡ calls.timesOver (calls.answer self) factor (calls.answer divisor) ⌝ }
     {
         let Answer::Is(p) = self else {
             return Answer::Refused;
@@ -585,7 +585,7 @@ impl Answer {
         third: Step,
         c: Pair,
     ) -> Answer
-        ensures { λ r. ⌜ calls.answer r ≡ calls.after (calls.stepped third) (calls.after (calls.stepped second) (calls.after (calls.stepped first) (calls.answer self) (calls.is a)) (calls.is b)) (calls.is c) ⌝ }
+        ensures { λ r. ⌜ calls.answer r ≡ calls.through (calls.answer self) first a second b third c ⌝ }
     {
         let Answer::Is(p) = self else {
             return Answer::Refused;
@@ -606,7 +606,7 @@ impl Answer {
 
     // self + a × b, as a product and plus one after the other: a term of a weighted sum.
     pub fn plus_product(self, a: Pair, b: Pair) -> Answer
-        ensures { λ r. ⌜ calls.answer r ≡ calls.after calls.sum (calls.answer self) (calls.after calls.product (calls.is a) (calls.is b)) ⌝ }
+        ensures { λ r. ⌜ calls.answer r ≡ calls.plusProduct (calls.answer self) a b ⌝ }
     {
         let Answer::Is(p) = self else {
             return Answer::Refused;

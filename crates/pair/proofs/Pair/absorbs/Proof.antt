@@ -7,7 +7,7 @@ use borrow.Author.Needs.{needs}
 use Rattle.pair.specs.Number.{isPair}
 use Rattle.pair.proofs.Numbers.{pair-low, pair-high, fits-plus, back, number-back, number-mag}
 use Rattle.pair.proofs.Providing.{failed, passed}
-use Rattle.pair.proofs.Settling.{absorbs-first, absorbs-second, absorbs-low, absorbs-high, absorbs-far}
+use Rattle.pair.proofs.Raising.{absorbs-first, absorbs-second, absorbs-low, absorbs-high, absorbs-far}
 use Rattle.pair.proofs.Pair.absorbs.Statement.{statement}
 use Rattle.pair.proofs.Pair.absorbs.Tie as tie
 

@@ -7,7 +7,7 @@ use Rattle.pair.specs.Number.{isPair}
 use Rattle.pair.specs.Calls.{answer, ends}
 use Rattle.pair.proofs.Numbers.{pair-high}
 use Rattle.pair.proofs.Providing.{failed, passed}
-use Rattle.pair.proofs.Settling.{raised-none, raised-zero, raised-worked}
+use Rattle.pair.proofs.Raising.{raised-none, raised-zero, raised-worked}
 use Rattle.pair.proofs.Pair.raised.Statement.{statement}
 use Rattle.pair.proofs.Pair.raised.Tie as tie
 
