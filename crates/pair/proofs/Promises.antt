@@ -738,6 +738,19 @@ units-hold p u n x h a =
     let c : Counted p u n = units-right p u n h in
     (through (value-proper (p .low)) (c .low-least) (a .low), through (value-proper (p .high)) (a .high) (c .high-least))
 
+-- The counts rise with the pair.
+pub units-rise : (p q : Pair) (u : ℤ) (m n : Units) → inUnits p u ≡ is m → inUnits q u ≡ is n → _≤ₑ_ p q → (m .low ≤ n .low) × (m .high ≤ n .high)
+unfolding value scaled plus
+units-rise p q u m n h k a =
+    let c : Counted p u m = units-right p u m h in
+    let d : Counted q u n = units-right q u n k in
+    let low : m .low < n .low + 1 =
+    lt-of-mul-lt-mul-right (10 ^ place u * 10 ^ depth) (omega (arith, c .low-least .across, a .low .across, d .low-most .across)) in
+    let high : m .high < n .high + 1 =
+    lt-of-mul-lt-mul-right (10 ^ place u * (10 ^ depth * 10 ^ depth))
+    (omega (arith, c .high-most .across, mul-le-mul-right (10 ^ depth) (a .high .across), mul-le-mul-right (10 ^ depth) (d .high-least .across))) in
+    (omega arith, omega arith)
+
 below-next : (up : Bool) (n d : ℕ) → 0 < d → divided up n d * d < n + d
 below-next false n d p = omega (arith, down-least n d)
 below-next true n d p = up-most n d p
