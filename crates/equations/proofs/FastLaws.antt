@@ -12,9 +12,9 @@ use Rattle.pair.specs.declared.Number.{Number}
 use Rattle.pair.specs.declared.Pair.{Pair}
 use Rattle.pair.specs.Fraction.{Fraction, Proper, _≤ᶠ_, plus, over, rest}
 use Rattle.pair.specs.Number.{isPair, value, place, depth}
-use Rattle.pair.specs.Calls.{Outcome, is, after, afterOne, oneMinus}
+use Rattle.pair.specs.Calls.{Outcome, is, written, after, afterOne, oneMinus}
 use Rattle.pair.specs.Promises.{sums, quotients, call, exactResult, lowEnd, highEnd, withLow, withHigh, Holds, scaled, Near, spread}
-use Rattle.pair.proofs.Promises.{Within, Usable, joint, value-proper, ordered, answered-within, rounds, ends-proper, pair-again, holds, entry-written, rest-answered, rest-rounds, rest-pair, rest-within, rest-holds}
+use Rattle.pair.proofs.Promises.{Within, Usable, joint, value-proper, ordered, answered-within, rounds, ends-proper, pair-again, holds, written-entry, written-value, rest-answered, rest-rounds, rest-pair, rest-within, rest-holds}
 use Rattle.pair.proofs.Widths.{near-from, near-through, near-above, near-down, near-up, two-more}
 use Rattle.pair.proofs.Profiles.{Profile, ofNumber, positives, usable, joined, Fits, Good, down-is, good-op, good-number, answeredAs}
 use Rattle.equations.specs.Formula.{pairs, fractions}
@@ -29,11 +29,11 @@ use Rattle.equations.proofs.Large.{phi-large}
 -- ---- 1 / φ
 -- 1E-25
 tinyPair : Pair
-tinyPair = record { low = record { significand = 100000000; exponent = negsuc 32 }; high = record { significand = 100000000; exponent = negsuc 32 } }
+tinyPair = record { low = written 1 (negsuc 24); high = written 1 (negsuc 24) }
 
 tiny-good : Good (ofNumber 1 (negsuc 24)) (is tinyPair) (scaled 1 (negsuc 24))
 unfolding ofNumber tinyPair
-tiny-good = subst (λ (o : Outcome Pair). Good (ofNumber 1 (negsuc 24)) o (scaled 1 (negsuc 24))) (entry-written 1 8 (negsuc 24) (lit≤ tt) (lit≤ tt) (lit≤ tt)) (good-number 1 (negsuc 24) refl)
+tiny-good = subst (λ (o : Outcome Pair). Good (ofNumber 1 (negsuc 24)) o (scaled 1 (negsuc 24))) (written-entry 1 (negsuc 24) (lit≤ tt) (lit≤ tt)) (good-number 1 (negsuc 24) refl)
 
 tiny-fits : Fits (ofNumber 1 (negsuc 24)) tinyPair × Holds tinyPair (scaled 1 (negsuc 24))
 tiny-fits =
@@ -51,11 +51,13 @@ next-within = above-zero-within 34 tinyPair (tiny-fits .0 .within)
 
 -- at most half a part in 10^8
 next-small : value (nextToNothing .high) .num * 200000000 ≤ value (nextToNothing .high) .den
-unfolding nextToNothing value
-next-small = rw (← (down-is 32 (lit≤ tt))) (shift (10 ^ place (negsuc 32)) (10 * 10 ^ 32) (lit≤ tt))
+unfolding nextToNothing scaled
+next-small =
+    shift (value (written 1 (negsuc 24)) .num) (value (written 1 (negsuc 24)) .den) (10 ^ place (negsuc 24)) (10 * 10 ^ 24) (one-le-pow (place (negsuc 24)) 10 (lit< tt)) (lit≤ tt)
+    (rw (← (down-is 24 (lit≤ tt))) at (written-value 1 (negsuc 24) (lit≤ tt) (lit≤ tt) .across))
   where
-    shift : (a t : ℕ) → 20000000000000000 ≤ t → 100000000 * a * 200000000 ≤ a * t
-    shift a t h = omega (arith, mul-le-mul-right a h)
+    shift : (n d a t : ℕ) → 0 < a → 200000000 ≤ t → n * (a * t) ≡ 1 * a * d → n * 200000000 ≤ d
+    shift n d a t z h e = le-of-mul-le-mul-right {k = a} (omega (arith, e, mul-le-mul-right (n * a) h)) z
 
 -- For x from 63 up the exact 1 / φ lies between 0 and 1E-25.
 inverse : ℕ → Fraction → Fraction

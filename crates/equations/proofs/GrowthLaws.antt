@@ -12,7 +12,7 @@ use Rattle.pair.specs.Fraction.{Fraction, _≤ᶠ_}
 use Rattle.pair.specs.Number.{isPair, atMost, value, depth}
 use Rattle.pair.specs.Calls.{Outcome, is, refused, compared}
 use Rattle.pair.specs.Promises.{sums, products, quotients, call, exactResult, Near, spread}
-use Rattle.pair.proofs.Promises.{_<ᶠ_, joint, ordered, compared-right, compared-answered, sixty-four-entry}
+use Rattle.pair.proofs.Promises.{_<ᶠ_, joint, ordered, compared-right, compared-answered, written-entry}
 use Rattle.pair.proofs.Profiles.{Profile, ofNumber, positives, usable, joined, Good, answeredAs, good-op, good-more, good-number}
 use Rattle.equations.specs.Formula.{pairs, fractions}
 use Rattle.equations.specs.Series.{Series, phi, psi, first, step, terms, pairSeries, exactSeries}
@@ -53,14 +53,14 @@ slow-from p v = go (atMost (p .high) sixtyFour) (compared-answered (p .high) six
     go true e h = compared-right (p .high) sixtyFour true e .0 refl
     go false e h = slow-or-fast (sym h ∙ ap paceIf e ∙ (unfold paceIf in refl))
 
--- 6.4E+1 is 64.
+-- The limit is 64.
 at-most-64 : (p : Pair) → value (p .high) ≤ᶠ value sixtyFour → value (p .high) ≤ᶠ record { num = 64; den = 1 }
 unfolding sixtyFour
-at-most-64 p h = at-most-whole 64 (record { low = sixtyFour; high = sixtyFour }) (lit≤ tt) sixty-four-entry (p .high) .0 h
+at-most-64 p h = at-most-whole 64 (record { low = sixtyFour; high = sixtyFour }) (lit≤ tt) (written-entry 64 (pos 0) (lit≤ tt) (lit≤ tt)) (p .high) .0 h
 
 from-64 : record { num = 64; den = 1 } ≤ᶠ value sixtyFour
 unfolding sixtyFour
-from-64 = at-least-whole 64 (record { low = sixtyFour; high = sixtyFour }) (lit≤ tt) sixty-four-entry
+from-64 = at-least-whole 64 (record { low = sixtyFour; high = sixtyFour }) (lit≤ tt) (written-entry 64 (pos 0) (lit≤ tt) (lit≤ tt))
 
 -- Above 64 at the high end, and 40 parts wide, is at least 63 at the low end.
 low-least : (p : Pair) → Near 40 (value (p .high)) (value (p .low)) → value sixtyFour <ᶠ value (p .high) → 63 * value (p .low) .den ≤ value (p .low) .num

@@ -6,14 +6,14 @@ use mathlib.Core.Path.{_≡_, subst}
 use mathlib.Core.Bool.{true}
 use native.Mathlib.Omega.{arith}
 use lib.Dec.{lit<, lit≤}
-use lib.IntN.{pos, negsuc}
+use lib.IntN.{pos}
 use Rattle.pair.specs.declared.Number.{Number}
 use Rattle.pair.specs.declared.Pair.{Pair}
 use Rattle.pair.specs.Fraction.{Fraction, Proper, _≤ᶠ_}
 use Rattle.pair.specs.Number.{isNumber, value, place, depth}
 use Rattle.pair.specs.Calls.{is, entry}
 use Rattle.pair.specs.Promises.{scaled}
-use Rattle.pair.proofs.Promises.{through, value-proper, number-written, scaled-proper, entry-exact}
+use Rattle.pair.proofs.Promises.{through, value-proper, written-number, scaled-proper, entry-exact}
 use Rattle.equations.specs.Ranges.{sixtyFour}
 
 -- n as a fraction
@@ -42,4 +42,4 @@ at-least-whole n r few h = through (scaled-proper n (pos 0)) (scaled-whole n .1)
 
 pub sixty-four-number : isNumber sixtyFour ≡ true
 unfolding sixtyFour
-sixty-four-number = number-written 640000000 (negsuc 6) (lit≤ tt) (lit≤ tt) (lit< tt)
+sixty-four-number = written-number 64 (pos 0) (lit≤ tt) (lit≤ tt)

@@ -8,8 +8,8 @@ use lib.IntN.{pos, negsuc}
 use Rattle.pair.specs.declared.Pair.{Pair}
 use Rattle.pair.specs.Number as numbers
 use Rattle.pair.specs.Number.{isNumber, isPair, value}
-use Rattle.pair.specs.Calls.{Outcome, is, after, afterOne, zeroPair, onePair, entry, sum, product, quotient}
-use Rattle.pair.proofs.Promises.{ordered, at-most, compared-answered, zero-pair, one-pair, one-entry, entry-answered, entry-around, entry-above, around-pair, scaled-proper, sum-zero, product-zero, zero-product, zero-quotient, quotient-one, entry-written}
+use Rattle.pair.specs.Calls.{Outcome, is, after, afterOne, zeroPair, onePair, entry, written, sum, product, quotient}
+use Rattle.pair.proofs.Promises.{ordered, at-most, compared-answered, zero-pair, one-pair, one-entry, entry-answered, entry-around, entry-above, around-pair, scaled-proper, sum-zero, product-zero, zero-product, zero-quotient, quotient-one, written-entry}
 use Rattle.equations.specs.Formula.{read, pairs}
 use Rattle.equations.specs.Series.{Series, phi, psi, first, step, terms, fromZero, pairSeries}
 use Rattle.equations.specs.Letters.{g, h}
@@ -60,13 +60,13 @@ next-term psi n p h v t =
 -- the first term, 1 or 1/2
 unfoldable pub firstPair : Series → Pair
 firstPair phi = onePair
-firstPair psi = record { low = record { significand = 500000000; exponent = negsuc 8 }; high = record { significand = 500000000; exponent = negsuc 8 } }
+firstPair psi = record { low = written 5 (negsuc 0); high = written 5 (negsuc 0) }
 
 pub first-is : (s : Series) → (first pairs s ≡ is (firstPair s)) × (isPair (firstPair s) ≡ true)
 unfolding first pairs firstPair
 first-is phi = (one-entry, one-pair .0)
 first-is psi =
-    let e : entry 5 (negsuc 0) ≡ is (firstPair psi) = unfold firstPair in entry-written 5 8 (negsuc 0) (lit≤ tt) (lit≤ tt) (lit≤ tt) in
+    let e : entry 5 (negsuc 0) ≡ is (firstPair psi) = unfold firstPair in written-entry 5 (negsuc 0) (lit≤ tt) (lit≤ tt) in
     (e, around-pair (entry-around 5 (negsuc 0) (firstPair psi) e) (scaled-proper 5 (negsuc 0)))
 
 -- So every term from the second on is 0, and the sum stays the first.

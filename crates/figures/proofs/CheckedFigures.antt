@@ -52,7 +52,7 @@ use Rattle.figures.specs.Figures.{bytes, lines, deckOf, deckWith, deck, 
 -- x = 0
 half-at-zero : (site chemical : Values) (particles : Pair) → ofSlots site chemical x ≡ is zeroPair
     → (pairSeries psi (ofSlots site chemical x) ≡ bothEnds 500000000 500000000 (negsuc 8)) × (ofMedia site chemical particles h ≡ bothEnds 500000000 500000000 (negsuc 8))
-unfolding ofSlots ofMedia mediaInputs asAnswers firstPair bothEnds
+unfolding ofSlots ofMedia mediaInputs asAnswers firstPair bothEnds extra divided excessFrom excess carried rounded calls.written
 half-at-zero site chemical particles e = (ap (pairSeries psi) e ∙ series-at-zero psi, h-at-zero (mediaInputs site chemical particles) e)
 
 at-zero : (site chemical : Values) (particles : Pair) → ofSlots site chemical x ≡ is zeroPair → (pairSeries phi (ofSlots site chemical x) ≡ is onePair) × (ofMedia site chemical particles g ≡ is onePair)
@@ -63,7 +63,7 @@ at-zero site chemical particles e = (ap (pairSeries phi) e ∙ series-at-zero ph
 fast-growth : (growthAt (bothEnds 640000001 640000001 (negsuc 6)) ≡ record { g = bothEnds 156249999 156250000 (negsuc 9); h = bothEnds 153808593 153808594 (negsuc 9) })
     × (growthAt (whole 1000000) .g ≡ is (record { low = record { significand = 999999990; exponent = negsuc 14 }; high = record { significand = 100000000; exponent = negsuc 13 } }))
     × (growthAt (whole 1000000) .h ≡ bothEnds 999999000 999999001 (negsuc 14))
-unfolding growthAt growth page.gWith pairGrowing paceOf paceIf compared sixtyFour nextToNothing bothEnds whole pairs nineFigures inReach zeroExponent isZero isNumber zero one lesser rise unitsAt lower atMost isPair extra divided excessFrom excess carried rounded sumEnd productEnd quotientEnd restEnd provided calls.ends after afterOne entry sum product quotient calls.oneMinus
+unfolding growthAt growth page.gWith pairGrowing paceOf paceIf compared sixtyFour nextToNothing bothEnds whole pairs nineFigures inReach zeroExponent isZero isNumber zero one lesser rise unitsAt lower atMost isPair extra divided excessFrom excess carried rounded calls.written sumEnd productEnd quotientEnd restEnd provided calls.ends after afterOne entry sum product quotient calls.oneMinus
 fast-growth = (refl, refl, refl)
 
 -- 365 × 4.5, and the winter factor as the page writes it
@@ -80,38 +80,38 @@ winter site chemical receptor w =
 
 -- the deck: its report's lines, their text, and that none of the conditions holds
 lines-are : rowsOf (scenarioOf ordinary deck) ≡ rows
-unfolding bytes lines deckOf deckWith deck within leading linesOf lineOf fieldIn fieldOf digitsValue idSpelled idIn signSpelled exponentSpelled powerOf digitsRead endedOf pointedOf spelledOf loneDash wordOf kindOf idOf tabulate valueOf slotSpelled recordOf recordsOf caseWith caseOf table same isIn placeIn ownerOf placeOf valueAt chemicalAt receptorAt orNoPair pairOf restOf valuesOf chemicalIn receptorIn givenIn scenarioWith orNoTime timeGiven depositionOf stayIf laterIf receptorWith entered enteredFrom calls.longEntry years.time years.amount years.isYears years.wordsOf years.timeOf years.none years.least years.places years.printedAmount years.printed years.together years.atMost years.asPair years.beyond ordinary scenarioOf valueIn byOwner inputs pairsAt asAnswers nineFigures inReach zeroExponent isZero isNumber zero one lesser rise unitsAt lower atMost isPair extra divided excessFrom excess carried rounded sumEnd productEnd quotientEnd restEnd provided calls.ends after afterOne zeroPair onePair entry sum product quotient oneMinusEntry pairs read letters noGrowth plainWith plain exponents growthAtBoth stayIn compared paceIf paceOf pacesOf pairGrowing sixtyFour worked series.first series.step terms fromZero pairSeries u kse ksr ksl k x page.x′ page.gWith growth page.gathered page.mean page.soil A D C aboveGround belowGround AT B exposure factor byMedium medium intake byRoute referenceSlot reference figureBy intakeLine byGuidance line guidanceOf guidanceIn pathwayAt isGiven hasReference figureAt chained unitsEnd inUnits unitOf counted countedIn columnsAt _added_ addedOver totalAt rowAt totalRow rowsAt rowsOf row rows numbered kindIn isLine begunWith seenWith seenIn told ofValue otherwise valuesIf lacks isMissing anyOf ruleAt ruleIn
+unfolding bytes lines deckOf deckWith deck within leading linesOf lineOf fieldIn fieldOf digitsValue idSpelled idIn signSpelled exponentSpelled powerOf digitsRead endedOf pointedOf spelledOf loneDash wordOf kindOf idOf tabulate valueOf slotSpelled recordOf recordsOf caseWith caseOf table same isIn placeIn ownerOf placeOf valueAt chemicalAt receptorAt orNoPair pairOf restOf valuesOf chemicalIn receptorIn givenIn scenarioWith orNoTime timeGiven depositionOf stayIf laterIf receptorWith entered enteredFrom calls.longEntry years.time years.amount years.isYears years.wordsOf years.timeOf years.none years.least years.places years.printedAmount years.printed years.together years.atMost years.asPair years.beyond ordinary scenarioOf valueIn byOwner inputs pairsAt asAnswers nineFigures inReach zeroExponent isZero isNumber zero one lesser rise unitsAt lower atMost isPair extra divided excessFrom excess carried rounded calls.written sumEnd productEnd quotientEnd restEnd provided calls.ends after afterOne zeroPair onePair entry sum product quotient oneMinusEntry pairs read letters noGrowth plainWith plain exponents growthAtBoth stayIn compared paceIf paceOf pacesOf pairGrowing sixtyFour worked series.first series.step terms fromZero pairSeries u kse ksr ksl k x page.x′ page.gWith growth page.gathered page.mean page.soil A D C aboveGround belowGround AT B exposure factor byMedium medium intake byRoute referenceSlot reference figureBy intakeLine byGuidance line guidanceOf guidanceIn pathwayAt isGiven hasReference figureAt chained unitsEnd inUnits unitOf counted countedIn columnsAt _added_ addedOver totalAt rowAt totalRow rowsAt rowsOf row rows numbered kindIn isLine begunWith seenWith seenIn told ofValue otherwise valuesIf lacks isMissing anyOf ruleAt ruleIn
 lines-are = refl
 
 -- its soils
 soils-are : (worked (pairsAt (scenarioOf ordinary deck) 0 0) C ≡ bothEnds 150000000 150000000 (negsuc 8))
     × (cancerSoil equalDeck ≡ bothEnds 750000000 750000000 (negsuc 9)) × (cancerSoil longDeck ≡ bothEnds 112500000 112500000 (negsuc 8))
-unfolding bytes lines deckOf deckWith deck equalDeck longDeck cancerSoil bothEnds within leading linesOf lineOf fieldIn fieldOf digitsValue idSpelled idIn signSpelled exponentSpelled powerOf digitsRead endedOf pointedOf spelledOf loneDash wordOf kindOf idOf tabulate valueOf slotSpelled recordOf recordsOf caseWith caseOf table same isIn placeIn ownerOf placeOf valueAt chemicalAt receptorAt orNoPair pairOf restOf valuesOf chemicalIn receptorIn givenIn scenarioWith orNoTime timeGiven depositionOf stayIf laterIf receptorWith entered enteredFrom calls.longEntry years.time years.amount years.isYears years.wordsOf years.timeOf years.none years.least years.places years.printedAmount years.printed years.together years.atMost years.asPair years.beyond ordinary scenarioOf valueIn byOwner inputs pairsAt asAnswers nineFigures inReach zeroExponent isZero isNumber zero one lesser rise unitsAt lower atMost isPair extra divided excessFrom excess carried rounded sumEnd productEnd quotientEnd restEnd provided calls.ends after afterOne zeroPair onePair entry sum product quotient oneMinusEntry pairs read letters noGrowth plainWith plain exponents growthAtBoth stayIn compared paceIf paceOf pacesOf pairGrowing sixtyFour worked series.first series.step terms fromZero pairSeries u kse ksr ksl k x page.x′ page.gWith growth page.gathered page.mean page.soil A D C aboveGround belowGround AT B exposure factor byMedium medium intake byRoute referenceSlot reference figureBy intakeLine byGuidance line guidanceOf guidanceIn pathwayAt isGiven hasReference figureAt chained unitsEnd inUnits unitOf counted countedIn columnsAt _added_ addedOver totalAt rowAt totalRow rowsAt rowsOf row rows numbered kindIn isLine begunWith seenWith seenIn told ofValue otherwise valuesIf lacks isMissing anyOf ruleAt ruleIn
+unfolding bytes lines deckOf deckWith deck equalDeck longDeck cancerSoil bothEnds within leading linesOf lineOf fieldIn fieldOf digitsValue idSpelled idIn signSpelled exponentSpelled powerOf digitsRead endedOf pointedOf spelledOf loneDash wordOf kindOf idOf tabulate valueOf slotSpelled recordOf recordsOf caseWith caseOf table same isIn placeIn ownerOf placeOf valueAt chemicalAt receptorAt orNoPair pairOf restOf valuesOf chemicalIn receptorIn givenIn scenarioWith orNoTime timeGiven depositionOf stayIf laterIf receptorWith entered enteredFrom calls.longEntry years.time years.amount years.isYears years.wordsOf years.timeOf years.none years.least years.places years.printedAmount years.printed years.together years.atMost years.asPair years.beyond ordinary scenarioOf valueIn byOwner inputs pairsAt asAnswers nineFigures inReach zeroExponent isZero isNumber zero one lesser rise unitsAt lower atMost isPair extra divided excessFrom excess carried rounded calls.written sumEnd productEnd quotientEnd restEnd provided calls.ends after afterOne zeroPair onePair entry sum product quotient oneMinusEntry pairs read letters noGrowth plainWith plain exponents growthAtBoth stayIn compared paceIf paceOf pacesOf pairGrowing sixtyFour worked series.first series.step terms fromZero pairSeries u kse ksr ksl k x page.x′ page.gWith growth page.gathered page.mean page.soil A D C aboveGround belowGround AT B exposure factor byMedium medium intake byRoute referenceSlot reference figureBy intakeLine byGuidance line guidanceOf guidanceIn pathwayAt isGiven hasReference figureAt chained unitsEnd inUnits unitOf counted countedIn columnsAt _added_ addedOver totalAt rowAt totalRow rowsAt rowsOf row rows numbered kindIn isLine begunWith seenWith seenIn told ofValue otherwise valuesIf lacks isMissing anyOf ruleAt ruleIn
 soils-are = (refl, refl, refl)
 
 -- a solvent's
 solvent-soils : (worked (pairsAt (scenarioOf ordinary solventDeck) 0 0) C ≡ bothEnds 499999998 500000001 (negsuc 19)) × (cancerSoil solventDeck ≡ bothEnds 249999998 250000004 (negsuc 19))
-unfolding bytes lines deckOf deckWith solventDeck cancerSoil bothEnds within leading linesOf lineOf fieldIn fieldOf digitsValue idSpelled idIn signSpelled exponentSpelled powerOf digitsRead endedOf pointedOf spelledOf loneDash wordOf kindOf idOf tabulate valueOf slotSpelled recordOf recordsOf caseWith caseOf table same isIn placeIn ownerOf placeOf valueAt chemicalAt receptorAt orNoPair pairOf restOf valuesOf chemicalIn receptorIn givenIn scenarioWith orNoTime timeGiven depositionOf stayIf laterIf receptorWith entered enteredFrom calls.longEntry years.time years.amount years.isYears years.wordsOf years.timeOf years.none years.least years.places years.printedAmount years.printed years.together years.atMost years.asPair years.beyond ordinary scenarioOf valueIn byOwner inputs pairsAt asAnswers nineFigures inReach zeroExponent isZero isNumber zero one lesser rise unitsAt lower atMost isPair extra divided excessFrom excess carried rounded sumEnd productEnd quotientEnd restEnd provided calls.ends after afterOne zeroPair onePair entry sum product quotient oneMinusEntry pairs read letters noGrowth plainWith plain exponents growthAtBoth stayIn compared paceIf paceOf pacesOf pairGrowing sixtyFour worked series.first series.step terms fromZero pairSeries u kse ksr ksl k x page.x′ page.gWith growth page.gathered page.mean page.soil A D C aboveGround belowGround AT B exposure factor byMedium medium intake byRoute referenceSlot reference figureBy intakeLine byGuidance line guidanceOf guidanceIn pathwayAt isGiven hasReference figureAt chained unitsEnd inUnits unitOf counted countedIn columnsAt _added_ addedOver totalAt rowAt totalRow rowsAt rowsOf row rows nextToNothing calls.oneMinus numbered kindIn isLine begunWith seenWith seenIn told ofValue otherwise valuesIf lacks isMissing anyOf ruleAt ruleIn
+unfolding bytes lines deckOf deckWith solventDeck cancerSoil bothEnds within leading linesOf lineOf fieldIn fieldOf digitsValue idSpelled idIn signSpelled exponentSpelled powerOf digitsRead endedOf pointedOf spelledOf loneDash wordOf kindOf idOf tabulate valueOf slotSpelled recordOf recordsOf caseWith caseOf table same isIn placeIn ownerOf placeOf valueAt chemicalAt receptorAt orNoPair pairOf restOf valuesOf chemicalIn receptorIn givenIn scenarioWith orNoTime timeGiven depositionOf stayIf laterIf receptorWith entered enteredFrom calls.longEntry years.time years.amount years.isYears years.wordsOf years.timeOf years.none years.least years.places years.printedAmount years.printed years.together years.atMost years.asPair years.beyond ordinary scenarioOf valueIn byOwner inputs pairsAt asAnswers nineFigures inReach zeroExponent isZero isNumber zero one lesser rise unitsAt lower atMost isPair extra divided excessFrom excess carried rounded calls.written sumEnd productEnd quotientEnd restEnd provided calls.ends after afterOne zeroPair onePair entry sum product quotient oneMinusEntry pairs read letters noGrowth plainWith plain exponents growthAtBoth stayIn compared paceIf paceOf pacesOf pairGrowing sixtyFour worked series.first series.step terms fromZero pairSeries u kse ksr ksl k x page.x′ page.gWith growth page.gathered page.mean page.soil A D C aboveGround belowGround AT B exposure factor byMedium medium intake byRoute referenceSlot reference figureBy intakeLine byGuidance line guidanceOf guidanceIn pathwayAt isGiven hasReference figureAt chained unitsEnd inUnits unitOf counted countedIn columnsAt _added_ addedOver totalAt rowAt totalRow rowsAt rowsOf row rows nextToNothing calls.oneMinus numbered kindIn isLine begunWith seenWith seenIn told ofValue otherwise valuesIf lacks isMissing anyOf ruleAt ruleIn
 solvent-soils = (refl, refl)
 
 -- by the guidance of 2009
 air-whole : first (allConditions ordinary airDeck 665) ≡ Passed
-unfolding bytes lines deckOf airDeck within leading linesOf lineOf fieldIn fieldOf digitsValue idSpelled idIn signSpelled exponentSpelled powerOf digitsRead endedOf pointedOf spelledOf loneDash wordOf kindOf idOf tabulate valueOf slotSpelled recordOf recordsOf caseWith caseOf table same isIn placeIn ownerOf placeOf valueAt chemicalAt receptorAt orNoPair pairOf restOf valuesOf chemicalIn receptorIn givenIn scenarioWith orNoTime timeGiven depositionOf stayIf laterIf receptorWith entered enteredFrom calls.longEntry years.time years.amount years.isYears years.wordsOf years.timeOf years.none years.least years.places years.printedAmount years.printed years.together years.atMost years.asPair years.beyond ordinary scenarioOf valueIn byOwner inputs pairsAt asAnswers nineFigures inReach zeroExponent isZero isNumber zero one lesser rise unitsAt lower atMost isPair extra divided excessFrom excess carried rounded sumEnd productEnd quotientEnd restEnd provided calls.ends after afterOne zeroPair onePair entry sum product quotient oneMinusEntry pairs read letters noGrowth plainWith plain exponents growthAtBoth stayIn compared paceIf paceOf pacesOf pairGrowing sixtyFour worked series.first series.step terms fromZero pairSeries u kse ksr ksl k x page.x′ page.gWith growth page.gathered page.mean page.soil A D C aboveGround belowGround AT B exposure factor byMedium medium intake byRoute referenceSlot reference figureBy intakeLine byGuidance line guidanceOf guidanceIn pathwayAt isGiven hasReference figureAt chained ruleIn ruleAt lineRules above below valueAtMost valueAtLeast withinBounds inRange first misspelled misplaced outOfRange fieldConditions fieldAt badBytes badKind sameLetter wrongId badId lineConditionsAfter lineConditions badLength noEnd conditions capOf linesPerReceptor isAbove highAbove overCap lineTooLarge largeLines rowsOf rowsAt rowsFor tooShort formConditions allConditions lengthOf airLine timeShare timeInAir airFigureBy yearOf isYearOf isYear numbered kindIn isLine begunWith seenWith seenIn isLast mayBegin mayFollow told ofValue otherwise valuesIf lacks isMissing anyOf overLines reportLine
+unfolding bytes lines deckOf airDeck within leading linesOf lineOf fieldIn fieldOf digitsValue idSpelled idIn signSpelled exponentSpelled powerOf digitsRead endedOf pointedOf spelledOf loneDash wordOf kindOf idOf tabulate valueOf slotSpelled recordOf recordsOf caseWith caseOf table same isIn placeIn ownerOf placeOf valueAt chemicalAt receptorAt orNoPair pairOf restOf valuesOf chemicalIn receptorIn givenIn scenarioWith orNoTime timeGiven depositionOf stayIf laterIf receptorWith entered enteredFrom calls.longEntry years.time years.amount years.isYears years.wordsOf years.timeOf years.none years.least years.places years.printedAmount years.printed years.together years.atMost years.asPair years.beyond ordinary scenarioOf valueIn byOwner inputs pairsAt asAnswers nineFigures inReach zeroExponent isZero isNumber zero one lesser rise unitsAt lower atMost isPair extra divided excessFrom excess carried rounded calls.written sumEnd productEnd quotientEnd restEnd provided calls.ends after afterOne zeroPair onePair entry sum product quotient oneMinusEntry pairs read letters noGrowth plainWith plain exponents growthAtBoth stayIn compared paceIf paceOf pacesOf pairGrowing sixtyFour worked series.first series.step terms fromZero pairSeries u kse ksr ksl k x page.x′ page.gWith growth page.gathered page.mean page.soil A D C aboveGround belowGround AT B exposure factor byMedium medium intake byRoute referenceSlot reference figureBy intakeLine byGuidance line guidanceOf guidanceIn pathwayAt isGiven hasReference figureAt chained ruleIn ruleAt lineRules above below valueAtMost valueAtLeast withinBounds inRange first misspelled misplaced outOfRange fieldConditions fieldAt badBytes badKind sameLetter wrongId badId lineConditionsAfter lineConditions badLength noEnd conditions capOf linesPerReceptor isAbove highAbove overCap lineTooLarge largeLines rowsOf rowsAt rowsFor tooShort formConditions allConditions lengthOf airLine timeShare timeInAir airFigureBy yearOf isYearOf isYear numbered kindIn isLine begunWith seenWith seenIn isLast mayBegin mayFollow told ofValue otherwise valuesIf lacks isMissing anyOf overLines reportLine
 air-whole = refl
 
 air-is : (columnsAt Hazard (scenarioOf ordinary airDeck) 0 0 Air ≡ Counted 1000000000000 1000000000000) × (columnsAt Cancer (scenarioOf ordinary airDeck) 0 0 Air ≡ Counted 33333333300000 33333333400000)
-unfolding bytes lines deckOf airDeck within leading linesOf lineOf fieldIn fieldOf digitsValue idSpelled idIn signSpelled exponentSpelled powerOf digitsRead endedOf pointedOf spelledOf loneDash wordOf kindOf idOf tabulate valueOf slotSpelled recordOf recordsOf caseWith caseOf table same isIn placeIn ownerOf placeOf valueAt chemicalAt receptorAt orNoPair pairOf restOf valuesOf chemicalIn receptorIn givenIn scenarioWith orNoTime timeGiven depositionOf stayIf laterIf receptorWith entered enteredFrom calls.longEntry years.time years.amount years.isYears years.wordsOf years.timeOf years.none years.least years.places years.printedAmount years.printed years.together years.atMost years.asPair years.beyond ordinary scenarioOf valueIn byOwner inputs pairsAt asAnswers nineFigures inReach zeroExponent isZero isNumber zero one lesser rise unitsAt lower atMost isPair extra divided excessFrom excess carried rounded sumEnd productEnd quotientEnd restEnd provided calls.ends after afterOne zeroPair onePair entry sum product quotient oneMinusEntry pairs read letters noGrowth plainWith plain exponents growthAtBoth stayIn compared paceIf paceOf pacesOf pairGrowing sixtyFour worked series.first series.step terms fromZero pairSeries u kse ksr ksl k x page.x′ page.gWith growth page.gathered page.mean page.soil A D C aboveGround belowGround AT B exposure factor byMedium medium intake byRoute referenceSlot reference figureBy intakeLine byGuidance line guidanceOf guidanceIn pathwayAt isGiven hasReference figureAt chained unitsEnd inUnits unitOf counted countedIn columnsAt airLine timeShare timeInAir airFigureBy yearOf above below isYearOf isYear numbered kindIn isLine begunWith seenWith seenIn told ofValue otherwise valuesIf lacks isMissing anyOf ruleAt ruleIn
+unfolding bytes lines deckOf airDeck within leading linesOf lineOf fieldIn fieldOf digitsValue idSpelled idIn signSpelled exponentSpelled powerOf digitsRead endedOf pointedOf spelledOf loneDash wordOf kindOf idOf tabulate valueOf slotSpelled recordOf recordsOf caseWith caseOf table same isIn placeIn ownerOf placeOf valueAt chemicalAt receptorAt orNoPair pairOf restOf valuesOf chemicalIn receptorIn givenIn scenarioWith orNoTime timeGiven depositionOf stayIf laterIf receptorWith entered enteredFrom calls.longEntry years.time years.amount years.isYears years.wordsOf years.timeOf years.none years.least years.places years.printedAmount years.printed years.together years.atMost years.asPair years.beyond ordinary scenarioOf valueIn byOwner inputs pairsAt asAnswers nineFigures inReach zeroExponent isZero isNumber zero one lesser rise unitsAt lower atMost isPair extra divided excessFrom excess carried rounded calls.written sumEnd productEnd quotientEnd restEnd provided calls.ends after afterOne zeroPair onePair entry sum product quotient oneMinusEntry pairs read letters noGrowth plainWith plain exponents growthAtBoth stayIn compared paceIf paceOf pacesOf pairGrowing sixtyFour worked series.first series.step terms fromZero pairSeries u kse ksr ksl k x page.x′ page.gWith growth page.gathered page.mean page.soil A D C aboveGround belowGround AT B exposure factor byMedium medium intake byRoute referenceSlot reference figureBy intakeLine byGuidance line guidanceOf guidanceIn pathwayAt isGiven hasReference figureAt chained unitsEnd inUnits unitOf counted countedIn columnsAt airLine timeShare timeInAir airFigureBy yearOf above below isYearOf isYear numbered kindIn isLine begunWith seenWith seenIn told ofValue otherwise valuesIf lacks isMissing anyOf ruleAt ruleIn
 air-is = (refl, refl)
 
 -- with everything in play
 full-whole : first (allConditions ordinary fullDeck 665) ≡ Passed
-unfolding bytes lines fullDeck nextToNothing calls.oneMinus within leading linesOf lineOf fieldIn fieldOf digitsValue idSpelled idIn signSpelled exponentSpelled powerOf digitsRead endedOf pointedOf spelledOf loneDash wordOf kindOf idOf tabulate valueOf slotSpelled recordOf recordsOf caseWith caseOf table same isIn placeIn ownerOf placeOf valueAt chemicalAt receptorAt orNoPair pairOf restOf valuesOf chemicalIn receptorIn givenIn scenarioWith orNoTime timeGiven depositionOf stayIf laterIf receptorWith entered enteredFrom calls.longEntry years.time years.amount years.isYears years.wordsOf years.timeOf years.none years.least years.places years.printedAmount years.printed years.together years.atMost years.asPair years.beyond ordinary scenarioOf valueIn byOwner inputs pairsAt asAnswers nineFigures inReach zeroExponent isZero isNumber zero one lesser rise unitsAt lower atMost isPair extra divided excessFrom excess carried rounded sumEnd productEnd quotientEnd restEnd provided calls.ends after afterOne zeroPair onePair entry sum product quotient oneMinusEntry pairs read letters noGrowth plainWith plain exponents growthAtBoth stayIn compared paceIf paceOf pacesOf pairGrowing sixtyFour worked series.first series.step terms fromZero pairSeries u kse ksr ksl k x page.x′ page.gWith growth page.gathered page.mean page.soil A D C aboveGround belowGround AT B exposure factor byMedium medium intake byRoute referenceSlot reference figureBy intakeLine byGuidance line guidanceOf guidanceIn pathwayAt isGiven hasReference figureAt chained ruleIn ruleAt lineRules above below valueAtMost valueAtLeast withinBounds inRange first misspelled misplaced outOfRange fieldConditions fieldAt badBytes badKind sameLetter wrongId badId lineConditionsAfter lineConditions badLength noEnd conditions capOf linesPerReceptor isAbove highAbove overCap lineTooLarge largeLines rowsOf rowsAt rowsFor tooShort formConditions allConditions lengthOf numbered kindIn isLine begunWith seenWith seenIn isLast mayBegin mayFollow told ofValue otherwise valuesIf lacks isMissing anyOf overLines reportLine
+unfolding bytes lines fullDeck nextToNothing calls.oneMinus within leading linesOf lineOf fieldIn fieldOf digitsValue idSpelled idIn signSpelled exponentSpelled powerOf digitsRead endedOf pointedOf spelledOf loneDash wordOf kindOf idOf tabulate valueOf slotSpelled recordOf recordsOf caseWith caseOf table same isIn placeIn ownerOf placeOf valueAt chemicalAt receptorAt orNoPair pairOf restOf valuesOf chemicalIn receptorIn givenIn scenarioWith orNoTime timeGiven depositionOf stayIf laterIf receptorWith entered enteredFrom calls.longEntry years.time years.amount years.isYears years.wordsOf years.timeOf years.none years.least years.places years.printedAmount years.printed years.together years.atMost years.asPair years.beyond ordinary scenarioOf valueIn byOwner inputs pairsAt asAnswers nineFigures inReach zeroExponent isZero isNumber zero one lesser rise unitsAt lower atMost isPair extra divided excessFrom excess carried rounded calls.written sumEnd productEnd quotientEnd restEnd provided calls.ends after afterOne zeroPair onePair entry sum product quotient oneMinusEntry pairs read letters noGrowth plainWith plain exponents growthAtBoth stayIn compared paceIf paceOf pacesOf pairGrowing sixtyFour worked series.first series.step terms fromZero pairSeries u kse ksr ksl k x page.x′ page.gWith growth page.gathered page.mean page.soil A D C aboveGround belowGround AT B exposure factor byMedium medium intake byRoute referenceSlot reference figureBy intakeLine byGuidance line guidanceOf guidanceIn pathwayAt isGiven hasReference figureAt chained ruleIn ruleAt lineRules above below valueAtMost valueAtLeast withinBounds inRange first misspelled misplaced outOfRange fieldConditions fieldAt badBytes badKind sameLetter wrongId badId lineConditionsAfter lineConditions badLength noEnd conditions capOf linesPerReceptor isAbove highAbove overCap lineTooLarge largeLines rowsOf rowsAt rowsFor tooShort formConditions allConditions lengthOf numbered kindIn isLine begunWith seenWith seenIn isLast mayBegin mayFollow told ofValue otherwise valuesIf lacks isMissing anyOf overLines reportLine
 full-whole = refl
 
 full-is : (worked (pairsAt (scenarioOf ordinary fullDeck) 0 0) kse ≡ bothEnds 133333333 133333334 (negsuc 7)) × (worked (pairsAt (scenarioOf ordinary fullDeck) 0 0) ksr ≡ bothEnds 166666666 166666667 (negsuc 7))
     × (worked (pairsAt (scenarioOf ordinary fullDeck) 0 0) ksl ≡ bothEnds 277777777 277777778 (negsuc 7)) × (worked (pairsAt (scenarioOf ordinary fullDeck) 0 0) A ≡ bothEnds 650000000 650000000 (negsuc 12))
     × (worked (pairsAt (scenarioOf ordinary fullDeck) 0 0) D ≡ bothEnds 263999999 264000001 (negsuc 8)) × (rowsOf (scenarioOf ordinary fullDeck) ≡ fullRows)
-unfolding bytes lines fullDeck fullRows bothEnds nextToNothing calls.oneMinus within leading linesOf lineOf fieldIn fieldOf digitsValue idSpelled idIn signSpelled exponentSpelled powerOf digitsRead endedOf pointedOf spelledOf loneDash wordOf kindOf idOf tabulate valueOf slotSpelled recordOf recordsOf caseWith caseOf table same isIn placeIn ownerOf placeOf valueAt chemicalAt receptorAt orNoPair pairOf restOf valuesOf chemicalIn receptorIn givenIn scenarioWith orNoTime timeGiven depositionOf stayIf laterIf receptorWith entered enteredFrom calls.longEntry years.time years.amount years.isYears years.wordsOf years.timeOf years.none years.least years.places years.printedAmount years.printed years.together years.atMost years.asPair years.beyond ordinary scenarioOf valueIn byOwner inputs pairsAt asAnswers nineFigures inReach zeroExponent isZero isNumber zero one lesser rise unitsAt lower atMost isPair extra divided excessFrom excess carried rounded sumEnd productEnd quotientEnd restEnd provided calls.ends after afterOne zeroPair onePair entry sum product quotient oneMinusEntry pairs read letters noGrowth plainWith plain exponents growthAtBoth stayIn compared paceIf paceOf pacesOf pairGrowing sixtyFour worked series.first series.step terms fromZero pairSeries u kse ksr ksl k x page.x′ page.gWith growth page.gathered page.mean page.soil A D C aboveGround belowGround AT B exposure factor byMedium medium intake byRoute referenceSlot reference figureBy intakeLine byGuidance line guidanceOf guidanceIn pathwayAt isGiven hasReference figureAt chained unitsEnd inUnits unitOf counted countedIn columnsAt _added_ addedOver totalAt rowAt totalRow rowsAt rowsOf row numbered kindIn isLine begunWith seenWith seenIn told ofValue otherwise valuesIf lacks isMissing anyOf ruleAt ruleIn
+unfolding bytes lines fullDeck fullRows bothEnds nextToNothing calls.oneMinus within leading linesOf lineOf fieldIn fieldOf digitsValue idSpelled idIn signSpelled exponentSpelled powerOf digitsRead endedOf pointedOf spelledOf loneDash wordOf kindOf idOf tabulate valueOf slotSpelled recordOf recordsOf caseWith caseOf table same isIn placeIn ownerOf placeOf valueAt chemicalAt receptorAt orNoPair pairOf restOf valuesOf chemicalIn receptorIn givenIn scenarioWith orNoTime timeGiven depositionOf stayIf laterIf receptorWith entered enteredFrom calls.longEntry years.time years.amount years.isYears years.wordsOf years.timeOf years.none years.least years.places years.printedAmount years.printed years.together years.atMost years.asPair years.beyond ordinary scenarioOf valueIn byOwner inputs pairsAt asAnswers nineFigures inReach zeroExponent isZero isNumber zero one lesser rise unitsAt lower atMost isPair extra divided excessFrom excess carried rounded calls.written sumEnd productEnd quotientEnd restEnd provided calls.ends after afterOne zeroPair onePair entry sum product quotient oneMinusEntry pairs read letters noGrowth plainWith plain exponents growthAtBoth stayIn compared paceIf paceOf pacesOf pairGrowing sixtyFour worked series.first series.step terms fromZero pairSeries u kse ksr ksl k x page.x′ page.gWith growth page.gathered page.mean page.soil A D C aboveGround belowGround AT B exposure factor byMedium medium intake byRoute referenceSlot reference figureBy intakeLine byGuidance line guidanceOf guidanceIn pathwayAt isGiven hasReference figureAt chained unitsEnd inUnits unitOf counted countedIn columnsAt _added_ addedOver totalAt rowAt totalRow rowsAt rowsOf row numbered kindIn isLine begunWith seenWith seenIn told ofValue otherwise valuesIf lacks isMissing anyOf ruleAt ruleIn
 full-is = (refl, refl, refl, refl, refl, refl)
 
 text-is : linesText rows ≡ printedText
@@ -119,7 +119,7 @@ unfolding bytes lines printedLines printedText row rows linesText rowText column
 text-is = refl
 
 read-whole : first (allConditions ordinary deck 665) ≡ Passed
-unfolding bytes lines deckOf deckWith deck within leading linesOf lineOf fieldIn fieldOf digitsValue idSpelled idIn signSpelled exponentSpelled powerOf digitsRead endedOf pointedOf spelledOf loneDash wordOf kindOf idOf tabulate valueOf slotSpelled recordOf recordsOf caseWith caseOf table same isIn placeIn ownerOf placeOf valueAt chemicalAt receptorAt orNoPair pairOf restOf valuesOf chemicalIn receptorIn givenIn scenarioWith orNoTime timeGiven depositionOf stayIf laterIf receptorWith entered enteredFrom calls.longEntry years.time years.amount years.isYears years.wordsOf years.timeOf years.none years.least years.places years.printedAmount years.printed years.together years.atMost years.asPair years.beyond ordinary scenarioOf valueIn byOwner inputs pairsAt asAnswers nineFigures inReach zeroExponent isZero isNumber zero one lesser rise unitsAt lower atMost isPair extra divided excessFrom excess carried rounded sumEnd productEnd quotientEnd restEnd provided calls.ends after afterOne zeroPair onePair entry sum product quotient oneMinusEntry pairs read letters noGrowth plainWith plain exponents growthAtBoth stayIn compared paceIf paceOf pacesOf pairGrowing sixtyFour worked series.first series.step terms fromZero pairSeries u kse ksr ksl k x page.x′ page.gWith growth page.gathered page.mean page.soil A D C aboveGround belowGround AT B exposure factor byMedium medium intake byRoute referenceSlot reference figureBy intakeLine byGuidance line guidanceOf guidanceIn pathwayAt isGiven hasReference figureAt chained ruleIn ruleAt lineRules above below valueAtMost valueAtLeast withinBounds inRange first misspelled misplaced outOfRange fieldConditions fieldAt badBytes badKind sameLetter wrongId badId lineConditionsAfter lineConditions badLength noEnd conditions capOf linesPerReceptor isAbove highAbove overCap lineTooLarge largeLines rowsOf rowsAt rowsFor tooShort formConditions allConditions lengthOf numbered kindIn isLine begunWith seenWith seenIn isLast mayBegin mayFollow told ofValue otherwise valuesIf lacks isMissing anyOf overLines reportLine
+unfolding bytes lines deckOf deckWith deck within leading linesOf lineOf fieldIn fieldOf digitsValue idSpelled idIn signSpelled exponentSpelled powerOf digitsRead endedOf pointedOf spelledOf loneDash wordOf kindOf idOf tabulate valueOf slotSpelled recordOf recordsOf caseWith caseOf table same isIn placeIn ownerOf placeOf valueAt chemicalAt receptorAt orNoPair pairOf restOf valuesOf chemicalIn receptorIn givenIn scenarioWith orNoTime timeGiven depositionOf stayIf laterIf receptorWith entered enteredFrom calls.longEntry years.time years.amount years.isYears years.wordsOf years.timeOf years.none years.least years.places years.printedAmount years.printed years.together years.atMost years.asPair years.beyond ordinary scenarioOf valueIn byOwner inputs pairsAt asAnswers nineFigures inReach zeroExponent isZero isNumber zero one lesser rise unitsAt lower atMost isPair extra divided excessFrom excess carried rounded calls.written sumEnd productEnd quotientEnd restEnd provided calls.ends after afterOne zeroPair onePair entry sum product quotient oneMinusEntry pairs read letters noGrowth plainWith plain exponents growthAtBoth stayIn compared paceIf paceOf pacesOf pairGrowing sixtyFour worked series.first series.step terms fromZero pairSeries u kse ksr ksl k x page.x′ page.gWith growth page.gathered page.mean page.soil A D C aboveGround belowGround AT B exposure factor byMedium medium intake byRoute referenceSlot reference figureBy intakeLine byGuidance line guidanceOf guidanceIn pathwayAt isGiven hasReference figureAt chained ruleIn ruleAt lineRules above below valueAtMost valueAtLeast withinBounds inRange first misspelled misplaced outOfRange fieldConditions fieldAt badBytes badKind sameLetter wrongId badId lineConditionsAfter lineConditions badLength noEnd conditions capOf linesPerReceptor isAbove highAbove overCap lineTooLarge largeLines rowsOf rowsAt rowsFor tooShort formConditions allConditions lengthOf numbered kindIn isLine begunWith seenWith seenIn isLast mayBegin mayFollow told ofValue otherwise valuesIf lacks isMissing anyOf overLines reportLine
 read-whole = refl
 
 answer-is : outcomeOf ordinary deck 665 ≡ record { number = 0; line = 665; field = 0 }
@@ -128,7 +128,7 @@ answer-is = ap (λ (s : Status). outcomeFor s (rowsFor ordinary deck)) read-whol
 
 -- the composite's
 composite-lines : rowsOf (scenarioOf composite compositeDeck) ≡ compositeRows
-unfolding bytes lines deckOf deckWith compositeDeck within leading linesOf lineOf fieldIn fieldOf digitsValue idSpelled idIn signSpelled exponentSpelled powerOf digitsRead endedOf pointedOf spelledOf loneDash wordOf kindOf idOf tabulate valueOf slotSpelled recordOf recordsOf caseWith caseOf table same isIn placeIn ownerOf placeOf valueAt chemicalAt receptorAt orNoPair pairOf restOf valuesOf chemicalIn receptorIn givenIn scenarioWith composed mean summed sumOfYears yearsTogether pairStage lastStage stageYears timeExposed pairComposite orNoTime timeGiven depositionOf stayIf laterIf receptorWith compositeReceptor calls.longEntry years.time years.amount years.isYears years.wordsOf years.timeOf years.none years.least years.places years.printedAmount years.printed years.together years.atMost years.asPair years.beyond compositeFrom composite noReceptor scenarioOf valueIn byOwner inputs pairsAt asAnswers nineFigures inReach zeroExponent isZero isNumber zero one lesser rise unitsAt lower atMost isPair extra divided excessFrom excess carried rounded sumEnd productEnd quotientEnd restEnd provided calls.ends after afterOne zeroPair onePair entry sum product quotient oneMinusEntry pairs read letters noGrowth plainWith plain exponents growthAtBoth stayIn compared paceIf paceOf pacesOf pairGrowing sixtyFour worked series.first series.step terms fromZero pairSeries u kse ksr ksl k x page.x′ page.gWith growth page.gathered page.mean page.soil A D C aboveGround belowGround AT B exposure factor byMedium medium intake byRoute referenceSlot reference figureBy intakeLine byGuidance line guidanceOf guidanceIn pathwayAt isGiven hasReference figureAt chained unitsEnd inUnits unitOf counted countedIn columnsAt _added_ addedOver totalAt rowAt totalRow rowsAt rowsOf row compositeRows numbered kindIn isLine begunWith seenWith seenIn told ofValue otherwise noPairs noPair
+unfolding bytes lines deckOf deckWith compositeDeck within leading linesOf lineOf fieldIn fieldOf digitsValue idSpelled idIn signSpelled exponentSpelled powerOf digitsRead endedOf pointedOf spelledOf loneDash wordOf kindOf idOf tabulate valueOf slotSpelled recordOf recordsOf caseWith caseOf table same isIn placeIn ownerOf placeOf valueAt chemicalAt receptorAt orNoPair pairOf restOf valuesOf chemicalIn receptorIn givenIn scenarioWith composed mean summed sumOfYears yearsTogether pairStage lastStage stageYears timeExposed pairComposite orNoTime timeGiven depositionOf stayIf laterIf receptorWith compositeReceptor calls.longEntry years.time years.amount years.isYears years.wordsOf years.timeOf years.none years.least years.places years.printedAmount years.printed years.together years.atMost years.asPair years.beyond compositeFrom composite noReceptor scenarioOf valueIn byOwner inputs pairsAt asAnswers nineFigures inReach zeroExponent isZero isNumber zero one lesser rise unitsAt lower atMost isPair extra divided excessFrom excess carried rounded calls.written sumEnd productEnd quotientEnd restEnd provided calls.ends after afterOne zeroPair onePair entry sum product quotient oneMinusEntry pairs read letters noGrowth plainWith plain exponents growthAtBoth stayIn compared paceIf paceOf pacesOf pairGrowing sixtyFour worked series.first series.step terms fromZero pairSeries u kse ksr ksl k x page.x′ page.gWith growth page.gathered page.mean page.soil A D C aboveGround belowGround AT B exposure factor byMedium medium intake byRoute referenceSlot reference figureBy intakeLine byGuidance line guidanceOf guidanceIn pathwayAt isGiven hasReference figureAt chained unitsEnd inUnits unitOf counted countedIn columnsAt _added_ addedOver totalAt rowAt totalRow rowsAt rowsOf row compositeRows numbered kindIn isLine begunWith seenWith seenIn told ofValue otherwise noPairs noPair
 composite-lines = refl
 
 composite-text : linesText compositeRows ≡ compositeText
@@ -136,7 +136,7 @@ unfolding bytes lines compositeText row compositeRows linesText rowText columnsT
 composite-text = refl
 
 composite-whole : first (allConditions composite compositeDeck 665) ≡ Passed
-unfolding bytes lines deckOf deckWith compositeDeck within leading linesOf lineOf fieldIn fieldOf digitsValue idSpelled idIn signSpelled exponentSpelled powerOf digitsRead endedOf pointedOf spelledOf loneDash wordOf kindOf idOf tabulate valueOf slotSpelled recordOf recordsOf caseWith caseOf table same isIn placeIn ownerOf placeOf valueAt chemicalAt receptorAt orNoPair pairOf restOf valuesOf chemicalIn receptorIn givenIn scenarioWith composed mean summed sumOfYears yearsTogether pairStage lastStage stageYears timeExposed pairComposite orNoTime timeGiven depositionOf stayIf laterIf receptorWith compositeReceptor calls.longEntry years.time years.amount years.isYears years.wordsOf years.timeOf years.none years.least years.places years.printedAmount years.printed years.together years.atMost years.asPair years.beyond compositeFrom composite noReceptor scenarioOf valueIn byOwner inputs pairsAt asAnswers nineFigures inReach zeroExponent isZero isNumber zero one lesser rise unitsAt lower atMost isPair extra divided excessFrom excess carried rounded sumEnd productEnd quotientEnd restEnd provided calls.ends after afterOne zeroPair onePair entry sum product quotient oneMinusEntry pairs read letters noGrowth plainWith plain exponents growthAtBoth stayIn compared paceIf paceOf pacesOf pairGrowing sixtyFour worked series.first series.step terms fromZero pairSeries u kse ksr ksl k x page.x′ page.gWith growth page.gathered page.mean page.soil A D C aboveGround belowGround AT B exposure factor byMedium medium intake byRoute referenceSlot reference figureBy intakeLine byGuidance line guidanceOf guidanceIn pathwayAt isGiven hasReference figureAt chained ruleIn ruleAt lineRules above below valueAtMost valueAtLeast withinBounds inRange first misspelled misplaced outOfRange fieldConditions fieldAt badBytes badKind sameLetter wrongId badId lineConditionsAfter lineConditions badLength noEnd conditions capOf linesPerReceptor isAbove highAbove overCap lineTooLarge largeLines rowsOf rowsAt rowsFor tooShort formConditions allConditions lengthOf numbered kindIn isLine begunWith seenWith seenIn isLast mayBegin mayFollow told ofValue otherwise overLines reportLine noPairs noPair
+unfolding bytes lines deckOf deckWith compositeDeck within leading linesOf lineOf fieldIn fieldOf digitsValue idSpelled idIn signSpelled exponentSpelled powerOf digitsRead endedOf pointedOf spelledOf loneDash wordOf kindOf idOf tabulate valueOf slotSpelled recordOf recordsOf caseWith caseOf table same isIn placeIn ownerOf placeOf valueAt chemicalAt receptorAt orNoPair pairOf restOf valuesOf chemicalIn receptorIn givenIn scenarioWith composed mean summed sumOfYears yearsTogether pairStage lastStage stageYears timeExposed pairComposite orNoTime timeGiven depositionOf stayIf laterIf receptorWith compositeReceptor calls.longEntry years.time years.amount years.isYears years.wordsOf years.timeOf years.none years.least years.places years.printedAmount years.printed years.together years.atMost years.asPair years.beyond compositeFrom composite noReceptor scenarioOf valueIn byOwner inputs pairsAt asAnswers nineFigures inReach zeroExponent isZero isNumber zero one lesser rise unitsAt lower atMost isPair extra divided excessFrom excess carried rounded calls.written sumEnd productEnd quotientEnd restEnd provided calls.ends after afterOne zeroPair onePair entry sum product quotient oneMinusEntry pairs read letters noGrowth plainWith plain exponents growthAtBoth stayIn compared paceIf paceOf pacesOf pairGrowing sixtyFour worked series.first series.step terms fromZero pairSeries u kse ksr ksl k x page.x′ page.gWith growth page.gathered page.mean page.soil A D C aboveGround belowGround AT B exposure factor byMedium medium intake byRoute referenceSlot reference figureBy intakeLine byGuidance line guidanceOf guidanceIn pathwayAt isGiven hasReference figureAt chained ruleIn ruleAt lineRules above below valueAtMost valueAtLeast withinBounds inRange first misspelled misplaced outOfRange fieldConditions fieldAt badBytes badKind sameLetter wrongId badId lineConditionsAfter lineConditions badLength noEnd conditions capOf linesPerReceptor isAbove highAbove overCap lineTooLarge largeLines rowsOf rowsAt rowsFor tooShort formConditions allConditions lengthOf numbered kindIn isLine begunWith seenWith seenIn isLast mayBegin mayFollow told ofValue otherwise overLines reportLine noPairs noPair
 composite-whole = refl
 
 composite-answer : outcomeOf composite compositeDeck 665 ≡ record { number = 0; line = 665; field = 0 }

@@ -533,31 +533,27 @@ number-written m e l h n = number-from (number m e) l h (size-reach e n)
 few-zeros : (m k : ℕ) → 100000000 ≤ m * 10 ^ k → m * 10 ^ k ≤ 999999999 → k ≤ 9
 few-zeros m k l h = omega (arith, ten-reflects {i = k} {j = 9} (omega (arith, mul-le-mul-right {m = 1} {n = m} (10 ^ k) (lt-of-mul-lt-mul-right (10 ^ k) {m = 0} (omega arith)))))
 
-digits-few : (m k : ℕ) → m * 10 ^ k ≤ 999999999 → m ≤ mostPrinted
+digits-few : (m k : ℕ) → m * 10 ^ k ≤ 999999999 → m ≤ 999999999
 digits-few m k h = omega (arith, mul-le-mul-right {m = 1} {n = 10 ^ k} m (ten-above k))
 
--- An entry of m is m with zeros behind it to nine figures, and the exponent less by as many.
-pub entry-written : (m k : ℕ) (e : ℤ) → 100000000 ≤ m * 10 ^ k → m * 10 ^ k ≤ 999999999 → mag e ≤ 99000 →
-    entry m e ≡ is (pair (number (m * 10 ^ k) (e -ℤ pos k)) (number (m * 10 ^ k) (e -ℤ pos k)))
-unfolding entry
-entry-written m k e l h n =
+-- A number written as m is m with zeros behind it to nine figures, and the exponent less by as many; and so is its entry.
+pub written-figures : (m k : ℕ) (e : ℤ) → 100000000 ≤ m * 10 ^ k → m * 10 ^ k ≤ 999999999 → mag e ≤ 99000 → written m e ≡ number (m * 10 ^ k) (e -ℤ pos k)
+unfolding written
+written-figures m k e l h n =
     let v : Number = number (m * 10 ^ k) (e -ℤ pos k) in
     let s : mag e < 100000 = omega arith in
     let few : k ≤ 9 = few-zeros m k l h in
     let r : inReach (e -ℤ pos k) ≡ true = size-reach (e -ℤ pos k) (omega (arith, mag-minus e (pos k))) in
-    let w : isNumber v ≡ true = number-from v l h r in
-    let low : rounded false m 1 e ≡ v = rounded-itself false (entry-ratio m e s) v w (entry-zeros m k e s few) in
-    let high : rounded true m 1 e ≡ v = rounded-itself true (entry-ratio m e s) v w (entry-zeros m k e s few) in
-    provided-true (ends (rounded false m 1 e) (rounded true m 1 e)) (both-from (le-leb m mostPrinted (digits-few m k h)) (size-reach e (omega arith)))
-    ∙ ap₂ ends low high ∙ ends-from v v r r
+    rounded-itself false (entry-ratio m e s) v (number-from v l h r) (entry-zeros m k e s few)
 
--- 1, 64, 0.000001 and 0 as entries.
+pub entry-written : (m k : ℕ) (e : ℤ) → 100000000 ≤ m * 10 ^ k → m * 10 ^ k ≤ 999999999 → mag e ≤ 99000 →
+    entry m e ≡ is (pair (number (m * 10 ^ k) (e -ℤ pos k)) (number (m * 10 ^ k) (e -ℤ pos k)))
+entry-written m k e l h n = written-entry m e (digits-few m k h) n ∙ ap (λ (w : Number). is (pair w w)) (written-figures m k e l h n)
+
+-- 1, 0.000001 and 0 as entries.
 pub one-entry : entry 1 (pos 0) ≡ is onePair
 unfolding onePair one
 one-entry = entry-written 1 8 (pos 0) (lit≤ tt) (lit≤ tt) (lit≤ tt)
-
-pub sixty-four-entry : entry 64 (pos 0) ≡ is (pair (number 640000000 (negsuc 6)) (number 640000000 (negsuc 6)))
-sixty-four-entry = entry-written 64 7 (pos 0) (lit≤ tt) (lit≤ tt) (lit≤ tt)
 
 pub per-million-entry : entry 1 (negsuc 5) ≡ is (pair (number 100000000 (negsuc 13)) (number 100000000 (negsuc 13)))
 per-million-entry = entry-written 1 8 (negsuc 5) (lit≤ tt) (lit≤ tt) (lit≤ tt)
