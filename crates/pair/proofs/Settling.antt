@@ -11,16 +11,15 @@ use lib.Signed.{mag}
 use Rattle.pair.specs.declared.Number.{Number}
 use Rattle.pair.specs.declared.Pair.{Pair}
 use Rattle.pair.specs.Number as N
-use Rattle.pair.specs.Number.{isNumber, isPair, value, place}
+use Rattle.pair.specs.Number.{value, place}
 use Rattle.pair.specs.Fraction.{Fraction, _≤ᶠ_, times, over}
-use Rattle.pair.specs.Calls.{Outcome, is, after, sum, entry, written, zeroPair, absorbs, raised}
+use Rattle.pair.specs.Calls.{Outcome, is, after, sum, entry, written, absorbs, raised}
 use Rattle.pair.specs.Promises.{products, quotients, call, exactResult, highEnd, withHigh, scaled}
 use Rattle.pair.proofs.Powers.{ten-above}
-use Rattle.pair.proofs.Numbers.{none-is-zero}
 use Rattle.pair.proofs.Fractions.{_<ᶠ_, Along, exactly-rises, exactly-proper}
 use Rattle.pair.proofs.Ordered.{zero-number}
 use Rattle.pair.proofs.ExactEnds.{place-whole}
-use Rattle.pair.proofs.Promises.{Within, rounds, ends-proper, Usable, through, value-proper, stays-below, scaled-proper, entry-exact, written-number, written-value, equal-below, equal-turned, pair-none-is}
+use Rattle.pair.proofs.Promises.{Within, rounds, ends-proper, Usable, through, value-proper, stays-below, scaled-proper, entry-exact, written-number, written-value, equal-below, equal-turned}
 use Rattle.pair.proofs.Answers.{ordered, pair-from}
 use Rattle.pair.proofs.Raising.{Far, high-above, far-sum, absorbing, sized-exponent, number-above}
 pub use Rattle.pair.proofs.Raising.{Under}
@@ -131,7 +130,3 @@ below-through v w {y} h k =
           lt-of-mul-lt-mul-right (value w .den) {m = value v .num * y .den} {n = y .num * value v .den}
           (omega (arith, mul-le-mul-right (y .den) (h .across), mul-lt-mul-of-pos-right (k .across) (value-proper v .above-zero)));
     }
-
--- A pair whose high end has no figures is 0.
-pub pair-none : (p : Pair) → isPair p ≡ true → p .high .significand ≡ 0 → p ≡ zeroPair
-pair-none p h z = pair-none-is p h (none-is-zero (p .high) (ordered p h .high) z)
