@@ -1,4 +1,5 @@
 //! Air, deposition, soil and produce (document 01, "Media").
+use crate::AirConc;
 use crate::Conc;
 use crate::Found;
 use crate::Ground;
@@ -79,7 +80,7 @@ fn all(air: Answer, soil: Answer, above: Answer, below: Answer) -> Found
         return Found::Refused;
     };
     Found::Is(Media {
-        air: Conc(a),
+        air: AirConc(a),
         soil: Conc(c),
         above_ground: Conc(f),
         below_ground: Conc(r),

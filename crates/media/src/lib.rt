@@ -19,10 +19,22 @@ ghost use Rattle.pair.specs.Calls as calls;
 ghost use Rattle.equations.specs.Series.{phi, psi, pairSeries};
 ghost use Rattle.media.specs.Media as specs;
 
-// A concentration: mg/m³ in air, mg/kg in soil and produce. Only this crate makes one.
+// A concentration in soil or produce, mg/kg. Only this crate makes one, and one in air.
 pub struct Conc(Pair);
 
+// A concentration in air, mg/m³: no other may be breathed.
+pub struct AirConc(Pair);
+
+// The pair alone: the one way out of the quantity, for those who answer for its unit themselves.
 impl Conc {
+    pub fn pair(self) -> Pair
+        ensures { λ r. ⌜ r ≡ self .0 ⌝ }
+    {
+        self.0
+    }
+}
+
+impl AirConc {
     pub fn pair(self) -> Pair
         ensures { λ r. ⌜ r ≡ self .0 ⌝ }
     {
@@ -32,7 +44,7 @@ impl Conc {
 
 // What a chemical leaves in the media of the pathways.
 pub struct Media {
-    pub air: Conc,
+    pub air: AirConc,
     pub soil: Conc,
     pub above_ground: Conc,
     pub below_ground: Conc,
@@ -44,7 +56,7 @@ impl Media {
         ensures { λ r. ⌜ r ≡ specs.noMedia ⌝ }
     {
         Media {
-            air: Conc(Pair::ZERO),
+            air: AirConc(Pair::ZERO),
             soil: Conc(Pair::ZERO),
             above_ground: Conc(Pair::ZERO),
             below_ground: Conc(Pair::ZERO),

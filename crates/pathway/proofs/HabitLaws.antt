@@ -1,33 +1,32 @@
 -- What a receptor's lines share is what their formulas begin with, so that with a receptor's own habits its lines' factors are the page's; and a
--- figure worked in one chain is that of its factor and its dose. Assumes nothing.
+-- dose is the product of the pairs of its factor and its medium. Assumes nothing.
 use mathlib.Core.Path.{_≡_, refl, sym, _∙_, ap, ap₂}
 use mathlib.Core.Bool.{Bool, true, false, cond, _||_, false≢true}
 use Prim.Native.Nat.{ℕ}
 use lib.Dec.{eqb}
 use borrow.Author.Tests.{eqb-true}
 use Rattle.pair.specs.declared.Pair.{Pair}
-use Rattle.pair.specs.declared.Answer.{Answer}
-use Rattle.pair.specs.declared.Answer.the-variants as Answers
-use Rattle.pair.specs.Calls.{Outcome, is, refused, answer, mapped, after, product, quotient}
+use Rattle.pair.specs.Calls.{Outcome, is, mapped, after, product, quotient}
 use Rattle.equations.specs.declared.Pathway.{Pathway}
 use Rattle.equations.specs.declared.Pathway.the-variants.{Air, SoilSummer, SoilWinter, Skin, AboveGround, BelowGround}
 use Rattle.equations.specs.declared.Effect.{Effect}
 use Rattle.equations.specs.declared.Effect.the-variants.{Hazard, Cancer}
 use Rattle.equations.specs.declared.Values.{Values}
 use Rattle.equations.specs.Formula.{read, pairs}
-use Rattle.equations.specs.Page.{AT, B, exposure, factor, figureBy}
-use Rattle.equations.specs.Ahead.{ofTwo, only, aSlot, isReceptors, ahead, plainFrom}
+use Rattle.equations.specs.Page.{AT, B, exposure, factor, byMedium}
+use Rattle.equations.specs.Ahead.{only, aSlot, isReceptors, ahead, plainFrom}
+use Rattle.equations.proofs.Guided.{by-medium}
 use Rattle.equations.proofs.Pathways.{pathways, passes, on-pathway}
 use Rattle.equations.proofs.AheadLaws.{plain-same, plain-ahead}
 use Rattle.equations.specs.Readings.{plain, plainWith, letters, inputs, byOwner, valueIn, noValues}
-use Rattle.media.specs.declared.Conc.{Conc}
+use Rattle.media.specs.declared.Media.{Media}
 use Rattle.slots.specs.declared.Guidance.{Guidance}
 use Rattle.slots.specs.declared.Owner.{Owner}
 use Rattle.slots.specs.declared.Owner.the-variants.{Site, Chemical, Receptor}
 use Rattle.slots.specs.Slots.{Slot, table, same, isIn, placeIn, ownerOf, placeOf}
 use Rattle.pathway.specs.declared.Factor.{Factor}
 use Rattle.pathway.specs.declared.Dose.{Dose}
-use Rattle.pathway.specs.Lines.{some, workedFor, factorOf, doseOf, figureOf, workedOf, absorbedOf, shareAt, takenIn, exposureFrom, habitsOf, baseIn, begunIn, exposureWith, factorWith, figureIfGiven}
+use Rattle.pathway.specs.Lines.{workedFor, factorOf, doseBy, doseOf, doseOfAir, doseFor, workedOf, absorbedOf, shareAt, takenIn, exposureFrom, habitsOf, baseIn, begunIn, exposureWith, factorWith}
 use Rattle.pathway.proofs.Carried.{pair-back}
 
 -- a receptor's letters are read alike with any site and chemical
@@ -118,20 +117,15 @@ own-factor y e p s c r =
     let b : baseIn (habitsOf y r) e ≡ workedFor s c r (B e) = own-base y r e ∙ base-alike s c r e in
     ap (λ (o : Outcome Pair). mapped (λ (q : Pair). record { 0 = q }) o) (ap₂ (after quotient) x b ∙ divided s c r e p)
 
--- ---- a figure in one chain
-pub in-one-chain : (e : Effect) (x b : Outcome Pair) (m : Conc) (v : Pair) →
-    mapped (λ (q : Pair). some q) (ofTwo (figureBy e) (after product (after quotient x b) (is (m .0))) (is v)) ≡ figureIfGiven e (doseOf (factorWith x b) m) (some v)
-unfolding figureIfGiven figureOf doseOf factorWith
-in-one-chain e x b m v =
-    ap (λ (o : Outcome Pair). mapped (λ (q : Pair). some q) (ofTwo (figureBy e) o (is v)))
-    (sym
-    (pair-back (λ (g : Dose). g .0) (λ (q : Pair). record { 0 = q }) (λ q. refl) (after product (mapped (λ (g : Factor). g .0) (mapped (λ (q : Pair). record { 0 = q }) (after quotient x b))) (is (m .0)))
-    ∙ ap (λ (o : Outcome Pair). after product o (is (m .0))) (pair-back (λ (g : Factor). g .0) (λ (q : Pair). record { 0 = q }) (λ q. refl) (after quotient x b))))
+-- the pair of a pathway's concentration
+unfoldable pub mediumIn : Pathway → Media → Pair
+mediumIn p m = byMedium p (m .air .0) (m .soil .0) (m .«above_ground» .0) (m .«below_ground» .0)
 
--- without B there is no figure
-pub without-base : (e : Effect) (x : Answer) (m : Conc) (v : Pair) → refused 53 ≡ figureIfGiven e (doseOf (factorWith (answer x) (refused 53)) m) (some v)
-unfolding figureIfGiven figureOf doseOf factorWith figureBy ofTwo plain plainWith read letters pairs same mapped after answer
-without-base Hazard (Answers.Is p) m v = refl
-without-base Hazard Answers.Refused m v = refl
-without-base Cancer (Answers.Is p) m v = refl
-without-base Cancer Answers.Refused m v = refl
+-- ---- a dose as a pair is its factor's pair × that of the pathway's medium
+pub dose-pair : (p : Pathway) (f : Outcome Factor) (m : Media) → mapped (λ (g : Dose). g .0) (doseFor p f m) ≡ after product (mapped (λ (g : Factor). g .0) f) (is (mediumIn p m))
+unfolding doseFor doseOf doseOfAir doseBy mediumIn
+dose-pair p f m =
+    let own : (c : Pair) → mapped (λ (g : Dose). g .0) (doseBy f c) ≡ after product (mapped (λ (g : Factor). g .0) f) (is c) =
+    λ c. pair-back (λ (g : Dose). g .0) (λ (q : Pair). record { 0 = q }) (λ q. refl) (after product (mapped (λ (g : Factor). g .0) f) (is c)) in
+    by-medium (λ q (d : Outcome Dose) (c : Pair). mapped (λ (g : Dose). g .0) d ≡ after product (mapped (λ (g : Factor). g .0) f) (is c))
+    (own (m .air .0)) p (own (m .soil .0)) (own (m .«above_ground» .0)) (own (m .«below_ground» .0))

@@ -2,19 +2,15 @@
 use Rattle.pair.specs.declared.Pair.{Pair}
 use mathlib.Core.Path.{_≡_}
 use mathlib.Core.Bool.{Bool, true, false}
-use Rattle.pair.specs.Calls.{Outcome, is, mapped, checked, after, quotient}
+use Rattle.pair.specs.Calls.{Outcome, is, mapped, after, quotient}
 use Rattle.equations.specs.declared.Pathway.{Pathway}
 use Rattle.equations.specs.declared.Values.{Values}
 use Rattle.equations.specs.Page.{byRoute}
-use Rattle.media.specs.declared.Conc.{Conc}
+use Rattle.media.specs.declared.AirConc.{AirConc}
 use Rattle.pathway.specs.declared.Absorbed.{Absorbed}
 use Rattle.pathway.specs.declared.References.{References}
 use Rattle.pathway.specs.declared.TimeShare.{TimeShare}
-use Rattle.pathway.specs.Lines.{Optional, none, Figured, exposureFrom, airFiguresWith, airReferencesOf, Breathed, byDose, byTime}
-
--- a dose, or an exposure concentration, without a reference value
-unfoldable pub absentFor : Pair → Outcome (Optional Pair)
-absentFor d = mapped (λ (q : Pair). none) (checked d)
+use Rattle.pathway.specs.Lines.{none, Figured, exposureFrom, airFiguresWith, Breathed, byDose, byTime}
 
 -- one share for each letter of a chemical
 unfoldable pub each : Pair → Absorbed
@@ -33,6 +29,6 @@ unfoldable pub isTimed : Breathed → Pathway → Bool
 isTimed byDose p = false
 isTimed (byTime t) p = byRoute p true false
 
-unfoldable pub timedFigures : Breathed → Conc → References → Figured
+unfoldable pub timedFigures : Breathed → AirConc → References → Figured
 timedFigures byDose air refs = record { hazard = is none; cancer = is none }
-timedFigures (byTime t) air refs = airFiguresWith t air (airReferencesOf refs)
+timedFigures (byTime t) air refs = airFiguresWith t air refs

@@ -6,7 +6,7 @@ use Rattle.pair.specs.declared.Pair.{Pair}
 use Prim.Native.Nat.{ℕ}
 use mathlib.Core.Bool.{cond}
 use lib.Dec.{eqb}
-use Rattle.pair.specs.Calls.{Outcome, is, refused, answer, mapped, checked, after, afterOne, product, quotient}
+use Rattle.pair.specs.Calls.{Outcome, is, refused, answer, mapped, after, product, quotient}
 use Rattle.equations.specs.declared.Pathway.{Pathway}
 use Rattle.equations.specs.declared.Pathway.the-variants.{Air, SoilSummer, SoilWinter, Skin, AboveGround, BelowGround}
 use Rattle.equations.specs.declared.Effect.{Effect}
@@ -19,16 +19,17 @@ use Rattle.equations.specs.Ahead.{ofTwo, ahead, plainFrom}
 use Rattle.slots.specs.declared.Guidance.{Guidance}
 use Rattle.slots.specs.declared.Guidance.the-variants.{Of2005, Of2009}
 use Rattle.slots.specs.Slots.{Slot, ownerOf, placeOf}
+use Rattle.media.specs.declared.AirConc.{AirConc}
 use Rattle.media.specs.declared.Conc.{Conc}
 use Rattle.media.specs.declared.Media.{Media}
 use Rattle.pathway.specs.declared.Factor.{Factor}
 use Rattle.pathway.specs.declared.Dose.{Dose}
-use Rattle.pathway.specs.declared.Rfd.{Rfd}
-use Rattle.pathway.specs.declared.Csf.{Csf}
 use Rattle.pathway.specs.declared.GivenRfd.{GivenRfd}
 use Rattle.pathway.specs.declared.GivenRfd.the-variants as Rfds
 use Rattle.pathway.specs.declared.GivenCsf.{GivenCsf}
 use Rattle.pathway.specs.declared.GivenCsf.the-variants as Csfs
+use Rattle.pathway.specs.declared.Printed.{Printed}
+use Rattle.pathway.specs.declared.Printed.the-variants as Prints
 use Rattle.pathway.specs.declared.References.{References}
 use Rattle.pathway.specs.declared.Factored.{Factored}
 use Rattle.pathway.specs.declared.Factored.the-variants as Factors
@@ -41,13 +42,10 @@ use Rattle.pathway.specs.declared.Absorbed.{Absorbed}
 use Rattle.pathway.specs.declared.Habits.{Habits}
 use Rattle.pathway.specs.declared.TimeShare.{TimeShare}
 use Rattle.pathway.specs.declared.AirExposure.{AirExposure}
-use Rattle.pathway.specs.declared.Rfc.{Rfc}
-use Rattle.pathway.specs.declared.UnitRisk.{UnitRisk}
 use Rattle.pathway.specs.declared.GivenRfc.{GivenRfc}
 use Rattle.pathway.specs.declared.GivenRfc.the-variants as Rfcs
 use Rattle.pathway.specs.declared.GivenUnitRisk.{GivenUnitRisk}
 use Rattle.pathway.specs.declared.GivenUnitRisk.the-variants as UnitRisks
-use Rattle.pathway.specs.declared.AirReferences.{AirReferences}
 use Rattle.pathway.specs.declared.Timed.{Timed}
 use Rattle.pathway.specs.declared.Timed.the-variants as Times
 use Rattle.pathway.specs.declared.Exposed.{Exposed}
@@ -75,14 +73,6 @@ figure (Figures.Is p) = is (some p)
 figure Figures.Absent = is none
 figure Figures.Refused = refused 53
 
-unfoldable pub rfdGiven : GivenRfd → Optional Rfd
-rfdGiven (Rfds.Is r) = some r
-rfdGiven Rfds.Absent = none
-
-unfoldable pub csfGiven : GivenCsf → Optional Csf
-csfGiven (Csfs.Is f) = some f
-csfGiven Csfs.Absent = none
-
 -- a formula read from the values of a site, a chemical and a receptor; no factor has a series or a difference in it
 unfoldable pub workedFor : Values → Values → Values → Formula → Outcome Pair
 workedFor s c r f = plain pairs (λ n. is (inputs s c r n)) f
@@ -95,34 +85,43 @@ workedOf r f = workedFor noValues noValues r f
 unfoldable pub factorOf : Effect → Pathway → Values → Values → Values → Outcome Factor
 factorOf e p s c r = mapped (λ (q : Pair). record { 0 = q }) (workedFor s c r (factor e p))
 
--- A for 1, the soil for 2 to 4, the produce for 5 and 6
-unfoldable pub concentrationFor : Pathway → Media → Conc
-concentrationFor p m = byMedium p (m .air) (m .soil) (m .«above_ground») (m .«below_ground»)
+-- factor × concentration is a dose: of soil and produce, of air, and by the pathway, A for 1, the soil for 2 to 4, the produce for 5 and 6
+unfoldable pub doseBy : Outcome Factor → Pair → Outcome Dose
+doseBy f c = mapped (λ (q : Pair). record { 0 = q }) (after product (mapped (λ (g : Factor). g .0) f) (is c))
 
--- the dose: factor × concentration
 unfoldable pub doseOf : Outcome Factor → Conc → Outcome Dose
-doseOf f c = mapped (λ (q : Pair). record { 0 = q }) (after product (mapped (λ (g : Factor). g .0) f) (is (c .0)))
+doseOf f c = doseBy f (c .0)
 
--- the figure of a dose with its reference value; none without one, if the dose is a pair
+unfoldable pub doseOfAir : Outcome Factor → AirConc → Outcome Dose
+doseOfAir f a = doseBy f (a .0)
+
+unfoldable pub doseFor : Pathway → Outcome Factor → Media → Outcome Dose
+doseFor p f m = byMedium p (doseOfAir f (m .air)) (doseOf f (m .soil)) (doseOf f (m .«above_ground»)) (doseOf f (m .«below_ground»))
+
+-- the figure of a dose with its reference value, dose / RfD or dose × CSF; none without one, whatever the dose
 unfoldable pub figureOf : Effect → Outcome Dose → Optional Pair → Outcome (Optional Pair)
 figureOf e d (some v) = mapped (λ (q : Pair). some q) (ofTwo (figureBy e) (mapped (λ (g : Dose). g .0) d) (is v))
-figureOf e d none = mapped (λ (q : Pair). none) (afterOne checked (mapped (λ (g : Dose). g .0) d))
+figureOf e d none = is none
 
-unfoldable pub rfdValue : Optional Rfd → Optional Pair
-rfdValue (some r) = some (r .0)
-rfdValue none = none
+unfoldable pub rfdValue : GivenRfd → Optional Pair
+rfdValue (Rfds.Is r) = some (r .0)
+rfdValue Rfds.Absent = none
 
-unfoldable pub csfValue : Optional Csf → Optional Pair
-csfValue (some f) = some (f .0)
-csfValue none = none
+unfoldable pub csfValue : GivenCsf → Optional Pair
+csfValue (Csfs.Is f) = some (f .0)
+csfValue Csfs.Absent = none
 
--- quotient = dose / RfD
-unfoldable pub quotientOf : Outcome Dose → GivenRfd → Outcome (Optional Pair)
-quotientOf d rfd = figureOf Hazard d (rfdValue (rfdGiven rfd))
+-- what a chemical's slots hold, as reference values: the oral slots at once, the inhaled ones as the air is taken
+unfoldable pub asRfd : Printed → GivenRfd
+asRfd (Prints.Is p) = Rfds.Is (record { 0 = p })
+asRfd Prints.Absent = Rfds.Absent
 
--- risk = dose × CSF
-unfoldable pub riskOf : Outcome Dose → GivenCsf → Outcome (Optional Pair)
-riskOf d csf = figureOf Cancer d (csfValue (csfGiven csf))
+unfoldable pub asCsf : Printed → GivenCsf
+asCsf (Prints.Is p) = Csfs.Is (record { 0 = p })
+asCsf Prints.Absent = Csfs.Absent
+
+unfoldable pub referencesFrom : Printed → Printed → Printed → Printed → References
+referencesFrom RfDo RfDi CSFo CSFi = record { «rfd_o» = asRfd RfDo; «rfd_i» = RfDi; «csf_o» = asCsf CSFo; «csf_i» = CSFi }
 
 -- a line's two figures, each by itself
 pub record Figured : Type 0 where
@@ -131,14 +130,6 @@ pub record Figured : Type 0 where
 
 unfoldable pub figured : Line → Figured
 figured l = record { hazard = figure (l .hazard); cancer = figure (l .cancer) }
-
--- pathway 1 takes RfDi and CSFi, the rest RfDo and CSFo; hazard takes the media of the highest year, cancer those of the mean
-unfoldable pub figuresOf : Pathway → Values → Values → Values → Media → Media → References → Figured
-figuresOf p s c r highest mean refs =
-    record {
-      hazard = quotientOf (doseOf (factorOf Hazard p s c r) (concentrationFor p highest)) (byRoute p (refs .«rfd_i») (refs .«rfd_o»));
-      cancer = riskOf (doseOf (factorOf Cancer p s c r) (concentrationFor p mean)) (byRoute p (refs .«csf_i») (refs .«csf_o»));
-    }
 
 -- ---- pathway 1 by the guidance of 2009
 unfoldable pub timed : Timed → Outcome TimeShare
@@ -149,50 +140,35 @@ unfoldable pub exposed : Exposed → Outcome AirExposure
 exposed (Exposures.Is x) = is x
 exposed Exposures.Refused = refused 53
 
-unfoldable pub rfcGiven : GivenRfc → Optional Rfc
-rfcGiven (Rfcs.Is r) = some r
-rfcGiven Rfcs.Absent = none
+unfoldable pub rfcValue : GivenRfc → Optional Pair
+rfcValue (Rfcs.Is r) = some (r .0)
+rfcValue Rfcs.Absent = none
 
-unfoldable pub unitRiskGiven : GivenUnitRisk → Optional UnitRisk
-unitRiskGiven (UnitRisks.Is r) = some r
-unitRiskGiven UnitRisks.Absent = none
+unfoldable pub unitRiskValue : GivenUnitRisk → Optional Pair
+unitRiskValue (UnitRisks.Is r) = some (r .0)
+unitRiskValue UnitRisks.Absent = none
 
-unfoldable pub rfcValue : Optional Rfc → Optional Pair
-rfcValue (some r) = some (r .0)
-rfcValue none = none
+-- the slots RfDi and CSFi hold a reference concentration and a unit risk then
+unfoldable pub asRfc : Printed → GivenRfc
+asRfc (Prints.Is p) = Rfcs.Is (record { 0 = p })
+asRfc Prints.Absent = Rfcs.Absent
 
-unfoldable pub unitRiskValue : Optional UnitRisk → Optional Pair
-unitRiskValue (some r) = some (r .0)
-unitRiskValue none = none
-
-unfoldable pub asRfc : GivenRfd → GivenRfc
-asRfc (Rfds.Is r) = Rfcs.Is (record { 0 = r .0 })
-asRfc Rfds.Absent = Rfcs.Absent
-
-unfoldable pub asUnitRisk : GivenCsf → GivenUnitRisk
-asUnitRisk (Csfs.Is f) = UnitRisks.Is (record { 0 = f .0 })
-asUnitRisk Csfs.Absent = UnitRisks.Absent
+unfoldable pub asUnitRisk : Printed → GivenUnitRisk
+asUnitRisk (Prints.Is p) = UnitRisks.Is (record { 0 = p })
+asUnitRisk Prints.Absent = UnitRisks.Absent
 
 -- the share of the averaging time that a receptor spends in the air, as the page writes it
 unfoldable pub timeShareOf : Effect → Values → Outcome TimeShare
 timeShareOf e r = mapped (λ (q : Pair). record { 0 = q }) (workedOf r (timeShare e))
 
 -- the exposure concentration: share of time × the air's concentration
-unfoldable pub airExposureOf : Outcome TimeShare → Conc → Outcome AirExposure
-airExposureOf t c = mapped (λ (q : Pair). record { 0 = q }) (after product (mapped (λ (g : TimeShare). g .0) t) (is (c .0)))
+unfoldable pub airExposureOf : Outcome TimeShare → AirConc → Outcome AirExposure
+airExposureOf t a = mapped (λ (q : Pair). record { 0 = q }) (after product (mapped (λ (g : TimeShare). g .0) t) (is (a .0)))
 
--- its figure with a reference value; none without one, if it is a pair
+-- its figure with a reference value, exposure concentration / reference concentration or exposure concentration × 1000 × unit risk; none without one, whatever the share of time
 unfoldable pub airFigureOf : Effect → Outcome AirExposure → Optional Pair → Outcome (Optional Pair)
 airFigureOf e x (some v) = mapped (λ (q : Pair). some q) (ofTwo (airFigureBy e) (mapped (λ (g : AirExposure). g .0) x) (is v))
-airFigureOf e x none = mapped (λ (q : Pair). none) (afterOne checked (mapped (λ (g : AirExposure). g .0) x))
-
--- quotient = exposure concentration / reference concentration
-unfoldable pub airQuotientOf : Outcome AirExposure → GivenRfc → Outcome (Optional Pair)
-airQuotientOf x rfc = airFigureOf Hazard x (rfcValue (rfcGiven rfc))
-
--- risk = exposure concentration × 1000 × unit risk
-unfoldable pub airRiskOf : Outcome AirExposure → GivenUnitRisk → Outcome (Optional Pair)
-airRiskOf x unitRisk = airFigureOf Cancer x (unitRiskValue (unitRiskGiven unitRisk))
+airFigureOf e x none = is none
 
 -- the shares of time of a receptor's lines, hazard's and cancer's
 pub record SharesOfTime : Type 0 where
@@ -205,22 +181,13 @@ sharesOfTime t = record { hazard = timed (t .hazard); cancer = timed (t .cancer)
 unfoldable pub inAirOf : Values → SharesOfTime
 inAirOf r = record { hazard = timeShareOf Hazard r; cancer = timeShareOf Cancer r }
 
--- an exposure concentration that is worked only where it has a reference value: none without one, whatever the share of time
-unfoldable pub airFigureIfGiven : Effect → Outcome AirExposure → Optional Pair → Outcome (Optional Pair)
-airFigureIfGiven e x (some v) = airFigureOf e x (some v)
-airFigureIfGiven e x none = is none
-
 -- the two figures of the line, from the receptor's shares of time
-unfoldable pub airFiguresWith : SharesOfTime → Conc → AirReferences → Figured
+unfoldable pub airFiguresWith : SharesOfTime → AirConc → References → Figured
 airFiguresWith t air refs =
     record {
-      hazard = airFigureIfGiven Hazard (airExposureOf (t .hazard) air) (rfcValue (rfcGiven (refs .rfc)));
-      cancer = airFigureIfGiven Cancer (airExposureOf (t .cancer) air) (unitRiskValue (unitRiskGiven (refs .«unit_risk»)));
+      hazard = airFigureOf Hazard (airExposureOf (t .hazard) air) (rfcValue (asRfc (refs .«rfd_i»)));
+      cancer = airFigureOf Cancer (airExposureOf (t .cancer) air) (unitRiskValue (asUnitRisk (refs .«csf_i»)));
     }
-
--- the slots RfDi and CSFi hold a reference concentration and a unit risk then
-unfoldable pub airReferencesOf : References → AirReferences
-airReferencesOf refs = record { rfc = asRfc (refs .«rfd_i»); «unit_risk» = asUnitRisk (refs .«csf_i») }
 
 -- how the air is taken: as a dose, by the guidance of 2005, or by that of 2009 over a share of time
 pub data Breathed : Type 0 where
@@ -301,24 +268,20 @@ exposureWith h p s a r = exposureFrom (begunIn h r p) p s a r
 unfoldable pub factorWith : Outcome Pair → Outcome Pair → Outcome Factor
 factorWith exposure base = mapped (λ (q : Pair). record { 0 = q }) (after quotient exposure base)
 
--- the figure of a dose that is worked only where it has a reference value: none without one, whatever the dose
-unfoldable pub figureIfGiven : Effect → Outcome Dose → Optional Pair → Outcome (Optional Pair)
-figureIfGiven e d (some v) = figureOf e d (some v)
-figureIfGiven e d none = is none
-
--- the two figures of a line of an intake, from what its receptor's lines share
+-- the two figures of a line of an intake, from what its receptor's lines share: pathway 1 takes RfDi and CSFi, the rest RfDo and CSFo; hazard takes the media of the
+-- highest year, cancer those of the mean
 unfoldable pub doseFiguresWith : Shared → Pathway → Values → Absorbed → Values → Media → Media → References → Figured
 doseFiguresWith h p s a r highest mean refs =
     let exposure : Outcome Pair = exposureWith h p s a r in
     record {
-      hazard = figureIfGiven Hazard (doseOf (factorWith exposure (baseIn h Hazard)) (concentrationFor p highest)) (rfdValue (rfdGiven (byRoute p (refs .«rfd_i») (refs .«rfd_o»))));
-      cancer = figureIfGiven Cancer (doseOf (factorWith exposure (baseIn h Cancer)) (concentrationFor p mean)) (csfValue (csfGiven (byRoute p (refs .«csf_i») (refs .«csf_o»))));
+      hazard = figureOf Hazard (doseFor p (factorWith exposure (baseIn h Hazard)) highest) (rfdValue (byRoute p (asRfd (refs .«rfd_i»)) (refs .«rfd_o»)));
+      cancer = figureOf Cancer (doseFor p (factorWith exposure (baseIn h Cancer)) mean) (csfValue (byRoute p (asCsf (refs .«csf_i»)) (refs .«csf_o»)));
     }
 
 -- a line's two figures: of an intake, or where the air is taken over a share of time, pathway 1's from that
-unfoldable pub figuresBy : Breathed → Pathway → Conc → References → Figured → Figured
+unfoldable pub figuresBy : Breathed → Pathway → AirConc → References → Figured → Figured
 figuresBy byDose p air refs dosed = dosed
-figuresBy (byTime t) p air refs dosed = byRoute p (airFiguresWith t air (airReferencesOf refs)) dosed
+figuresBy (byTime t) p air refs dosed = byRoute p (airFiguresWith t air refs) dosed
 
 unfoldable pub figuresWith : Shared → Pathway → Values → Absorbed → Values → Media → Media → References → Figured
 figuresWith h p s a r highest mean refs = figuresBy (h .air) p (highest .air) refs (doseFiguresWith h p s a r highest mean refs)

@@ -1,11 +1,11 @@
 //! What stands above and below the bar of an intake factor (document 01, "Six pathways").
 use crate::Absorbed;
+use crate::Habits;
 use crate::air::averaging_time;
 use equations::Effect;
 use equations::Pathway;
 use equations::Values;
 use pair::Answer;
-use pair::Number;
 use pair::Pair;
 use pair::Step;
 use slots::AF_DERM;
@@ -33,24 +33,20 @@ use slots::SAF_B;
 use slots::SAF_H;
 use slots::WP;
 ghost use mathlib.Core.Path.{_≡_};
-ghost use Rattle.pair.specs.Calls.{answer, is, after, product};
+ghost use lib.IntN.{negsuc};
+ghost use Rattle.pair.specs.Calls.{answer, is, after, product, entry};
 ghost use Rattle.equations.specs.Page as page;
 ghost use Rattle.equations.specs.declared.Pathway.the-variants.{Air, SoilSummer, SoilWinter, Skin, AboveGround};
 ghost use Rattle.equations.specs.Ahead.{ahead};
 ghost use Rattle.pathway.specs.Inner.{each, Takes};
-ghost use Rattle.pathway.specs.Lines.{workedFor, workedOf, absorbedOf, exposureFrom};
+ghost use Rattle.pathway.specs.Lines.{workedOf, absorbedOf, shared, begunIn, exposureFrom};
 
 // 0.000001, kg/mg.
-const PER_MILLION: Pair = Pair {
-    low: Number {
-        significand: 100_000_000,
-        exponent: -14,
-    },
-    high: Number {
-        significand: 100_000_000,
-        exponent: -14,
-    },
-};
+fn per_million() -> Answer
+    ensures { λ a. ⌜ answer a ≡ entry 1 (negsuc 5) ⌝ }
+{
+    Pair::entry(1, -6)
+}
 
 // B = BW × AT.
 pub(crate) fn base_of(r: Values, effect: Effect) -> Answer
@@ -107,6 +103,20 @@ pub(crate) fn begun_of(r: Values, pathway: Pathway) -> Answer
     }
 }
 
+// The same, worked for the receptor's lines together where it is the same for each chemical.
+pub(crate) fn begun_in(habits: Habits, receptor: Values, pathway: Pathway) -> Answer
+    ensures { λ r. ⌜ answer r ≡ begunIn (shared habits) receptor pathway ⌝ }
+{
+    match pathway {
+        Pathway::Air => begun_of(receptor, Pathway::Air),
+        Pathway::SoilSummer => begun_of(receptor, Pathway::SoilSummer),
+        Pathway::SoilWinter => begun_of(receptor, Pathway::SoilWinter),
+        Pathway::Skin => habits.skin,
+        Pathway::AboveGround => habits.above_ground,
+        Pathway::BelowGround => habits.below_ground,
+    }
+}
+
 fn times_three(x: Answer, a: Pair, b: Pair, c: Pair) -> Answer
     ensures { λ r. ⌜ answer r ≡ after product (after product (after product (answer x) (is a)) (is b)) (is c) ⌝ }
 {
@@ -124,21 +134,23 @@ fn soil_summer(s: Values, r: Values, share: Pair, begun: Answer) -> Answer
     ensures { λ a. ⌜ answer a ≡ exposureFrom (answer begun) SoilSummer s (each share) r ⌝ }
 {
     let eaten = times_three(begun, share, r.value(ET_SOIL), r.value(EF_S));
-    eaten.times(r.at(ED)).times(PER_MILLION.answer())
+    eaten.times(r.at(ED)).times(per_million())
 }
 
 fn soil_winter(s: Values, r: Values, share: Pair, begun: Answer) -> Answer
     ensures { λ a. ⌜ answer a ≡ exposureFrom (answer begun) SoilWinter s (each share) r ⌝ }
 {
     let eaten = times_three(begun, share, s.value(FR_SNOW), r.value(ET_SOIL));
-    times_three(eaten, r.value(EF_W), r.value(ED), PER_MILLION)
+    eaten.times(r.at(EF_W))
+        .times(r.at(ED))
+        .times(per_million())
 }
 
 fn skin(s: Values, r: Values, share: Pair, begun: Answer) -> Answer
     ensures { λ a. ⌜ answer a ≡ exposureFrom (answer begun) Skin s (each share) r ⌝ }
 {
     let taken = times_three(begun, share, r.value(ET_DERM), r.value(EF_S));
-    taken.times(r.at(ED)).times(PER_MILLION.answer())
+    taken.times(r.at(ED)).times(per_million())
 }
 
 fn produce(s: Values, r: Values, share: Pair, begun: Answer) -> Answer
@@ -165,16 +177,4 @@ pub(crate) fn exposure_from(
         Pathway::AboveGround => produce(s, r, share, begun),
         Pathway::BelowGround => produce(s, r, share, begun),
     }
-}
-
-pub(crate) fn exposure_of(s: Values, c: Values, r: Values, pathway: Pathway) -> Answer
-    ensures { λ a. ⌜ answer a ≡ workedFor s c r (page.exposure pathway) ⌝ }
-{
-    exposure_from(
-        s,
-        r,
-        pathway,
-        share_of(pathway, absorbed_of(c)),
-        begun_of(r, pathway),
-    )
 }

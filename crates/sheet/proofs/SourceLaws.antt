@@ -24,7 +24,7 @@ use Rattle.equations.proofs.Guided.{by-medium, by-route, on-route, routed}
 use Rattle.equations.proofs.Pathways.{pathways, passes, onEach, on-line}
 use Rattle.equations.proofs.AheadLaws.{plain-worked}
 use Rattle.equations.specs.Readings.{Inputs, letters, noGrowth, plainWith, plain, asAnswers, worked, byOwner, inputs}
-use Rattle.media.specs.declared.Conc.{Conc}
+use Rattle.media.specs.declared.AirConc.{AirConc}
 use Rattle.media.specs.declared.Media.{Media}
 use Rattle.media.specs.declared.Ground.{Ground}
 use Rattle.media.specs.Media.{mediaInputs, mediaIn, groundOf, meanMedia, noMedia}
@@ -32,9 +32,9 @@ use Rattle.media.proofs.Means.{Told, four-told, ground-highest, mean-media}
 use Rattle.pathway.specs.declared.Factor.{Factor}
 use Rattle.pathway.specs.declared.Dose.{Dose}
 use Rattle.pathway.specs.declared.References.{References}
-use Rattle.pathway.specs.Lines.{Optional, some, none, Figured, workedFor, workedOf, factorOf, concentrationFor, doseOf, figureOf, rfdGiven, csfGiven, rfdValue, csfValue, rfcGiven, unitRiskGiven, rfcValue, unitRiskValue, asRfc, asUnitRisk, timeShareOf, airExposureOf, inAirOf, airFigureIfGiven, airFiguresWith, airReferencesOf, breathedBy, absorbedOf, habitsOf, figureIfGiven, doseFiguresWith, figuresBy, figuresWith}
+use Rattle.pathway.specs.Lines.{Optional, some, none, Figured, workedFor, workedOf, factorOf, doseFor, figureOf, rfdValue, csfValue, asRfd, asCsf, referencesFrom, rfcValue, unitRiskValue, asRfc, asUnitRisk, timeShareOf, airExposureOf, inAirOf, airFigureOf, airFiguresWith, breathedBy, absorbedOf, habitsOf, doseFiguresWith, figuresBy, figuresWith}
 use Rattle.pathway.proofs.Carried.{pair-back}
-use Rattle.pathway.proofs.HabitLaws.{own-factor}
+use Rattle.pathway.proofs.HabitLaws.{own-factor, mediumIn, dose-pair}
 use Rattle.pathway.proofs.AirLaws.{time-share-alike, air-figure-page}
 use Rattle.cases.specs.declared.Record.{Record}
 use Rattle.cases.specs.declared.Value.{Value}
@@ -45,7 +45,7 @@ use Rattle.sheet.specs.declared.Source.{Source}
 use Rattle.scenario.specs.Scenario.{isRefused, Scenario, pairOf, restOf, valuesOf, particlesOf, noReceptor, chemicalIn, receptorIn, stayIn, guidanceIn, givenIn, pairsAt, siteOf}
 use Rattle.sheet.specs.Sheet.{isGiven, hasReference, figureAt, unitOf, capOf, countedIn, columnsAt, highAbove, unworked, overCap}
 use Rattle.sheet.specs.Counts.{groundFor, meanWith, meanFor, stopsAt}
-use Rattle.sheet.specs.Inner.{columnsOf, aboveCap, mediaFrom, groundWith, meansOf, rfdOf, csfOf, referencesOf, sourceWith, sourceFrom, sourceOf, meanAt, figuresFrom, figureFor}
+use Rattle.sheet.specs.Inner.{columnsOf, aboveCap, mediaFrom, groundWith, meansOf, printedAs, referencesOf, sourceWith, sourceFrom, sourceOf, meanAt, figuresFrom, figureFor}
 use Rattle.lists.proofs.Tabulated.{filled-at}
 use Rattle.lists.proofs.AnyOf.{none-of}
 use Rattle.scenario.proofs.InputLaws.{OfSource, pair-printed}
@@ -110,10 +110,10 @@ module _ (scenario : Scenario) (j i : ℕ) (ground : Ground) (laid : groundFor s
   unfolding mediaIn
   media-told e = four-told _ _ _ _ (mediaBy e (ground .highest) mean) (media-page e)
 
-  medium-told : (e : Effect) (p : Pathway) → worked (pairsAt scenario j i) (page.medium e (stayIn scenario j) p) ≡ is (concentrationFor p (mediaBy e (ground .highest) mean) .0)
-  unfolding page.medium concentrationFor
+  medium-told : (e : Effect) (p : Pathway) → worked (pairsAt scenario j i) (page.medium e (stayIn scenario j) p) ≡ is (mediumIn p (mediaBy e (ground .highest) mean))
+  unfolding page.medium mediumIn
   medium-told e p =
-      by-medium (λ q (f : Formula) (c : Conc). worked (pairsAt scenario j i) f ≡ is (c .0)) (media-told e .air) p (media-told e .soil) (media-told e .above) (media-told e .below)
+      by-medium (λ q (f : Formula) (c : Pair). worked (pairsAt scenario j i) f ≡ is c) (media-told e .air) p (media-told e .soil) (media-told e .above) (media-told e .below)
 
 -- ---- the factors, in which neither a series nor a difference stands
 factor-slots : (e : Effect) (stay : Stay) (p : Pathway) → only (aSlot (λ n. true)) (page.factor e p) ≡ true
@@ -127,15 +127,15 @@ factor-read e p scenario j i = plain-worked (pairsAt scenario j i) (page.factor 
 
 -- ---- a dose
 -- the dose as a pair is the page's intake
-module _ (scenario : Scenario) (j i : ℕ) (e : Effect) (p : Pathway) (m : Conc) (medium-is : worked (pairsAt scenario j i) (page.medium e (stayIn scenario j) p) ≡ is (m .0)) where
+module _ (scenario : Scenario) (j i : ℕ) (e : Effect) (p : Pathway) (m : Media) (medium-is : worked (pairsAt scenario j i) (page.medium e (stayIn scenario j) p) ≡ is (mediumIn p m)) where
   factor : Outcome Factor
   factor = factorOf e p (valuesOf (scenario .site)) (valuesOf (chemicalIn scenario i)) (receptorIn scenario j .values)
 
-  dose-is : mapped (λ (g : Dose). g .0) (doseOf factor m) ≡ worked (pairsAt scenario j i) (page.intake e (stayIn scenario j) p)
-  unfolding factor doseOf factorOf page.intake worked read pairs
+  dose-is : mapped (λ (g : Dose). g .0) (doseFor p factor m) ≡ worked (pairsAt scenario j i) (page.intake e (stayIn scenario j) p)
+  unfolding factor factorOf page.intake worked read pairs
   dose-is =
-      pair-back (λ (g : Dose). g .0) (λ (q : Pair). record { 0 = q }) (λ q. refl) (after product (mapped (λ (g : Factor). g .0) factor) (is (m .0)))
-      ∙ ap (λ (o : Outcome Pair). after product o (is (m .0)))
+      dose-pair p factor m
+      ∙ ap (λ (o : Outcome Pair). after product o (is (mediumIn p m)))
       (pair-back (λ (g : Factor). g .0) (λ (q : Pair). record { 0 = q }) (λ q. refl) (workedFor (valuesOf (scenario .site)) (valuesOf (chemicalIn scenario i)) (receptorIn scenario j .values) (page.factor e p)) ∙ factor-read e p scenario j i)
       ∙ ap (λ (o : Outcome Pair). after product (worked (pairsAt scenario j i) (page.factor e p)) o) (sym medium-is)
 
@@ -149,13 +149,13 @@ optional : Value → Optional Pair
 optional Absent = none
 optional (Given power digits) = some (pairOf (Given power digits))
 
-rfd-optional : (v : Value) → rfdValue (rfdGiven (rfdOf v)) ≡ optional v
-unfolding rfdValue rfdGiven rfdOf optional
+rfd-optional : (v : Value) → rfdValue (asRfd (printedAs v)) ≡ optional v
+unfolding rfdValue asRfd printedAs optional
 rfd-optional Absent = refl
 rfd-optional (Given power digits) = refl
 
-csf-optional : (v : Value) → csfValue (csfGiven (csfOf v)) ≡ optional v
-unfolding csfValue csfGiven csfOf optional
+csf-optional : (v : Value) → csfValue (asCsf (printedAs v)) ≡ optional v
+unfolding csfValue asCsf printedAs optional
 csf-optional Absent = refl
 csf-optional (Given power digits) = refl
 
@@ -177,14 +177,14 @@ reference-source Cancer p = on-route (λ (s : Slot). OfSource (ownerOf s)) p "CS
 
 -- the figure of an intake's line from its dose and what is printed for its reference value
 figure-for : (y : Guidance) (e : Effect) (p : Pathway) (s c r : Values) (m n : Media) (chemical : Record) →
-    figureFor e (doseFiguresWith (habitsOf y r) p s (absorbedOf c) r m n (referencesOf chemical)) ≡ figureIfGiven e (doseOf (factorOf e p s c r) (concentrationFor p (mediaBy e m n))) (optional (referenceAt e p chemical))
-unfolding figureFor doseFiguresWith referencesOf referenceAt mediaBy
+    figureFor e (doseFiguresWith (habitsOf y r) p s (absorbedOf c) r m n (referencesOf chemical)) ≡ figureOf e (doseFor p (factorOf e p s c r) (mediaBy e m n)) (optional (referenceAt e p chemical))
+unfolding figureFor doseFiguresWith referencesOf referencesFrom referenceAt mediaBy
 figure-for y Hazard p s c r m n chemical =
-    ap₂ (λ (f : Outcome Factor) (v : Optional Pair). figureIfGiven Hazard (doseOf f (concentrationFor p m)) v) (own-factor y Hazard p s c r)
-    (ap (λ x. rfdValue (rfdGiven x)) (sym (routed rfdOf p (valueAt chemical (placeOf "RfDi")) (valueAt chemical (placeOf "RfDo")))) ∙ rfd-optional (referenceAt Hazard p chemical))
+    ap₂ (λ (f : Outcome Factor) (v : Optional Pair). figureOf Hazard (doseFor p f m) v) (own-factor y Hazard p s c r)
+    (ap rfdValue (sym (routed (λ v. asRfd (printedAs v)) p (valueAt chemical (placeOf "RfDi")) (valueAt chemical (placeOf "RfDo")))) ∙ rfd-optional (referenceAt Hazard p chemical))
 figure-for y Cancer p s c r m n chemical =
-    ap₂ (λ (f : Outcome Factor) (v : Optional Pair). figureIfGiven Cancer (doseOf f (concentrationFor p n)) v) (own-factor y Cancer p s c r)
-    (ap (λ x. csfValue (csfGiven x)) (sym (routed csfOf p (valueAt chemical (placeOf "CSFi")) (valueAt chemical (placeOf "CSFo")))) ∙ csf-optional (referenceAt Cancer p chemical))
+    ap₂ (λ (f : Outcome Factor) (v : Optional Pair). figureOf Cancer (doseFor p f n) v) (own-factor y Cancer p s c r)
+    (ap csfValue (sym (routed (λ v. asCsf (printedAs v)) p (valueAt chemical (placeOf "CSFi")) (valueAt chemical (placeOf "CSFo")))) ∙ csf-optional (referenceAt Cancer p chemical))
 
 -- its columns and its cap
 columns-some : (e : Effect) (o : Outcome Pair) → columnsOf e (mapped (λ (q : Pair). some q) o) ≡ countedIn (unitOf e) o
@@ -226,21 +226,21 @@ unfolding worked asAnswers ofTwo plain plainWith same read pairs letters page.ai
 air-line-by Hazard v = refl
 air-line-by Cancer v = refl
 
-rfc-optional : (v : Value) → rfcValue (rfcGiven (asRfc (rfdOf v))) ≡ optional v
-unfolding rfcValue rfcGiven asRfc rfdOf optional
+rfc-optional : (v : Value) → rfcValue (asRfc (printedAs v)) ≡ optional v
+unfolding rfcValue asRfc printedAs optional
 rfc-optional Absent = refl
 rfc-optional (Given power digits) = refl
 
-unit-risk-optional : (v : Value) → unitRiskValue (unitRiskGiven (asUnitRisk (csfOf v))) ≡ optional v
-unfolding unitRiskValue unitRiskGiven asUnitRisk csfOf optional
+unit-risk-optional : (v : Value) → unitRiskValue (asUnitRisk (printedAs v)) ≡ optional v
+unfolding unitRiskValue asUnitRisk printedAs optional
 unit-risk-optional Absent = refl
 unit-risk-optional (Given power digits) = refl
 
-air-figure-for : (e : Effect) (r : Values) (air : Conc) (chemical : Record) →
-    figureFor e (airFiguresWith (inAirOf r) air (airReferencesOf (referencesOf chemical))) ≡ airFigureIfGiven e (airExposureOf (timeShareOf e r) air) (optional (referenceAt e Air chemical))
-unfolding figureFor airFiguresWith inAirOf airReferencesOf referencesOf referenceAt byRoute byMedium
-air-figure-for Hazard r air chemical = ap (airFigureIfGiven Hazard (airExposureOf (timeShareOf Hazard r) air)) (rfc-optional (valueAt chemical (placeOf "RfDi")))
-air-figure-for Cancer r air chemical = ap (airFigureIfGiven Cancer (airExposureOf (timeShareOf Cancer r) air)) (unit-risk-optional (valueAt chemical (placeOf "CSFi")))
+air-figure-for : (e : Effect) (r : Values) (air : AirConc) (chemical : Record) →
+    figureFor e (airFiguresWith (inAirOf r) air (referencesOf chemical)) ≡ airFigureOf e (airExposureOf (timeShareOf e r) air) (optional (referenceAt e Air chemical))
+unfolding figureFor airFiguresWith inAirOf referencesOf referencesFrom referenceAt byRoute byMedium
+air-figure-for Hazard r air chemical = ap (airFigureOf Hazard (airExposureOf (timeShareOf Hazard r) air)) (rfc-optional (valueAt chemical (placeOf "RfDi")))
+air-figure-for Cancer r air chemical = ap (airFigureOf Cancer (airExposureOf (timeShareOf Cancer r) air)) (unit-risk-optional (valueAt chemical (placeOf "CSFi")))
 
 -- ---- a line of a scenario whose chemical does not stop it
 -- figures are a formula's, for one effect: their columns and their cap
@@ -269,14 +269,14 @@ module _ (scenario : Scenario) (j i : ℕ) (e : Effect) (ground : Ground) (laid 
     dosed = doseFiguresWith (habitsOf y receptor′) p site′ (absorbedOf chemical′) receptor′ (ground .highest) mean references′
 
     dose : Outcome Dose
-    dose = doseOf (factorOf e p site′ chemical′ receptor′) (concentrationFor p (mediaBy e (ground .highest) mean))
+    dose = doseFor p (factorOf e p site′ chemical′ receptor′) (mediaBy e (ground .highest) mean)
 
     value : Value
     value = givenIn scenario i (referenceSlot e p)
 
     intake-is : mapped (λ (g : Dose). g .0) dose ≡ worked (pairsAt scenario j i) (page.intake e (stayIn scenario j) p)
     unfolding dose factor site′ chemical′ receptor′
-    intake-is = dose-is scenario j i e p (concentrationFor p (mediaBy e (ground .highest) mean)) (medium-told scenario j i ground laid mean mean-is e p)
+    intake-is = dose-is scenario j i e p (mediaBy e (ground .highest) mean) (medium-told scenario j i ground laid mean mean-is e p)
 
     figure-is : ofTwo (figureBy e) (mapped (λ (g : Dose). g .0) dose) (is (pairOf value)) ≡ worked (pairsAt scenario j i) (page.intakeLine e (stayIn scenario j) p)
     unfolding value
@@ -285,27 +285,27 @@ module _ (scenario : Scenario) (j i : ℕ) (e : Effect) (ground : Ground) (laid 
         ∙ ap (λ (q : Pair). ofTwo (figureBy e) (worked (pairsAt scenario j i) (page.intake e (stayIn scenario j) p)) (is q)) (sym (pair-printed scenario j i (referenceSlot e p) (reference-source e p)))
         ∙ sym (line-by e (stayIn scenario j) p (pairsAt scenario j i))
 
-    figured : figureFor e dosed ≡ figureIfGiven e dose (optional value)
+    figured : figureFor e dosed ≡ figureOf e dose (optional value)
     unfolding dosed dose value site′ chemical′ receptor′ references′
     figured =
         figure-for y e p site′ chemical′ receptor′ (ground .highest) mean (chemicalIn scenario i)
-        ∙ ap (λ (v : Value). figureIfGiven e dose (optional v)) (sym (reference-printed scenario i e p))
+        ∙ ap (λ (v : Value). figureOf e dose (optional v)) (sym (reference-printed scenario i e p))
 
     intake-agrees : Agrees scenario j i e p dosed (page.intakeLine e (stayIn scenario j) p)
-    unfolding hasReference value figureIfGiven figureOf
+    unfolding hasReference value figureOf
     intake-agrees =
-        let c = figure-columns e (figureIfGiven e dose) (λ v. ofTwo (figureBy e) (mapped (λ (g : Dose). g .0) dose) (is v)) refl (λ v. refl) value in (
+        let c = figure-columns e (figureOf e dose) (λ v. ofTwo (figureBy e) (mapped (λ (g : Dose). g .0) dose) (is v)) refl (λ v. refl) value in (
           ap (columnsOf e) figured ∙ c .0 ∙ ap (λ (o : Outcome Pair). cond (isGiven value) (countedIn (unitOf e) o) Cols.Absent) figure-is,
           ap (aboveCap e) figured ∙ c .1 ∙ ap (λ (o : Outcome Pair). isGiven value && highAbove (capOf e) o) figure-is,
           ap isRefused figured ∙ c .2 ∙ ap (λ (o : Outcome Pair). isGiven value && isRefused o) figure-is,
         )
 
   -- of a concentration in air
-  air : Conc
+  air : AirConc
   air = ground .highest .air
 
   inAir : Figured
-  inAir = airFiguresWith (inAirOf receptor′) air (airReferencesOf references′)
+  inAir = airFiguresWith (inAirOf receptor′) air references′
 
   inhaled : Value
   inhaled = givenIn scenario i (referenceSlot e Air)
@@ -319,16 +319,16 @@ module _ (scenario : Scenario) (j i : ℕ) (e : Effect) (ground : Ground) (laid 
       ∙ ap (λ (v : Pair). figure (worked (pairsAt scenario j i) (page.timeShare e)) (worked (pairsAt scenario j i) page.A) v) (sym (pair-printed scenario j i (referenceSlot e Air) (reference-source e Air)))
       ∙ sym (air-line-by e (pairsAt scenario j i))
 
-  air-figured : figureFor e inAir ≡ airFigureIfGiven e (airExposureOf (timeShareOf e receptor′) air) (optional inhaled)
+  air-figured : figureFor e inAir ≡ airFigureOf e (airExposureOf (timeShareOf e receptor′) air) (optional inhaled)
   unfolding inAir inhaled references′
   air-figured =
       air-figure-for e receptor′ air (chemicalIn scenario i)
-      ∙ ap (λ (v : Value). airFigureIfGiven e (airExposureOf (timeShareOf e receptor′) air) (optional v)) (sym (reference-printed scenario i e Air))
+      ∙ ap (λ (v : Value). airFigureOf e (airExposureOf (timeShareOf e receptor′) air) (optional v)) (sym (reference-printed scenario i e Air))
 
   air-agrees : Agrees scenario j i e Air inAir (page.airLine e)
-  unfolding hasReference inhaled airFigureIfGiven timeShareOf
+  unfolding hasReference inhaled airFigureOf timeShareOf
   air-agrees =
-      let c = figure-columns e (airFigureIfGiven e (airExposureOf (timeShareOf e receptor′) air)) (λ v. ofTwo (airFigureBy e) (after product (workedOf receptor′ (page.timeShare e)) (is (air .0))) (is v))
+      let c = figure-columns e (airFigureOf e (airExposureOf (timeShareOf e receptor′) air)) (λ v. ofTwo (airFigureBy e) (after product (workedOf receptor′ (page.timeShare e)) (is (air .0))) (is v))
       refl (λ v. air-figure-page e (workedOf receptor′ (page.timeShare e)) (air .0) v) inhaled in (
         ap (columnsOf e) air-figured ∙ c .0 ∙ ap (λ (o : Outcome Pair). cond (isGiven inhaled) (countedIn (unitOf e) o) Cols.Absent) air-is,
         ap (aboveCap e) air-figured ∙ c .1 ∙ ap (λ (o : Outcome Pair). isGiven inhaled && highAbove (capOf e) o) air-is,

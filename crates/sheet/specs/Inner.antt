@@ -19,12 +19,10 @@ use Rattle.equations.specs.declared.Values.{Values}
 use Rattle.media.specs.declared.Media.{Media}
 use Rattle.media.specs.declared.Ground.{Ground}
 use Rattle.media.specs.Media.{mediaInputs, groundOf, noMedia}
-use Rattle.pathway.specs.declared.GivenRfd.{GivenRfd}
-use Rattle.pathway.specs.declared.GivenRfd.the-variants as Rfds
-use Rattle.pathway.specs.declared.GivenCsf.{GivenCsf}
-use Rattle.pathway.specs.declared.GivenCsf.the-variants as Csfs
+use Rattle.pathway.specs.declared.Printed.{Printed}
+use Rattle.pathway.specs.declared.Printed.the-variants as Prints
 use Rattle.pathway.specs.declared.References.{References}
-use Rattle.pathway.specs.Lines.{Optional, some, none, Figured, absorbedOf, habitsOf, figuresWith}
+use Rattle.pathway.specs.Lines.{Optional, some, none, Figured, absorbedOf, referencesFrom, habitsOf, figuresWith}
 use Rattle.cases.specs.declared.Chemicals.{Chemicals}
 use Rattle.cases.specs.declared.Record.{Record}
 use Rattle.cases.specs.declared.Value.{Value}
@@ -75,22 +73,14 @@ meansOf site′ chemical′ receptors′ ground =
 unfoldable pub noMeans : List Media
 noMeans = replicate mostReceptors noMedia
 
-unfoldable pub rfdOf : Value → GivenRfd
-rfdOf Absent = Rfds.Absent
-rfdOf (Given power digits) = Rfds.Is (record { 0 = pairOf (Given power digits) })
-
-unfoldable pub csfOf : Value → GivenCsf
-csfOf Absent = Csfs.Absent
-csfOf (Given power digits) = Csfs.Is (record { 0 = pairOf (Given power digits) })
+-- what a slot holds for a reference value
+unfoldable pub printedAs : Value → Printed
+printedAs Absent = Prints.Absent
+printedAs (Given power digits) = Prints.Is (pairOf (Given power digits))
 
 unfoldable pub referencesOf : Record → References
 referencesOf r =
-    record {
-      «rfd_o» = rfdOf (valueAt r (placeOf "RfDo"));
-      «rfd_i» = rfdOf (valueAt r (placeOf "RfDi"));
-      «csf_o» = csfOf (valueAt r (placeOf "CSFo"));
-      «csf_i» = csfOf (valueAt r (placeOf "CSFi"));
-    }
+    referencesFrom (printedAs (valueAt r (placeOf "RfDo"))) (printedAs (valueAt r (placeOf "RfDi"))) (printedAs (valueAt r (placeOf "CSFo"))) (printedAs (valueAt r (placeOf "CSFi")))
 
 unfoldable pub sourceWith : Record → Media → List Media → Source
 sourceWith chemical′ highest means′ = record { absorbed = absorbedOf (valuesOf chemical′); media = highest; means = means′; references = referencesOf chemical′ }

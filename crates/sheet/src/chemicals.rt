@@ -12,10 +12,9 @@ use media::ground_of;
 use media::mean_concentrations;
 use pair::Pair;
 use pathway::Absorbed;
-use pathway::GivenCsf;
-use pathway::GivenRfd;
-use pathway::References;
+use pathway::Printed;
 use pathway::absorbed_of;
+use pathway::references_from;
 use scenario::Receptor;
 use scenario::Receptors;
 use scenario::particles_of;
@@ -59,12 +58,8 @@ struct Sourced {
 fn no_source() -> Source
     ensures { λ r. ⌜ r ≡ noSource ⌝ }
 {
-    let references = References {
-        rfd_o: GivenRfd::Absent,
-        rfd_i: GivenRfd::Absent,
-        csf_o: GivenCsf::Absent,
-        csf_i: GivenCsf::Absent,
-    };
+    let none = Printed::Absent;
+    let references = references_from(none, none, none, none);
     Source {
         absorbed: Absorbed {
             inhaled: Pair::ONE,

@@ -27,12 +27,6 @@ begun-in-requires c κs = search needs
 exposure-from-requires : tie.Need-exposure-from-requires
 exposure-from-requires c κs = search needs
 
-medium-of-requires : tie.Need-medium-of-requires
-medium-of-requires c κs = search needs
-
-medium-of-requires-2 : tie.Need-medium-of-requires-2
-medium-of-requires-2 c κs = search needs
-
 rfd-of-requires : tie.Need-rfd-of-requires
 rfd-of-requires c κs = search needs
 
@@ -48,9 +42,9 @@ cancer-from-requires c κs = search needs
 returns-2 : tie.Need-returns-2
 unfolding figured figuresWith doseFiguresWith exposureWith baseIn shared
 returns-2 c =
-    (rw (c .cancer-from .ensures, c .before .csf-of .ensures, c .before .before .hazard-from .ensures, c .before .before .before .rfd-of .ensures, c .before .before .before .before .medium-of2 .ensures, c .before .before .before .before .before .medium-of .ensures, c .before .before .before .before .before .before .exposure-from .ensures, c .before .before .before .before .before .before .before .before .share-of .ensures, c .before .before .before .before .before .before .before .begun-in .ensures)
+    (rw (c .cancer-from .ensures, c .before .csf-of .ensures, c .before .before .hazard-from .ensures, c .before .before .before .rfd-of .ensures, c .before .before .before .before .exposure-from .ensures, c .before .before .before .before .before .before .share-of .ensures, c .before .before .before .before .before .begun-in .ensures)
     refl)
-    ∙ as-dose _ _ _ _ _ (sym (c .before .before .before .before .before .before .before .before .before .before .is-timed .ensures) ∙ c .before .before .before .before .before .before .before .before .before .if1 .left)
+    ∙ as-dose _ _ _ _ _ (sym (c .before .before .before .before .before .before .before .before .is-timed .ensures) ∙ c .before .before .before .before .before .before .before .if1 .left)
 
 pub figures-with-spec : {M : Type 1} → statement M
 figures-with-spec =
@@ -62,8 +56,6 @@ figures-with-spec =
     share-of-requires
     begun-in-requires
     exposure-from-requires
-    medium-of-requires
-    medium-of-requires-2
     rfd-of-requires
     hazard-from-requires
     csf-of-requires

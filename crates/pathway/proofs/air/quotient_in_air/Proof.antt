@@ -1,4 +1,4 @@
--- A refusal is carried along; no reference value gives no figure. Assumes nothing.
+-- A refusal is carried along. Assumes nothing.
 use mathlib.Core.Path.{refl}
 use borrow.Author.Needs.{needs}
 use Rattle.slots.specs.Slots.{same}
@@ -6,9 +6,8 @@ use Rattle.equations.specs.Formula.{read, pairs}
 use Rattle.equations.specs.Readings.{letters, plainWith, plain}
 use Rattle.equations.specs.Ahead.{ofTwo}
 use Rattle.equations.specs.Page.{airFigureBy}
-use Rattle.pair.specs.Calls.{afterOne, mapped}
-use Rattle.pathway.specs.Inner.{absentFor}
-use Rattle.pathway.specs.Lines.{figure, exposed, rfcGiven, rfcValue, airFigureOf, airQuotientOf}
+use Rattle.pair.specs.Calls.{after, mapped}
+use Rattle.pathway.specs.Lines.{figure, exposed, airFigureOf}
 use Rattle.pathway.proofs.Carried.{refused-in-air}
 use Rattle.pathway.proofs.air.quotient_in_air.Statement.{statement}
 use Rattle.pathway.proofs.air.quotient_in_air.Tie as tie
@@ -20,51 +19,20 @@ enum-told : tie.Need-enum-told
 enum-told c = search needs
 
 returns : tie.Need-returns
-unfolding figure exposed airQuotientOf
+unfolding figure exposed
 returns c = rw (c .enum-told .given .1, refused-in-air) refl
 
-enum-known-rfc : tie.Need-enum-known-rfc
-enum-known-rfc c = search needs
-
-enum-told-2 : tie.Need-enum-told-2
-enum-told-2 c = search needs
-
-absent-figure-requires : tie.Need-absent-figure-requires
-absent-figure-requires c κs = search needs
-
-returns-2 : tie.Need-returns-2
-unfolding afterOne mapped exposed rfcGiven rfcValue airFigureOf airQuotientOf absentFor
-returns-2 c = rw (c .before .before .before .before .exposure .given .1, c .before .enum-told2 .given .1) (c .absent-figure .ensures)
-
-answer-requires : tie.Need-answer-requires
-answer-requires c κs = search needs
-
-answer-requires-2 : tie.Need-answer-requires-2
-answer-requires-2 c κs = search needs
-
-over-requires : tie.Need-over-requires
-over-requires c κs = search needs
+quotient-requires : tie.Need-quotient-requires
+quotient-requires c κs = search needs
 
 worked-figure-requires : tie.Need-worked-figure-requires
 worked-figure-requires c κs = search needs
 
-returns-3 : tie.Need-returns-3
-unfolding mapped exposed rfcGiven rfcValue airFigureBy ofTwo plain plainWith read letters pairs same airFigureOf airQuotientOf
-returns-3 c = rw (c .before .before .before .before .before .before .before .before .exposure .given .1, c .before .before .before .before .before .rfc .given .1, c .worked-figure .ensures, c .before .over .ensures, c .before .before .answer2 .ensures, c .before .before .before .answer .ensures) refl
+returns-2 : tie.Need-returns-2
+unfolding after mapped exposed airFigureBy ofTwo plain plainWith read letters pairs same airFigureOf
+returns-2 c = rw (c .before .before .before .exposure .given .1, c .worked-figure .ensures, c .before .quotient .ensures) refl
 
 pub quotient-in-air-spec : {M : Type 1} → statement M
 quotient-in-air-spec =
     tie.close
-    (tie.spec
-    enum-known-exposure
-    enum-told
-    returns
-    enum-known-rfc
-    enum-told-2
-    absent-figure-requires
-    returns-2
-    answer-requires
-    answer-requires-2
-    over-requires
-    worked-figure-requires
-    returns-3)
+    (tie.spec enum-known-exposure enum-told returns quotient-requires worked-figure-requires returns-2)

@@ -1,16 +1,7 @@
--- No reference value, no figure; else one chain. Assumes nothing.
-use mathlib.Core.Path.{refl, _∙_, ap}
+-- No reference value, no figure; else from factor and dose. Assumes nothing.
+use mathlib.Core.Path.{refl}
 use borrow.Author.Needs.{needs}
-use Rattle.pair.specs.declared.Pair.{Pair}
-use Rattle.pair.specs.Calls.{answer, mapped, stepped}
-use Rattle.equations.specs.declared.Effect.the-variants.{Cancer}
-use Rattle.slots.specs.Slots.{same}
-use Rattle.equations.specs.Formula.{read, pairs}
-use Rattle.equations.specs.Readings.{letters, plainWith, plain}
-use Rattle.equations.specs.Ahead.{ofTwo}
-use Rattle.equations.specs.Page.{figureBy}
-use Rattle.pathway.specs.Lines.{some, figure, csfGiven, csfValue, figureIfGiven}
-use Rattle.pathway.proofs.HabitLaws.{in-one-chain, without-base}
+use Rattle.pathway.specs.Lines.{figure, csfValue, figureOf}
 use Rattle.pathway.proofs.doses.cancer_from.Statement.{statement}
 use Rattle.pathway.proofs.doses.cancer_from.Tie as tie
 
@@ -21,34 +12,21 @@ enum-told : tie.Need-enum-told
 enum-told c = search needs
 
 returns : tie.Need-returns
-unfolding figure figureIfGiven csfGiven csfValue
-returns c = rw (c .enum-told .given .1)
-    refl
+unfolding figure figureOf csfValue
+returns c = rw (c .enum-told .given .1) refl
 
-enum-known-base : tie.Need-enum-known-base
-enum-known-base c = search needs
+factor-of-requires : tie.Need-factor-of-requires
+factor-of-requires c κs = search needs
 
-enum-told-2 : tie.Need-enum-told-2
-enum-told-2 c = search needs
+dose-for-requires : tie.Need-dose-for-requires
+dose-for-requires c κs = search needs
+
+risk-of-requires : tie.Need-risk-of-requires
+risk-of-requires c κs = search needs
 
 returns-2 : tie.Need-returns-2
-unfolding answer figure csfGiven csfValue
-returns-2 c = rw (c .before .before .before .csf .given .1, c .enum-told2 .given .1)
-    (without-base Cancer (c .before .before .before .before .before .args .exposure) (c .before .before .before .before .before .args .medium) (c .before .before .before .csf .given .0 .0 .0))
-
-pair-requires : tie.Need-pair-requires
-pair-requires c κs = search needs
-
-through-requires : tie.Need-through-requires
-through-requires c κs = search needs
-
-worked-figure-requires : tie.Need-worked-figure-requires
-worked-figure-requires c κs = search needs
-
-returns-3 : tie.Need-returns-3
-unfolding answer stepped figureBy ofTwo plain plainWith read letters pairs same csfGiven csfValue
-returns-3 c = rw (c .before .before .before .before .before .before .before .csf .given .1, c .before .before .before .before .base .given .1)
-    (c .worked-figure .ensures ∙ ap (mapped (λ (q : Pair). some q)) (rw (c .before .before .pair .ensures) at (c .before .through .ensures)) ∙ in-one-chain Cancer _ _ _ _)
+unfolding csfValue
+returns-2 c = rw (c .before .before .before .before .csf .given .1, c .risk-of .ensures, c .before .dose-for .ensures, c .before .before .factor-of .ensures) refl
 
 pub cancer-from-spec : {M : Type 1} → statement M
 cancer-from-spec =
@@ -57,10 +35,7 @@ cancer-from-spec =
     enum-known-csf
     enum-told
     returns
-    enum-known-base
-    enum-told-2
-    returns-2
-    pair-requires
-    through-requires
-    worked-figure-requires
-    returns-3)
+    factor-of-requires
+    dose-for-requires
+    risk-of-requires
+    returns-2)

@@ -1,51 +1,19 @@
--- A refusal is carried along, else the product answers. Assumes nothing.
+-- By the pair of the concentration in soil or produce. Assumes nothing.
 use mathlib.Core.Path.{refl}
 use borrow.Author.Needs.{needs}
-use Rattle.pair.specs.Calls.{answer, after, mapped}
-use Rattle.pathway.specs.Lines.{factored, dosed, doseOf}
+use Rattle.pathway.specs.Lines.{doseOf}
 use Rattle.pathway.proofs.doses.dose_of.Statement.{statement}
 use Rattle.pathway.proofs.doses.dose_of.Tie as tie
-
-enum-known-factor : tie.Need-enum-known-factor
-enum-known-factor c = search needs
-
-enum-told : tie.Need-enum-told
-enum-told c = search needs
-
-returns : tie.Need-returns
-unfolding after mapped factored dosed doseOf
-returns c = rw (c .enum-told .given .1) refl
 
 pair-requires : tie.Need-pair-requires
 pair-requires c κs = search needs
 
-product-requires : tie.Need-product-requires
-product-requires c κs = search needs
+taken-in-requires : tie.Need-taken-in-requires
+taken-in-requires c κs = search needs
 
-enum-known-p : tie.Need-enum-known-p
-enum-known-p c = search needs
-
-enum-told-2 : tie.Need-enum-told-2
-enum-told-2 c = search needs
-
-returns-2 : tie.Need-returns-2
-unfolding answer after mapped factored dosed doseOf
-returns-2 c = rw (c .before .before .before .before .before .before .factor .given .1, ← c .before .before .before .before .pair .ensures, ← c .before .before .before .product .ensures, c .before .p .given .1) refl
-
-returns-3 : tie.Need-returns-3
-unfolding answer after mapped factored dosed doseOf
-returns-3 c = rw (c .before .before .before .before .before .factor .given .1, ← c .before .before .before .pair .ensures, ← c .before .before .product .ensures, c .enum-told2 .given .1) refl
+returns : tie.Need-returns
+unfolding doseOf
+returns c = rw (c .taken-in .ensures, c .before .pair .ensures) refl
 
 pub dose-of-spec : {M : Type 1} → statement M
-dose-of-spec =
-    tie.close
-    (tie.spec
-    enum-known-factor
-    enum-told
-    returns
-    pair-requires
-    product-requires
-    enum-known-p
-    enum-told-2
-    returns-2
-    returns-3)
+dose-of-spec = tie.close (tie.spec pair-requires taken-in-requires returns)

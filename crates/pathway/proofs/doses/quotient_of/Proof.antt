@@ -1,4 +1,4 @@
--- A refusal is carried along; no reference value gives no figure. Assumes nothing.
+-- A refusal is carried along. Assumes nothing.
 use mathlib.Core.Path.{refl}
 use borrow.Author.Needs.{needs}
 use Rattle.slots.specs.Slots.{same}
@@ -6,9 +6,8 @@ use Rattle.equations.specs.Formula.{read, pairs}
 use Rattle.equations.specs.Readings.{letters, plainWith, plain}
 use Rattle.equations.specs.Ahead.{ofTwo}
 use Rattle.equations.specs.Page.{figureBy}
-use Rattle.pair.specs.Calls.{after, afterOne, mapped}
-use Rattle.pathway.specs.Inner.{absentFor}
-use Rattle.pathway.specs.Lines.{figure, dosed, rfdGiven, rfdValue, figureOf, quotientOf}
+use Rattle.pair.specs.Calls.{after, mapped}
+use Rattle.pathway.specs.Lines.{figure, dosed, figureOf}
 use Rattle.pathway.proofs.Carried.{refused-carried}
 use Rattle.pathway.proofs.doses.quotient_of.Statement.{statement}
 use Rattle.pathway.proofs.doses.quotient_of.Tie as tie
@@ -20,21 +19,8 @@ enum-told : tie.Need-enum-told
 enum-told c = search needs
 
 returns : tie.Need-returns
-unfolding figure dosed quotientOf
+unfolding figure dosed
 returns c = rw (c .enum-told .given .1, refused-carried) refl
-
-enum-known-rfd : tie.Need-enum-known-rfd
-enum-known-rfd c = search needs
-
-enum-told-2 : tie.Need-enum-told-2
-enum-told-2 c = search needs
-
-absent-figure-requires : tie.Need-absent-figure-requires
-absent-figure-requires c κs = search needs
-
-returns-2 : tie.Need-returns-2
-unfolding after afterOne mapped dosed rfdGiven rfdValue figureBy ofTwo plain plainWith read letters pairs same figureOf quotientOf absentFor
-returns-2 c = rw (c .before .before .before .before .dose .given .1, c .before .enum-told2 .given .1) (c .absent-figure .ensures)
 
 quotient-requires : tie.Need-quotient-requires
 quotient-requires c κs = search needs
@@ -42,21 +28,11 @@ quotient-requires c κs = search needs
 worked-figure-requires : tie.Need-worked-figure-requires
 worked-figure-requires c κs = search needs
 
-returns-3 : tie.Need-returns-3
-unfolding after afterOne mapped dosed rfdGiven rfdValue figureBy ofTwo plain plainWith read letters pairs same figureOf quotientOf
-returns-3 c = rw (c .before .before .before .before .before .before .dose .given .1, c .before .before .before .rfd .given .1, c .worked-figure .ensures, c .before .quotient .ensures) refl
+returns-2 : tie.Need-returns-2
+unfolding after mapped dosed figureBy ofTwo plain plainWith read letters pairs same figureOf
+returns-2 c = rw (c .before .before .before .dose .given .1, c .worked-figure .ensures, c .before .quotient .ensures) refl
 
 pub quotient-of-spec : {M : Type 1} → statement M
 quotient-of-spec =
     tie.close
-    (tie.spec
-    enum-known-dose
-    enum-told
-    returns
-    enum-known-rfd
-    enum-told-2
-    absent-figure-requires
-    returns-2
-    quotient-requires
-    worked-figure-requires
-    returns-3)
+    (tie.spec enum-known-dose enum-told returns quotient-requires worked-figure-requires returns-2)

@@ -8,7 +8,6 @@ use Rattle.equations.specs.Ahead.{only, aSlot, isReceptors, readFrom, plainFrom
 use Rattle.slots.specs.Slots.{table, same, isIn, placeIn, ownerOf, placeOf}
 use Rattle.pathway.specs.Inner.{each}
 use Rattle.pathway.specs.Lines.{shareAt, takenIn, exposureFrom}
-use Rattle.pair.proofs.Promises.{per-million-entry}
 use Rattle.pathway.proofs.exposure.soil_summer.Statement.{statement}
 use Rattle.pathway.proofs.exposure.soil_summer.Tie as tie
 
@@ -27,15 +26,15 @@ at-requires c κs = search needs
 times-requires : tie.Need-times-requires
 times-requires c κs = search needs
 
-answer-requires : tie.Need-answer-requires
-answer-requires c κs = search needs
+per-million-requires : tie.Need-per-million-requires
+per-million-requires c κs = search needs
 
 times-requires-2 : tie.Need-times-requires-2
 times-requires-2 c κs = search needs
 
 returns : tie.Need-returns
 unfolding exposureFrom plainFrom readFrom isReceptors only aSlot read letters takenIn shareAt each byOwner valueIn ownerOf placeOf table same isIn placeIn pairs exposure
-returns c = rw (c .times2 .ensures, c .before .answer .ensures, c .before .before .times .ensures, c .before .before .before .at .ensures, c .before .before .before .before .times-three .ensures, c .before .before .before .before .before .value2 .ensures, c .before .before .before .before .before .before .value .ensures, per-million-entry)
+returns c = rw (c .times2 .ensures, c .before .per-million .ensures, c .before .before .times .ensures, c .before .before .before .at .ensures, c .before .before .before .before .times-three .ensures, c .before .before .before .before .before .value2 .ensures, c .before .before .before .before .before .before .value .ensures)
     refl
 
 pub soil-summer-spec : {M : Type 1} → statement M
@@ -47,6 +46,6 @@ soil-summer-spec =
     times-three-requires
     at-requires
     times-requires
-    answer-requires
+    per-million-requires
     times-requires-2
     returns)

@@ -8,7 +8,6 @@ use Rattle.equations.specs.Ahead.{only, aSlot, isReceptors, readFrom, plainFrom
 use Rattle.slots.specs.Slots.{table, same, isIn, placeIn, ownerOf, placeOf}
 use Rattle.pathway.specs.Inner.{each}
 use Rattle.pathway.specs.Lines.{shareAt, takenIn, exposureFrom}
-use Rattle.pair.proofs.Promises.{per-million-entry}
 use Rattle.pathway.proofs.exposure.soil_winter.Statement.{statement}
 use Rattle.pathway.proofs.exposure.soil_winter.Tie as tie
 
@@ -21,18 +20,27 @@ value-requires-2 c κs = search needs
 times-three-requires : tie.Need-times-three-requires
 times-three-requires c κs = search needs
 
-value-requires-3 : tie.Need-value-requires-3
-value-requires-3 c κs = search needs
+at-requires : tie.Need-at-requires
+at-requires c κs = search needs
 
-value-requires-4 : tie.Need-value-requires-4
-value-requires-4 c κs = search needs
+times-requires : tie.Need-times-requires
+times-requires c κs = search needs
 
-times-three-requires-2 : tie.Need-times-three-requires-2
-times-three-requires-2 c κs = search needs
+at-requires-2 : tie.Need-at-requires-2
+at-requires-2 c κs = search needs
+
+times-requires-2 : tie.Need-times-requires-2
+times-requires-2 c κs = search needs
+
+per-million-requires : tie.Need-per-million-requires
+per-million-requires c κs = search needs
+
+times-requires-3 : tie.Need-times-requires-3
+times-requires-3 c κs = search needs
 
 returns : tie.Need-returns
 unfolding exposureFrom plainFrom readFrom isReceptors only aSlot read letters takenIn shareAt each byOwner valueIn ownerOf placeOf table same isIn placeIn pairs exposure
-returns c = rw (c .times-three2 .ensures, c .before .value4 .ensures, c .before .before .value3 .ensures, c .before .before .before .times-three .ensures, c .before .before .before .before .value2 .ensures, c .before .before .before .before .before .value .ensures, per-million-entry)
+returns c = rw (c .times3 .ensures, c .before .per-million .ensures, c .before .before .times2 .ensures, c .before .before .before .at2 .ensures, c .before .before .before .before .times .ensures, c .before .before .before .before .before .at .ensures, c .before .before .before .before .before .before .times-three .ensures, c .before .before .before .before .before .before .before .value2 .ensures, c .before .before .before .before .before .before .before .before .value .ensures)
     refl
 
 pub soil-winter-spec : {M : Type 1} → statement M
@@ -42,7 +50,10 @@ soil-winter-spec =
     value-requires
     value-requires-2
     times-three-requires
-    value-requires-3
-    value-requires-4
-    times-three-requires-2
+    at-requires
+    times-requires
+    at-requires-2
+    times-requires-2
+    per-million-requires
+    times-requires-3
     returns)
