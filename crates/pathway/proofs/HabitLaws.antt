@@ -26,7 +26,8 @@ use Rattle.slots.specs.declared.Owner.the-variants.{Site, Chemical, Receptor}
 use Rattle.slots.specs.Slots.{Slot, table, same, isIn, placeIn, ownerOf, placeOf}
 use Rattle.pathway.specs.declared.Factor.{Factor}
 use Rattle.pathway.specs.declared.Dose.{Dose}
-use Rattle.pathway.specs.Lines.{workedFor, factorOf, doseBy, doseOf, doseOfAir, doseFor, workedOf, absorbedOf, shareAt, takenIn, exposureFrom, habitsOf, baseIn, begunIn, exposureWith, factorWith}
+use Rattle.pathway.specs.declared.Medium.{Medium}
+use Rattle.pathway.specs.Lines.{workedFor, factorOf, breathedIn, eaten, mediumFor, doseFor, workedOf, absorbedOf, shareAt, takenIn, exposureFrom, habitsOf, baseIn, begunIn, exposureWith, factorWith}
 use Rattle.pathway.proofs.Carried.{pair-back}
 
 -- a receptor's letters are read alike with any site and chemical
@@ -117,15 +118,16 @@ own-factor y e p s c r =
     let b : baseIn (habitsOf y r) e ≡ workedFor s c r (B e) = own-base y r e ∙ base-alike s c r e in
     ap (λ (o : Outcome Pair). mapped (λ (q : Pair). record { 0 = q }) o) (ap₂ (after quotient) x b ∙ divided s c r e p)
 
--- the pair of a pathway's concentration
+-- ---- a dose as a pair is its factor's pair × that of the pathway's medium
 unfoldable pub mediumIn : Pathway → Media → Pair
 mediumIn p m = byMedium p (m .air .0) (m .soil .0) (m .«above_ground» .0) (m .«below_ground» .0)
 
--- ---- a dose as a pair is its factor's pair × that of the pathway's medium
+medium-pair : (p : Pathway) (m : Media) → mediumFor p m .0 ≡ mediumIn p m
+unfolding mediumFor mediumIn breathedIn eaten
+medium-pair p m = by-medium (λ q (a : Medium) (c : Pair). a .0 ≡ c) refl p refl refl refl
+
 pub dose-pair : (p : Pathway) (f : Outcome Factor) (m : Media) → mapped (λ (g : Dose). g .0) (doseFor p f m) ≡ after product (mapped (λ (g : Factor). g .0) f) (is (mediumIn p m))
-unfolding doseFor doseOf doseOfAir doseBy mediumIn
+unfolding doseFor
 dose-pair p f m =
-    let own : (c : Pair) → mapped (λ (g : Dose). g .0) (doseBy f c) ≡ after product (mapped (λ (g : Factor). g .0) f) (is c) =
-    λ c. pair-back (λ (g : Dose). g .0) (λ (q : Pair). record { 0 = q }) (λ q. refl) (after product (mapped (λ (g : Factor). g .0) f) (is c)) in
-    by-medium (λ q (d : Outcome Dose) (c : Pair). mapped (λ (g : Dose). g .0) d ≡ after product (mapped (λ (g : Factor). g .0) f) (is c))
-    (own (m .air .0)) p (own (m .soil .0)) (own (m .«above_ground» .0)) (own (m .«below_ground» .0))
+    pair-back (λ (g : Dose). g .0) (λ (q : Pair). record { 0 = q }) (λ q. refl) (after product (mapped (λ (g : Factor). g .0) f) (is (mediumFor p m .0)))
+    ∙ ap (λ (c : Pair). after product (mapped (λ (g : Factor). g .0) f) (is c)) (medium-pair p m)

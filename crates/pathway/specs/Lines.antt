@@ -24,6 +24,7 @@ use Rattle.media.specs.declared.Conc.{Conc}
 use Rattle.media.specs.declared.Media.{Media}
 use Rattle.pathway.specs.declared.Factor.{Factor}
 use Rattle.pathway.specs.declared.Dose.{Dose}
+use Rattle.pathway.specs.declared.Medium.{Medium}
 use Rattle.pathway.specs.declared.GivenRfd.{GivenRfd}
 use Rattle.pathway.specs.declared.GivenRfd.the-variants as Rfds
 use Rattle.pathway.specs.declared.GivenCsf.{GivenCsf}
@@ -31,10 +32,6 @@ use Rattle.pathway.specs.declared.GivenCsf.the-variants as Csfs
 use Rattle.pathway.specs.declared.Printed.{Printed}
 use Rattle.pathway.specs.declared.Printed.the-variants as Prints
 use Rattle.pathway.specs.declared.References.{References}
-use Rattle.pathway.specs.declared.Factored.{Factored}
-use Rattle.pathway.specs.declared.Factored.the-variants as Factors
-use Rattle.pathway.specs.declared.Dosed.{Dosed}
-use Rattle.pathway.specs.declared.Dosed.the-variants as Doses
 use Rattle.pathway.specs.declared.Figure.{Figure}
 use Rattle.pathway.specs.declared.Figure.the-variants as Figures
 use Rattle.pathway.specs.declared.Line.{Line}
@@ -60,14 +57,6 @@ pub data Optional (A : Type 0) : Type 0 where
   none : Optional A
 
 -- each case of an answer in document 01's numbers
-unfoldable pub factored : Factored → Outcome Factor
-factored (Factors.Is f) = is f
-factored Factors.Refused = refused 53
-
-unfoldable pub dosed : Dosed → Outcome Dose
-dosed (Doses.Is d) = is d
-dosed Doses.Refused = refused 53
-
 unfoldable pub figure : Figure → Outcome (Optional Pair)
 figure (Figures.Is p) = is (some p)
 figure Figures.Absent = is none
@@ -85,18 +74,19 @@ workedOf r f = workedFor noValues noValues r f
 unfoldable pub factorOf : Effect → Pathway → Values → Values → Values → Outcome Factor
 factorOf e p s c r = mapped (λ (q : Pair). record { 0 = q }) (workedFor s c r (factor e p))
 
--- factor × concentration is a dose: of soil and produce, of air, and by the pathway, A for 1, the soil for 2 to 4, the produce for 5 and 6
-unfoldable pub doseBy : Outcome Factor → Pair → Outcome Dose
-doseBy f c = mapped (λ (q : Pair). record { 0 = q }) (after product (mapped (λ (g : Factor). g .0) f) (is c))
+-- what a factor takes: air, or soil and produce; A for 1, the soil for 2 to 4, the produce for 5 and 6
+unfoldable pub breathedIn : AirConc → Medium
+breathedIn a = record { 0 = a .0 }
 
-unfoldable pub doseOf : Outcome Factor → Conc → Outcome Dose
-doseOf f c = doseBy f (c .0)
+unfoldable pub eaten : Conc → Medium
+eaten c = record { 0 = c .0 }
 
-unfoldable pub doseOfAir : Outcome Factor → AirConc → Outcome Dose
-doseOfAir f a = doseBy f (a .0)
+unfoldable pub mediumFor : Pathway → Media → Medium
+mediumFor p m = byMedium p (breathedIn (m .air)) (eaten (m .soil)) (eaten (m .«above_ground»)) (eaten (m .«below_ground»))
 
+-- the dose: factor × concentration
 unfoldable pub doseFor : Pathway → Outcome Factor → Media → Outcome Dose
-doseFor p f m = byMedium p (doseOfAir f (m .air)) (doseOf f (m .soil)) (doseOf f (m .«above_ground»)) (doseOf f (m .«below_ground»))
+doseFor p f m = mapped (λ (q : Pair). record { 0 = q }) (after product (mapped (λ (g : Factor). g .0) f) (is (mediumFor p m .0)))
 
 -- the figure of a dose with its reference value, dose / RfD or dose × CSF; none without one, whatever the dose
 unfoldable pub figureOf : Effect → Outcome Dose → Optional Pair → Outcome (Optional Pair)

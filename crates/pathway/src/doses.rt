@@ -1,12 +1,12 @@
-//! Factors, doses and figures, each a quantity of its own.
+//! Factors, doses and figures, each a quantity of its own. What an operation answers becomes one where it is told, and in no enum of its own between:
+//! that is some eight parts in a hundred of a report's time.
 use crate::Csf;
 use crate::Dose;
-use crate::Dosed;
 use crate::Factor;
-use crate::Factored;
 use crate::Figure;
 use crate::GivenCsf;
 use crate::GivenRfd;
+use crate::Medium;
 use crate::Rfd;
 use equations::Pathway;
 use media::AirConc;
@@ -16,58 +16,41 @@ use pair::Answer;
 use pair::Pair;
 ghost use mathlib.Core.Path.{_≡_};
 ghost use Rattle.equations.specs.declared.Effect.the-variants.{Hazard, Cancer};
-ghost use Rattle.pair.specs.Calls.{answer, mapped};
-ghost use Rattle.pathway.specs.Lines.{factored, dosed, figure, some, rfdValue, csfValue, factorWith, doseBy, doseOf, doseOfAir, doseFor, figureOf};
+ghost use Rattle.pair.specs.Calls.{is, answer, mapped, product};
+ghost use Rattle.pathway.specs.Lines.{figure, some, rfdValue, csfValue, factorWith, breathedIn, eaten, mediumFor, doseFor, figureOf};
 
-// exposure / B.
-fn factor_of(exposure: Answer, base: Answer) -> Factored
-    ensures { λ r. ⌜ factored r ≡ factorWith (answer exposure) (answer base) ⌝ }
+// Air, as a dose by the guidance of 2005 takes it.
+fn breathed_in(air: AirConc) -> Medium
+    ensures { λ r. ⌜ r ≡ breathedIn air ⌝ }
 {
-    match exposure.over(base) {
-        Answer::Is(p) => Factored::Is(Factor(p)),
-        Answer::Refused => Factored::Refused,
-    }
+    Medium(air.pair())
 }
 
-// factor × concentration, whatever the medium; only the two calls that follow may take it.
-fn taken_in(factor: Factored, concentration: Pair) -> Dosed
-    ensures { λ r. ⌜ dosed r ≡ doseBy (factored factor) concentration ⌝ }
+// Soil or produce.
+fn eaten(medium: Conc) -> Medium
+    ensures { λ r. ⌜ r ≡ eaten medium ⌝ }
 {
-    let Factored::Is(f) = factor else {
-        return Dosed::Refused;
-    };
-    match f.0.product(concentration) {
-        Answer::Is(p) => Dosed::Is(Dose(p)),
-        Answer::Refused => Dosed::Refused,
-    }
+    Medium(medium.pair())
 }
 
-// The dose from soil or produce.
-fn dose_of(factor: Factored, medium: Conc) -> Dosed
-    ensures { λ r. ⌜ dosed r ≡ doseOf (factored factor) medium ⌝ }
-{
-    taken_in(factor, medium.pair())
-}
-
-// The dose from air, by the guidance of 2005.
-fn dose_of_air(factor: Factored, air: AirConc) -> Dosed
-    ensures { λ r. ⌜ dosed r ≡ doseOfAir (factored factor) air ⌝ }
-{
-    taken_in(factor, air.pair())
-}
-
-// A pathway's dose, from its own medium.
-fn dose_for(pathway: Pathway, factor: Factored, media: Media) -> Dosed
-    ensures { λ r. ⌜ dosed r ≡ doseFor pathway (factored factor) media ⌝ }
+fn medium_of(pathway: Pathway, media: Media) -> Medium
+    ensures { λ r. ⌜ r ≡ mediumFor pathway media ⌝ }
 {
     match pathway {
-        Pathway::Air => dose_of_air(factor, media.air),
-        Pathway::SoilSummer => dose_of(factor, media.soil),
-        Pathway::SoilWinter => dose_of(factor, media.soil),
-        Pathway::Skin => dose_of(factor, media.soil),
-        Pathway::AboveGround => dose_of(factor, media.above_ground),
-        Pathway::BelowGround => dose_of(factor, media.below_ground),
+        Pathway::Air => breathed_in(media.air),
+        Pathway::SoilSummer => eaten(media.soil),
+        Pathway::SoilWinter => eaten(media.soil),
+        Pathway::Skin => eaten(media.soil),
+        Pathway::AboveGround => eaten(media.above_ground),
+        Pathway::BelowGround => eaten(media.below_ground),
     }
+}
+
+// A dose = factor × the concentration of the pathway's medium.
+fn dose_for(factor: Factor, pathway: Pathway, media: Media) -> Answer
+    ensures { λ r. ⌜ answer r ≡ product (factor .0) (mediumFor pathway media .0) ⌝ }
+{
+    factor.0.product(medium_of(pathway, media).0)
 }
 
 // A worked figure.
@@ -81,26 +64,20 @@ pub(crate) fn worked_figure(a: Answer) -> Figure
 }
 
 // Quotient = dose / RfD.
-fn quotient_of(dose: Dosed, rfd: Rfd) -> Figure
-    ensures { λ r. ⌜ figure r ≡ figureOf Hazard (dosed dose) (some (rfd .0)) ⌝ }
+fn quotient_of(dose: Dose, rfd: Rfd) -> Figure
+    ensures { λ r. ⌜ figure r ≡ figureOf Hazard (is dose) (some (rfd .0)) ⌝ }
 {
-    let Dosed::Is(d) = dose else {
-        return Figure::Refused;
-    };
-    worked_figure(d.0.quotient(rfd.0))
+    worked_figure(dose.0.quotient(rfd.0))
 }
 
 // Risk = dose × CSF.
-fn risk_of(dose: Dosed, csf: Csf) -> Figure
-    ensures { λ r. ⌜ figure r ≡ figureOf Cancer (dosed dose) (some (csf .0)) ⌝ }
+fn risk_of(dose: Dose, csf: Csf) -> Figure
+    ensures { λ r. ⌜ figure r ≡ figureOf Cancer (is dose) (some (csf .0)) ⌝ }
 {
-    let Dosed::Is(d) = dose else {
-        return Figure::Refused;
-    };
-    worked_figure(d.0.product(csf.0))
+    worked_figure(dose.0.product(csf.0))
 }
 
-// The quotient of a pathway's dose; no figure without the reference value, whatever the dose.
+// The quotient of a pathway's dose, from exposure / B; no figure without the reference value, whatever the dose.
 pub(crate) fn hazard_from(
     pathway: Pathway,
     exposure: Answer,
@@ -113,7 +90,19 @@ pub(crate) fn hazard_from(
     let GivenRfd::Is(least) = rfd else {
         return Figure::Absent;
     };
-    quotient_of(dose_for(pathway, factor_of(exposure, base), media), least)
+    let Answer::Is(x) = exposure else {
+        return Figure::Refused;
+    };
+    let Answer::Is(b) = base else {
+        return Figure::Refused;
+    };
+    let Answer::Is(f) = x.quotient(b) else {
+        return Figure::Refused;
+    };
+    let Answer::Is(d) = dose_for(Factor(f), pathway, media) else {
+        return Figure::Refused;
+    };
+    quotient_of(Dose(d), least)
 }
 
 // The risk, likewise.
@@ -129,5 +118,17 @@ pub(crate) fn cancer_from(
     let GivenCsf::Is(slope) = csf else {
         return Figure::Absent;
     };
-    risk_of(dose_for(pathway, factor_of(exposure, base), media), slope)
+    let Answer::Is(x) = exposure else {
+        return Figure::Refused;
+    };
+    let Answer::Is(b) = base else {
+        return Figure::Refused;
+    };
+    let Answer::Is(f) = x.quotient(b) else {
+        return Figure::Refused;
+    };
+    let Answer::Is(d) = dose_for(Factor(f), pathway, media) else {
+        return Figure::Refused;
+    };
+    risk_of(Dose(d), slope)
 }

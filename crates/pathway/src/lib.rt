@@ -64,17 +64,8 @@ pub struct References {
     csf_i: Printed,
 }
 
-// An intake factor, or document 01's 53.
-pub enum Factored {
-    Is(Factor),
-    Refused,
-}
-
-// A dose, or document 01's 53.
-pub enum Dosed {
-    Is(Dose),
-    Refused,
-}
+// The concentration of a pathway's own medium, as a factor takes it: of air, or of soil or produce.
+pub struct Medium(Pair);
 
 // A hazard quotient or a cancer risk: the pair, none without a reference value, or document 01's 53.
 pub enum Figure {

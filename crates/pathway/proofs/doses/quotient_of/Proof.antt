@@ -1,4 +1,4 @@
--- A refusal is carried along. Assumes nothing.
+-- What the quotient answers. Assumes nothing.
 use mathlib.Core.Path.{refl}
 use borrow.Author.Needs.{needs}
 use Rattle.slots.specs.Slots.{same}
@@ -7,20 +7,9 @@ use Rattle.equations.specs.Readings.{letters, plainWith, plain}
 use Rattle.equations.specs.Ahead.{ofTwo}
 use Rattle.equations.specs.Page.{figureBy}
 use Rattle.pair.specs.Calls.{after, mapped}
-use Rattle.pathway.specs.Lines.{figure, dosed, figureOf}
-use Rattle.pathway.proofs.Carried.{refused-carried}
+use Rattle.pathway.specs.Lines.{figureOf}
 use Rattle.pathway.proofs.doses.quotient_of.Statement.{statement}
 use Rattle.pathway.proofs.doses.quotient_of.Tie as tie
-
-enum-known-dose : tie.Need-enum-known-dose
-enum-known-dose c = search needs
-
-enum-told : tie.Need-enum-told
-enum-told c = search needs
-
-returns : tie.Need-returns
-unfolding figure dosed
-returns c = rw (c .enum-told .given .1, refused-carried) refl
 
 quotient-requires : tie.Need-quotient-requires
 quotient-requires c κs = search needs
@@ -28,11 +17,9 @@ quotient-requires c κs = search needs
 worked-figure-requires : tie.Need-worked-figure-requires
 worked-figure-requires c κs = search needs
 
-returns-2 : tie.Need-returns-2
-unfolding after mapped dosed figureBy ofTwo plain plainWith read letters pairs same figureOf
-returns-2 c = rw (c .before .before .before .dose .given .1, c .worked-figure .ensures, c .before .quotient .ensures) refl
+returns : tie.Need-returns
+unfolding after mapped figureBy ofTwo plain plainWith read letters pairs same figureOf
+returns c = rw (c .worked-figure .ensures, c .before .quotient .ensures) refl
 
 pub quotient-of-spec : {M : Type 1} → statement M
-quotient-of-spec =
-    tie.close
-    (tie.spec enum-known-dose enum-told returns quotient-requires worked-figure-requires returns-2)
+quotient-of-spec = tie.close (tie.spec quotient-requires worked-figure-requires returns)
