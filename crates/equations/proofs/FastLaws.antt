@@ -41,7 +41,7 @@ tiny-fits =
     let e : tiny-good .answer ≡ tinyPair = cc in
     (subst (λ (q : Pair). Fits (ofNumber 1 (negsuc 24)) q) e (tiny-good .fits), subst (λ (q : Pair). Holds q (scaled 1 (negsuc 24))) e (tiny-good .held))
 
-next-pair : isPair nextToNothing ≡ true
+pub next-pair : isPair nextToNothing ≡ true
 unfolding nextToNothing above-zero tinyPair
 next-pair = above-zero-pair tinyPair (tiny-fits .0 .pair)
 

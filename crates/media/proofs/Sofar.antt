@@ -15,9 +15,9 @@ use Rattle.pair.specs.Promises.{scaled}
 use Rattle.pair.proofs.Promises.{entry-answered, entry-exact, through, value-proper}
 use Rattle.pair.proofs.Partials.{partial-worked, partial-refused}
 use Rattle.equations.specs.Formula.{pairs}
-use Rattle.equations.specs.Series.{Series, phi, psi, step, terms, fromZero, pairSeries}
+use Rattle.equations.specs.Series.{first, Series, phi, psi, step, terms, fromZero, pairSeries}
 use Rattle.equations.proofs.EarlyStop.{reach, step-plain, series-stopped, series-refused}
-use Rattle.equations.proofs.SeriesFigures.{firstPair, first-is, series-at-zero}
+use Rattle.equations.proofs.SeriesFigures.{first-is, series-at-zero}
 use Rattle.media.specs.Inner.{Moderate}
 use Rattle.media.proofs.Moderate.{high-above, moderate-within, at-most-by}
 use Rattle.media.proofs.Passing.{is-not-refused}
@@ -28,13 +28,15 @@ pub record Sofar (s : Series) (x term total : Pair) (n : ℕ) : Type 0 where
   pub term-is : terms pairs s (is x) n .term ≡ is term
   pub total-is : terms pairs s (is x) n .total ≡ is total
 
-pub start : (s : Series) (x : Pair) → Sofar s x (firstPair s) (firstPair s) 0
-unfolding terms
-start s x = record { count = omega arith; term-is = first-is s .0; total-is = first-is s .0 }
+-- from its first term
+module _ (s : Series) (x begun : Pair) (h : first pairs s ≡ is begun) where
+  pub start : Sofar s x begun begun 0
+  unfolding terms
+  start = record { count = omega arith; term-is = h; total-is = h }
 
--- at x = 0 the series is its first term
-pub at-none : (s : Series) (x : Pair) → x ≡ zeroPair → is (firstPair s) ≡ pairSeries s (is x)
-at-none s x z = sym (ap (λ (q : Pair). pairSeries s (is q)) z ∙ series-at-zero s)
+  -- at x = 0 the series is its first term
+  pub at-none : x ≡ zeroPair → is begun ≡ pairSeries s (is x)
+  at-none z = sym h ∙ first-is s .0 ∙ sym (ap (λ (q : Pair). pairSeries s (is q)) z ∙ series-at-zero s)
 
 -- n + 2 is always answered
 pub entered : {A : Type 0} (n : ℕ) → n < 255 → refused 53 ≡ entry (n + 2) (pos 0) → A

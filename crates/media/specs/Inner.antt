@@ -5,8 +5,8 @@ use mathlib.Core.Logic.{_⊎_}
 use lib.IntN.{negsuc}
 use Rattle.pair.specs.declared.Number.{Number}
 use Rattle.pair.specs.declared.Pair.{Pair}
-use Rattle.pair.specs.Number.{isPair}
-use Rattle.pair.specs.Calls.{is, compared}
+use Rattle.pair.specs.Number.{isPair, zero}
+use Rattle.pair.specs.Calls.{is, compared, written}
 use Rattle.equations.specs.Page.{Pace, Slow, Fast}
 
 -- what a test for a fast loss tells
@@ -14,11 +14,11 @@ unfoldable pub paced : Bool → Pace
 paced true = Fast
 paced false = Slow
 
+-- 1E-292: an x so large leaves 256 terms in the exponents' reach; its low end may be 0
 unfoldable pub least : Number
-least = record { significand = 100000000; exponent = negsuc 299 }
+least = written 1 (negsuc 291)
 
--- x is so large that 256 terms stay in the exponents' reach; its low end may be 0
 pub record Moderate (x : Pair) : Type 0 where
   pub pair : isPair x ≡ true
   pub high : compared least (x .high) ≡ is true
-  pub low : (x .low .significand ≡ 0) ⊎ (compared least (x .low) ≡ is true)
+  pub low : (x .low ≡ zero) ⊎ (compared least (x .low) ≡ is true)

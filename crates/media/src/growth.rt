@@ -2,7 +2,6 @@
 use crate::terms::mean_of_terms;
 use crate::terms::sum_of_terms;
 use pair::Answer;
-use pair::Number;
 use pair::Order;
 use pair::Pair;
 ghost use mathlib.Core.Path.{_≡_};
@@ -10,6 +9,7 @@ ghost use lib.IntN.{pos};
 ghost use Rattle.pair.specs.Calls.{answer, is};
 ghost use Rattle.equations.specs.Formula.{pairs};
 ghost use Rattle.equations.specs.Page.{gWith, growth, Fast};
+ghost use Rattle.equations.specs.Ranges.{nextToNothing};
 ghost use Rattle.equations.specs.Readings.{paceOf, pairGrowing};
 ghost use Rattle.media.specs.Media.{growthAt};
 ghost use Rattle.media.specs.Inner.{paced};
@@ -20,28 +20,14 @@ pub(crate) struct Growth {
     pub(crate) h: Answer,
 }
 
-const SIXTY_FOUR: Number = Number {
-    significand: 640_000_000,
-    exponent: -7,
-};
-
-// What 1 / φ is where the loss is fast: 0 and 1E-25.
-const NEXT_TO_NOTHING: Pair = Pair {
-    low: Number {
-        significand: 0,
-        exponent: 0,
-    },
-    high: Number {
-        significand: 100_000_000,
-        exponent: -33,
-    },
-};
-
 // Whether x's high end is above 64. One that cannot be compared is no pair's, and the series refuses it.
 fn is_fast(x: Pair) -> bool
     ensures { λ r. ⌜ paceOf (is x) ≡ paced r ⌝ }
 {
-    match x.high.compare(SIXTY_FOUR) {
+    let Answer::Is(bound) = Pair::entry(64, 0) else {
+        return false;
+    };
+    match x.high.compare(bound.high) {
         Order::AtMost => false,
         Order::Above => true,
         Order::Refused => false,
@@ -55,11 +41,22 @@ fn build_up(inverse: Answer, x: Pair) -> Answer
     Pair::entry(1, 0).over(inverse.plus(x.answer()))
 }
 
+// What 1 / φ is where the loss is fast: 0 and 1E-25.
+fn next_to_nothing() -> Answer
+    ensures { λ r. ⌜ answer r ≡ is nextToNothing ⌝ }
+{
+    let Answer::Is(least) = Pair::entry(1, -25) else {
+        return Answer::Refused;
+    };
+    let zero = Pair::ZERO;
+    Pair::of_ends(zero.low, least.high)
+}
+
 // g where the loss is fast.
 fn fast_build_up(x: Pair) -> Answer
     ensures { λ r. ⌜ answer r ≡ growth pairGrowing Fast (is x) .g ⌝ }
 {
-    build_up(NEXT_TO_NOTHING.answer(), x)
+    build_up(next_to_nothing(), x)
 }
 
 // g, from φ and x.

@@ -8,28 +8,11 @@ use pair::Partial;
 ghost use mathlib.Core.Path.{_≡_};
 ghost use mathlib.Core.Bool.{true};
 ghost use Prim.Native.Nat.{_+_, _<_};
-ghost use lib.IntN.{pos};
+ghost use lib.IntN.{pos, negsuc};
 ghost use Rattle.pair.specs.Calls.{answer, is, after, afterOne, sum, compared, absorbs, zeroPair, entry, partial};
 ghost use Rattle.equations.specs.Formula.{pairs};
 ghost use Rattle.equations.specs.Series.{phi, psi, step, fromZero, pairSeries};
 ghost use Rattle.media.specs.Inner.{Moderate};
-
-// x from here on leaves no term out of the exponents' reach.
-const LEAST: Number = Number {
-    significand: 100_000_000,
-    exponent: -300,
-};
-
-const HALF: Pair = Pair {
-    low: Number {
-        significand: 500_000_000,
-        exponent: -9,
-    },
-    high: Number {
-        significand: 500_000_000,
-        exponent: -9,
-    },
-};
 
 fn is_at_most(a: Number, b: Number) -> bool
     ensures { λ r. ⌜ (r ≡ true → compared a b ≡ is true) ⌝ }
@@ -48,25 +31,26 @@ fn is_none(x: Pair) -> bool
     let Answer::Is(_) = x.checked() else {
         return false;
     };
-    let high = x.high;
-    high.significand == 0
+    x.high.is_zero()
 }
 
-// Whether no term of the series at x leaves the exponents' reach downwards.
+// Whether no term of the series at x leaves the exponents' reach downwards: x is 0 or at least 1E-292.
 fn is_moderate(x: Pair) -> bool
     ensures { λ r. ⌜ (r ≡ true → Moderate x) ⌝ }
 {
     let Answer::Is(_) = x.checked() else {
         return false;
     };
-    if !is_at_most(LEAST, x.high) {
+    let Answer::Is(least) = Pair::entry(1, -292) else {
+        return false;
+    };
+    if !is_at_most(least.low, x.high) {
         return false;
     }
-    let low = x.low;
-    if low.significand == 0 {
+    if x.low.is_zero() {
         return true;
     }
-    is_at_most(LEAST, low)
+    is_at_most(least.low, x.low)
 }
 
 // Whether every term after this one is absorbed by the total, as this one is: x is so small against the divisors that they shrink.
@@ -87,9 +71,7 @@ fn closed(total: Pair, last: Pair) -> Answer
     ensures { λ r. ⌜ answer r ≡ after sum (is total) (afterOne fromZero (is last)) ⌝ }
 {
     let zero = Pair::ZERO;
-    let low = zero.low;
-    let high = last.high;
-    total.sum(Pair { low, high })
+    total.answer().plus(Pair::of_ends(zero.low, last.high))
 }
 
 // ψ's next term. whole is n + 2.
@@ -156,15 +138,16 @@ pub(crate) fn sum_of_terms(x: Pair) -> Answer
     closed(total, term)
 }
 
-// ψ: a loop of its own, since one loop that chose the step would slow φ down.
-pub(crate) fn mean_of_terms(x: Pair) -> Answer
+// ψ from its first term, half: a loop of its own, since one loop that chose the step would slow φ down.
+fn mean_from(half: Pair, x: Pair) -> Answer
+    requires { ⌜ entry 5 (negsuc 0) ≡ is half ⌝ }
     ensures { λ r. ⌜ answer r ≡ pairSeries psi (is x) ⌝ }
 {
     if is_none(x) {
-        return HALF.answer();
+        return half.answer();
     }
-    let mut term = HALF;
-    let mut total = HALF;
+    let mut term = half;
+    let mut total = half;
     let mut n: u64 = 0;
     while n < 255 {
         let Answer::Is(whole) = Pair::entry(n + 2, 0) else {
@@ -184,4 +167,14 @@ pub(crate) fn mean_of_terms(x: Pair) -> Answer
         n += 1;
     }
     closed(total, term)
+}
+
+// ψ.
+pub(crate) fn mean_of_terms(x: Pair) -> Answer
+    ensures { λ r. ⌜ answer r ≡ pairSeries psi (is x) ⌝ }
+{
+    let Answer::Is(half) = Pair::entry(5, -1) else {
+        return Answer::Refused;
+    };
+    mean_from(half, x)
 }

@@ -13,7 +13,7 @@ use Rattle.pair.specs.Fraction.{Fraction, _≤ᶠ_, plus, times, over}
 use Rattle.pair.specs.Number.{isNumber, isPair, value, depth}
 use Rattle.pair.specs.Rounding.{lifted}
 use Rattle.pair.specs.Calls as calls
-use Rattle.pair.specs.Calls.{Outcome, is, refused, after, stepped, sum, timesOver, plusProduct, nextTerm, absorbs, raised}
+use Rattle.pair.specs.Calls.{Outcome, is, refused, after, stepped, sum, timesOver, plusProduct, nextTerm, absorbs, raised, partial}
 use Rattle.pair.specs.Promises.{Operation, sums, products, quotients, call, operationOf, exactResult, exactStep, Holds, Held, scaled, unitsOf, Sized, _≤ₑ_, _≤ₒ_}
 use Rattle.pair.proofs.Powers.{ten-above}
 use Rattle.pair.proofs.Fractions.{_<ᶠ_}
@@ -71,7 +71,7 @@ module _ (u : Outcome Pair) (f g h : Step) (a b c : Pair) where
   abbrev steps : Outcome Pair
   steps = after (call (operationOf h)) (after (call (operationOf g)) (after (call (operationOf f)) u (is a)) (is b)) (is c)
 
-  through-is : calls.through u f a g b h c ≡ steps
+  pub through-is : calls.through u f a g b h c ≡ steps
   through-is = λ i. after (λ p q. stepped-call h p q i) (after (λ p q. stepped-call g p q i) (after (λ p q. stepped-call f p q i) u (is a)) (is b)) (is c)
 
   pub through-pair : (r : Pair) → calls.through u f a g b h c ≡ is r → isPair r ≡ true
@@ -124,6 +124,11 @@ plus-product-rises u u' p p' q q' a b c =
     (after-rises products (is p) (is p') (is q) (is q') (is-rising b) (is-toward products c))
 
 -- ---- `next_term`
+-- A step tells the term t × x / d and the total with it, or nothing where one of them is refused.
+pub next-term-told : (t s x d : Pair) → nextTerm t s x d ≡ partial (timesOver (is t) x (is d)) (after sum (is s) (timesOver (is t) x (is d)))
+unfolding nextTerm after
+next-term-told t s x d = refl
+
 -- A step that is worked tells the term t × x / d and the total with it.
 module _ (t s x d : Pair) (w : nextTerm t s x d .worked ≡ true) where
   pub next-term-is : (timesOver (is t) x (is d) ≡ is (nextTerm t s x d .term)) × (sum s (nextTerm t s x d .term) ≡ is (nextTerm t s x d .total))

@@ -141,9 +141,7 @@ fn soil_winter(s: Values, r: Values, share: Pair, begun: Answer) -> Answer
     ensures { λ a. ⌜ answer a ≡ exposureFrom (answer begun) SoilWinter s (each share) r ⌝ }
 {
     let eaten = times_three(begun, share, s.value(FR_SNOW), r.value(ET_SOIL));
-    eaten.times(r.at(EF_W))
-        .times(r.at(ED))
-        .times(per_million())
+    eaten.times(r.at(EF_W)).times(r.at(ED)).times(per_million())
 }
 
 fn skin(s: Values, r: Values, share: Pair, begun: Answer) -> Answer

@@ -52,12 +52,7 @@ pub(crate) fn as_unit_risk(slot: Printed) -> GivenUnitRisk
 }
 
 // A chemical's reference values, from its four slots.
-pub fn references_from(
-    rfd_o: Printed,
-    rfd_i: Printed,
-    csf_o: Printed,
-    csf_i: Printed,
-) -> References
+pub fn references_from(rfd_o: Printed, rfd_i: Printed, csf_o: Printed, csf_i: Printed) -> References
     ensures { λ r. ⌜ r ≡ referencesFrom «rfd_o» «rfd_i» «csf_o» «csf_i» ⌝ }
 {
     References {

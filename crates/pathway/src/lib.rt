@@ -186,7 +186,19 @@ pub fn figures_with(
     let noncancer = habits.hazard;
     let lifetime = habits.cancer;
     Line {
-        hazard: hazard_from(pathway, exposure, noncancer, highest, rfd_of(pathway, references)),
-        cancer: cancer_from(pathway, exposure, lifetime, mean, csf_of(pathway, references)),
+        hazard: hazard_from(
+            pathway,
+            exposure,
+            noncancer,
+            highest,
+            rfd_of(pathway, references),
+        ),
+        cancer: cancer_from(
+            pathway,
+            exposure,
+            lifetime,
+            mean,
+            csf_of(pathway, references),
+        ),
     }
 }

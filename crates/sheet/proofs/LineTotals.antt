@@ -1,21 +1,21 @@
 -- A line with a reference value: where it is at most its cap, its counts enclose its exact fraction and are close. Assumes nothing.
-use mathlib.Core.Path.{_≡_, _∙_, ap, subst}
+use mathlib.Core.Path.{_≡_, sym, _∙_, ap, subst}
 use mathlib.Core.Bool.{Bool, true, false, cond, _&&_}
 use Prim.Native.Nat.{ℕ, suc, _+_, _*_, _^_, _≤_, _<_}
-use native.Mathlib.Nat.{le-refl, le-trans, mul-le-mul-right, le-of-mul-le-mul-right, lt-of-mul-lt-mul-right}
+use native.Mathlib.Nat.{add-zero, le-refl, le-trans, mul-le-mul-right, le-of-mul-le-mul-right, lt-of-mul-lt-mul-right}
 use native.Mathlib.Omega.{arith}
 use lib.Dec.{lit<, lit≤}
-use lib.IntN.{negsuc}
+use lib.IntN.{pos, negsuc}
 use borrow.Author.Tests.{not-false}
 use Rattle.pair.specs.declared.Number.{Number}
 use Rattle.pair.specs.declared.Pair.{Pair}
 use Rattle.pair.specs.declared.Units as pairUnits
 use Rattle.pair.specs.Fraction.{Fraction, _≤ᶠ_, plus}
 use Rattle.pair.specs.Number.{inReach, isNumber, isPair, atMost, value, place, depth}
-use Rattle.pair.specs.Calls.{Outcome, is, inUnits}
+use Rattle.pair.specs.Calls.{Outcome, is, onePair, inUnits}
 use Rattle.pair.specs.Promises as promises
 use Rattle.pair.specs.Promises.{scaled}
-use Rattle.pair.proofs.Promises.{through, ordered, number-written, size-reach, at-most, value-proper, compared-answered, Counted, units-right, units-hold, units-answered}
+use Rattle.pair.proofs.Promises.{through, ordered, one-pair, written-number, written-value, equal-below, scaled-proper, size-reach, at-most, value-proper, compared-answered, Counted, units-right, units-hold, units-answered}
 use Rattle.equations.specs.declared.Pathway.{Pathway}
 use Rattle.equations.specs.declared.Stay.{Stay}
 use Rattle.equations.specs.declared.Effect.{Effect}
@@ -52,18 +52,27 @@ unfolding unitOf unitsPerOne
 unit-power Hazard = power 11 (lit≤ tt)
 unit-power Cancer = power 14 (lit≤ tt)
 
+whole-place : place (pos 0) ≡ depth
+unfolding place
+whole-place = add-zero depth
+
 cap-number : (e : Effect) → isNumber (capOf e) ≡ true
-unfolding capOf
-cap-number Hazard = number-written 100000000 (negsuc 3) (lit≤ tt) (lit≤ tt) (lit< tt)
-cap-number Cancer = number-written 100000000 (negsuc 7) (lit≤ tt) (lit≤ tt) (lit< tt)
+unfolding capOf onePair
+cap-number Hazard = written-number 10000 (pos 0) (lit≤ tt) (lit≤ tt)
+cap-number Cancer = ordered onePair (one-pair .0) .high
 
 -- 10,000 and 1 are no more than 10^16 units
 pub cap-units : (e : Effect) (m : ℕ) → 10 ^ 16 ≤ m → value (capOf e) ≤ᶠ scaled m (unitOf e)
-unfolding value scaled capOf unitOf
+unfolding scaled capOf unitOf onePair
 cap-units Hazard m h =
-    record { across = mul-le-mul-right (10 ^ depth) (omega (arith, power 3 (lit≤ tt), power 11 (lit≤ tt), mul-le-mul-right (10 ^ place (negsuc 11)) h)) }
+    through (scaled-proper 10000 (pos 0)) (equal-below (written-value 10000 (pos 0) (lit≤ tt) (lit≤ tt)))
+    (record {
+      across =
+          mul-le-mul-right (10 ^ depth)
+          (subst (λ (p : ℕ). 10000 * 10 ^ p ≤ m * 10 ^ place (negsuc 11)) (sym whole-place) (omega (arith, power 11 (lit≤ tt), mul-le-mul-right (10 ^ place (negsuc 11)) h)));
+    })
 cap-units Cancer m h =
-    record { across = mul-le-mul-right (10 ^ depth) (omega (arith, power 7 (lit≤ tt), power 14 (lit≤ tt), mul-le-mul-right (10 ^ place (negsuc 14)) h)) }
+    through (record { above-zero = lit< tt }) (one-pair .1 .low) (record { across = omega (arith, power 14 (lit≤ tt), mul-le-mul-right (10 ^ place (negsuc 14)) h) })
 
 unit-reach : (e : Effect) → inReach (unitOf e) ≡ true
 unfolding unitOf

@@ -4,12 +4,12 @@ use mathlib.Core.Path.{_≡_}
 use mathlib.Core.Bool.{Bool, true, false, cond, not, _&&_, _||_}
 use mathlib.Core.List.{List, [], _∷_, _++_}
 use Prim.Native.Nat.{ℕ, zero, suc, _+_, _*_}
-use lib.IntN.{ℤ, negsuc}
+use lib.IntN.{ℤ, pos, negsuc}
 use Rattle.pair.specs.declared.Number.{Number}
 use Rattle.pair.specs.declared.Pair.{Pair}
 use Rattle.pair.specs.declared.Units.{Units}
-use Rattle.pair.specs.Number.{isPair}
-use Rattle.pair.specs.Calls.{Outcome, is, refused, compared, inUnits}
+use Rattle.pair.specs.Number.{isPair, one}
+use Rattle.pair.specs.Calls.{Outcome, is, refused, compared, written, inUnits}
 use Rattle.equations.specs.declared.Pathway.{Pathway}
 use Rattle.equations.specs.declared.Pathway.the-variants.{Air, SoilSummer, SoilWinter, Skin, AboveGround, BelowGround}
 use Rattle.equations.specs.declared.Effect.{Effect}
@@ -97,8 +97,8 @@ highAbove bound (refused n) = false
 
 -- a quotient's high end is at most 10,000, a risk's at most 1
 unfoldable pub capOf : Effect → Number
-capOf Hazard = record { significand = 100000000; exponent = negsuc 3 }
-capOf Cancer = record { significand = 100000000; exponent = negsuc 7 }
+capOf Hazard = written 10000 (pos 0)
+capOf Cancer = one
 
 -- a figure that the pair rule refuses, which never prints -
 unfoldable pub unworked : Effect → Scenario → ℕ → ℕ → Pathway → Bool

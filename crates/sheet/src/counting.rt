@@ -1,40 +1,30 @@
 // A line's figures counted in units, and held against their caps.
 use equations::Effect;
+use pair::Answer;
 use pair::Count;
-use pair::Number;
 use pair::Order;
 use pair::Pair;
 use pathway::Figure;
 use totals::Columns;
 ghost use mathlib.Core.Path.{_≡_};
-ghost use Rattle.pair.specs.Calls.{is};
+ghost use Rattle.pair.specs.Calls.{answer, is};
 ghost use Rattle.pathway.specs.Lines as lines;
 ghost use Rattle.scenario.specs.Scenario.{isRefused};
 ghost use Rattle.sheet.specs.Sheet.{unitOf, capOf, countedIn, highAbove};
 ghost use Rattle.sheet.specs.Inner.{columnsOf, aboveCap};
-
-// A quotient's high end is at most 10,000, a risk's at most 1.
-const HAZARD_CAP: Number = Number {
-    significand: 100_000_000,
-    exponent: -4,
-};
-
-const CANCER_CAP: Number = Number {
-    significand: 100_000_000,
-    exponent: -8,
-};
 
 // Quotients are counted in units of 1E-12, risks in 1E-15.
 const HAZARD_UNIT: i32 = -12;
 
 const CANCER_UNIT: i32 = -15;
 
-fn cap_of(effect: Effect) -> Number
-    ensures { λ r. ⌜ r ≡ capOf effect ⌝ }
+// A quotient's high end is at most 10,000, a risk's at most 1: a pair with the cap at both ends.
+fn cap_of(effect: Effect) -> Answer
+    ensures { λ r. ⌜ answer r ≡ is (record { low = capOf effect; high = capOf effect }) ⌝ }
 {
     match effect {
-        Effect::Hazard => HAZARD_CAP,
-        Effect::Cancer => CANCER_CAP,
+        Effect::Hazard => Pair::entry(10_000, 0),
+        Effect::Cancer => Pair::ONE.answer(),
     }
 }
 
@@ -47,14 +37,23 @@ fn unit_of(effect: Effect) -> i32
     }
 }
 
-fn is_above(p: Pair, bound: Number) -> bool
-    ensures { λ r. ⌜ r ≡ highAbove bound (is p) ⌝ }
+fn is_above(p: Pair, bound: Pair) -> bool
+    ensures { λ r. ⌜ r ≡ highAbove (bound .high) (is p) ⌝ }
 {
-    match p.high.compare(bound) {
+    match p.high.compare(bound.high) {
         Order::AtMost => false,
         Order::Above => true,
         Order::Refused => false,
     }
+}
+
+fn exceeds(p: Pair, effect: Effect) -> bool
+    ensures { λ r. ⌜ r ≡ highAbove (capOf effect) (is p) ⌝ }
+{
+    let Answer::Is(cap) = cap_of(effect) else {
+        return false;
+    };
+    is_above(p, cap)
 }
 
 fn counted(p: Pair, unit: i32) -> Columns
@@ -95,7 +94,7 @@ pub(crate) fn above_cap(figure: Figure, effect: Effect) -> bool
     ensures { λ r. ⌜ r ≡ aboveCap effect (lines.figure figure) ⌝ }
 {
     match figure {
-        Figure::Is(p) => is_above(p, cap_of(effect)),
+        Figure::Is(p) => exceeds(p, effect),
         Figure::Absent => false,
         Figure::Refused => false,
     }

@@ -8,18 +8,20 @@ use borrow.Author.Tests.{not-true, not-false}
 use Rattle.pair.specs.declared.Pair.{Pair}
 use Rattle.pair.specs.Number.{one}
 use Rattle.pair.specs.Calls.{Outcome, is, answer, after, onePair, entry, sum, product, quotient, partial, nextTerm}
+use Rattle.pair.proofs.Promises.{one-entry}
+use Rattle.pair.proofs.ChainPromises.{next-term-told}
 use Rattle.equations.specs.Formula.{pairs}
-use Rattle.equations.specs.Series.{phi, step}
-use Rattle.equations.proofs.SeriesFigures.{firstPair}
+use Rattle.equations.specs.Series.{phi, first, step}
 use Rattle.media.proofs.Sofar.{Sofar, nextOf, start, at-none, entered, step-refused, again, stopped, done}
 use Rattle.media.proofs.terms.sum_of_terms.Statement.{statement}
 use Rattle.media.proofs.terms.sum_of_terms.Tie as tie
 
 -- φ's step is one call
 made : (x term total d : Pair) (n : ℕ) → entry (n + 2) (pos 0) ≡ is d → nextTerm term total x d ≡ nextOf phi x n term total
-unfolding nextTerm nextOf step pairs after
+unfolding nextOf step pairs after
 made x term total d n h =
-    ap (λ (u : Outcome Pair). let t : Outcome Pair = after quotient (product term x) u in partial t (after sum (is total) t)) (sym h)
+    next-term-told term total x d
+    ∙ ap (λ (u : Outcome Pair). let t : Outcome Pair = after quotient (product term x) u in partial t (after sum (is total) t)) (sym h)
 
 abbrev Inv-loop : tie.InvT-loop
 Inv-loop x term₀ total₀ n₀ term total n = Sofar phi x term total n
@@ -34,12 +36,12 @@ answer-requires : tie.Need-answer-requires Inv-loop μ-loop
 answer-requires c κs = tt
 
 returns : tie.Need-returns Inv-loop μ-loop
-unfolding firstPair onePair one
-returns c = c .answer .ensures ∙ at-none phi (c .before .before .before .args .x) (c .before .before .is-none .ensures (c .before .if1 .taken))
+unfolding first pairs onePair one
+returns c = c .answer .ensures ∙ at-none phi (c .before .before .before .args .x) onePair one-entry (c .before .before .is-none .ensures (c .before .if1 .taken))
 
 loop-holds : tie.Need-loop-holds Inv-loop μ-loop
-unfolding firstPair onePair one
-loop-holds c = start phi (c .before .before .args .x)
+unfolding first pairs onePair one
+loop-holds c = start phi (c .before .before .args .x) onePair one-entry
 
 add-entry : tie.Need-add-entry Inv-loop μ-loop
 add-entry c = record { fits = omega (arith, c .loop-test .taken) }

@@ -1,7 +1,8 @@
 -- Three steps of a chain, each ×. Assumes nothing.
-use mathlib.Core.Path.{refl}
+use mathlib.Core.Path.{_∙_}
 use borrow.Author.Needs.{needs}
-use Rattle.pair.specs.Calls.{stepped}
+use Rattle.pair.specs.Promises.{operationOf, call}
+use Rattle.pair.proofs.ChainPromises.{through-is}
 use Rattle.pathway.proofs.exposure.times_three.Statement.{statement}
 use Rattle.pathway.proofs.exposure.times_three.Tie as tie
 
@@ -9,9 +10,8 @@ through-requires : tie.Need-through-requires
 through-requires c κs = search needs
 
 returns : tie.Need-returns
-unfolding stepped
-returns c = rw (c .through .ensures)
-    refl
+unfolding operationOf call
+returns c = c .through .ensures ∙ through-is _ _ _ _ _ _ _
 
 pub times-three-spec : {M : Type 1} → statement M
 times-three-spec = tie.close (tie.spec through-requires returns)

@@ -9,11 +9,8 @@ use Rattle.sheet.proofs.counting.above_cap.Tie as tie
 enum-known-figure : tie.Need-enum-known-figure
 enum-known-figure c = search needs
 
-cap-of-requires : tie.Need-cap-of-requires
-cap-of-requires c κs = search needs
-
-is-above-requires : tie.Need-is-above-requires
-is-above-requires c κs = search needs
+exceeds-requires : tie.Need-exceeds-requires
+exceeds-requires c κs = search needs
 
 enum-told : tie.Need-enum-told
 enum-told c = search needs
@@ -23,7 +20,7 @@ enum-told-2 c = search needs
 
 returns : tie.Need-returns
 unfolding figure aboveCap
-returns c = rw (c .before .before .before .figure .given .1, c .is-above .ensures, c .before .cap-of .ensures) refl
+returns c = rw (c .before .before .figure .given .1, c .exceeds .ensures) refl
 
 returns-2 : tie.Need-returns-2
 unfolding figure aboveCap
@@ -38,8 +35,7 @@ above-cap-spec =
     tie.close
     (tie.spec
     enum-known-figure
-    cap-of-requires
-    is-above-requires
+    exceeds-requires
     enum-told
     enum-told-2
     returns
