@@ -215,11 +215,12 @@ fn of_long(s: &[u8]) -> bool {
     )
 }
 
-// A pair that is tested.
+// A pair that is tested. Made of its ends it must be answered the same.
 fn of_checked(s: &[u8]) -> bool {
     let e = read_ends(s, 7, true);
     let p = e.value;
     same_answer(s, e.at, e.good, p.checked())
+        && same_answer(s, e.at, e.good, Pair::of_ends(p.low, p.high))
 }
 
 // A product and a quotient in one call: three pairs.
