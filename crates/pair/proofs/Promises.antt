@@ -22,7 +22,6 @@ use Rattle.pair.specs.Rounding.{rounded, restEnd, unitsEnd, divided}
 use Rattle.pair.specs.Calls.{is, refused, provided, zeroPair, onePair, ends, checked, mostPrinted, entry, written, longEntry, oneMinusEntry, sum, product, quotient, oneMinus, compared, inUnits}
 use Rattle.pair.specs.Promises.{Operation, sums, products, quotients, call, exactResult, lowEnd, highEnd, withLow, withHigh, Holds, Beside, Close, grown, Rounded, Around, Sized, _≤ₑ_, scaled}
 use Rattle.pair.proofs.Exponents.{mag-minus}
-use Rattle.pair.proofs.Alignment.{order-level}
 use Rattle.pair.proofs.Powers.{ten-above, ten-reflects}
 use Rattle.pair.proofs.Dividing.{down-least, down-most, up-least, up-most}
 use Rattle.pair.proofs.Fractions.{rest-falls-exactly}
@@ -31,7 +30,7 @@ unfoldable pub use Rattle.pair.proofs.Fractions.{Usable, Along}
 use Rattle.pair.proofs.Numbers.{both, reach-mag, number-reach}
 pub use Rattle.pair.proofs.Numbers.{zero-is}
 use Rattle.pair.proofs.Providing.{by-cases, never}
-use Rattle.pair.proofs.Ordered.{both-from, number, number-from, zero-number, working, not-at-most, size-small}
+use Rattle.pair.proofs.Ordered.{both-from, number, number-from, zero-number, working, not-at-most}
 pub use Rattle.pair.proofs.Ordered.{at-most, value-proper, size-reach}
 use Rattle.pair.proofs.Nearest.{rounded-nearest, rounded-reach, rounded-narrow, rounded-itself}
 use Rattle.pair.proofs.Rests.{share-from}
@@ -526,10 +525,6 @@ module _ (m : ℕ) (e : ℤ) (few : m ≤ 999999999) (size : mag e ≤ 99000) wh
       let x : Holds (pair (written m e) (written m e)) (scaled m e) = entry-exact m e (pair (written m e) (written m e)) few written-entry .1 in
       record { across = le-antisymm (x .low .across) (x .high .across) }
 
--- Nine figures and an exponent in reach make a working number.
-pub number-written : (m : ℕ) (e : ℤ) → 100000000 ≤ m → m ≤ 999999999 → mag e < 99999 → isNumber (number m e) ≡ true
-number-written m e l h n = number-from (number m e) l h (size-reach e n)
-
 few-zeros : (m k : ℕ) → 100000000 ≤ m * 10 ^ k → m * 10 ^ k ≤ 999999999 → k ≤ 9
 few-zeros m k l h = omega (arith, ten-reflects {i = k} {j = 9} (omega (arith, mul-le-mul-right {m = 1} {n = m} (10 ^ k) (lt-of-mul-lt-mul-right (10 ^ k) {m = 0} (omega arith)))))
 
@@ -554,9 +549,6 @@ entry-written m k e l h n = written-entry m e (digits-few m k h) n ∙ ap (λ (w
 pub one-entry : entry 1 (pos 0) ≡ is onePair
 unfolding onePair one
 one-entry = entry-written 1 8 (pos 0) (lit≤ tt) (lit≤ tt) (lit≤ tt)
-
-pub per-million-entry : entry 1 (negsuc 5) ≡ is (pair (number 100000000 (negsuc 13)) (number 100000000 (negsuc 13)))
-per-million-entry = entry-written 1 8 (negsuc 5) (lit≤ tt) (lit≤ tt) (lit≤ tt)
 
 pub zero-entry : (e : ℤ) → inReach e ≡ true → entry 0 e ≡ is zeroPair
 unfolding entry rounded zeroPair
@@ -670,11 +662,6 @@ compared-answered a b p q = provided-true (is (atMost a b)) (both-from p q)
 -- A working number is at most itself.
 pub compared-itself : (w : Number) → isNumber w ≡ true → compared w w ≡ is true
 compared-itself w n = compared-answered w w n n ∙ ap is (at-most w w n n .1 (below-itself (value w)))
-
--- Two working numbers with one exponent are compared by their significands.
-pub compared-level : (a b : Number) → isNumber a ≡ true → isNumber b ≡ true → a .exponent ≡ b .exponent →
-    compared a b ≡ is (leb (a .significand) (b .significand))
-compared-level a b p q h = compared-answered a b p q ∙ ap is (order-level a b (size-small (working a p .reach)) h)
 
 -- n counts p in units of 10^u: the low end down, the high end up, and by less than one unit
 pub record Counted (p : Pair) (u : ℤ) (n : Units) : Type 0 where

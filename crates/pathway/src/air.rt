@@ -102,7 +102,7 @@ fn quotient_in_air(exposure: Exposed, rfc: Rfc) -> Figure
     let Exposed::Is(x) = exposure else {
         return Figure::Refused;
     };
-    worked_figure(x.0.quotient(rfc.0))
+    worked_figure(x.0.answer().over(rfc.0.answer()))
 }
 
 // Risk = exposure concentration × 1000 × unit risk: mg/m³, µg/mg, and per µg/m³.

@@ -1,5 +1,5 @@
 //! Factors, doses and figures, each a quantity of its own. What an operation answers becomes one where it is told, and in no enum of its own between:
-//! that is some eight parts in a hundred of a report's time.
+//! that is some ten parts in a hundred of a report's time.
 use crate::Csf;
 use crate::Dose;
 use crate::Factor;
@@ -46,11 +46,11 @@ fn medium_of(pathway: Pathway, media: Media) -> Medium
     }
 }
 
-// A dose = factor × the concentration of the pathway's medium.
-fn dose_for(factor: Factor, pathway: Pathway, media: Media) -> Answer
-    ensures { λ r. ⌜ answer r ≡ product (factor .0) (mediumFor pathway media .0) ⌝ }
+// A dose = factor × concentration.
+fn dose_of(factor: Factor, medium: Medium) -> Answer
+    ensures { λ r. ⌜ answer r ≡ product (factor .0) (medium .0) ⌝ }
 {
-    factor.0.product(medium_of(pathway, media).0)
+    factor.0.product(medium.0)
 }
 
 // A worked figure.
@@ -67,7 +67,7 @@ pub(crate) fn worked_figure(a: Answer) -> Figure
 fn quotient_of(dose: Dose, rfd: Rfd) -> Figure
     ensures { λ r. ⌜ figure r ≡ figureOf Hazard (is dose) (some (rfd .0)) ⌝ }
 {
-    worked_figure(dose.0.quotient(rfd.0))
+    worked_figure(dose.0.answer().over(rfd.0.answer()))
 }
 
 // Risk = dose × CSF.
@@ -90,16 +90,10 @@ pub(crate) fn hazard_from(
     let GivenRfd::Is(least) = rfd else {
         return Figure::Absent;
     };
-    let Answer::Is(x) = exposure else {
+    let Answer::Is(f) = exposure.over(base) else {
         return Figure::Refused;
     };
-    let Answer::Is(b) = base else {
-        return Figure::Refused;
-    };
-    let Answer::Is(f) = x.quotient(b) else {
-        return Figure::Refused;
-    };
-    let Answer::Is(d) = dose_for(Factor(f), pathway, media) else {
+    let Answer::Is(d) = dose_of(Factor(f), medium_of(pathway, media)) else {
         return Figure::Refused;
     };
     quotient_of(Dose(d), least)
@@ -118,16 +112,10 @@ pub(crate) fn cancer_from(
     let GivenCsf::Is(slope) = csf else {
         return Figure::Absent;
     };
-    let Answer::Is(x) = exposure else {
+    let Answer::Is(f) = exposure.over(base) else {
         return Figure::Refused;
     };
-    let Answer::Is(b) = base else {
-        return Figure::Refused;
-    };
-    let Answer::Is(f) = x.quotient(b) else {
-        return Figure::Refused;
-    };
-    let Answer::Is(d) = dose_for(Factor(f), pathway, media) else {
+    let Answer::Is(d) = dose_of(Factor(f), medium_of(pathway, media)) else {
         return Figure::Refused;
     };
     risk_of(Dose(d), slope)

@@ -22,17 +22,31 @@ returns : tie.Need-returns
 unfolding figure exposed
 returns c = rw (c .enum-told .given .1, refused-in-air) refl
 
-quotient-requires : tie.Need-quotient-requires
-quotient-requires c κs = search needs
+answer-requires : tie.Need-answer-requires
+answer-requires c κs = search needs
+
+answer-requires-2 : tie.Need-answer-requires-2
+answer-requires-2 c κs = search needs
+
+over-requires : tie.Need-over-requires
+over-requires c κs = search needs
 
 worked-figure-requires : tie.Need-worked-figure-requires
 worked-figure-requires c κs = search needs
 
 returns-2 : tie.Need-returns-2
 unfolding after mapped exposed airFigureBy ofTwo plain plainWith read letters pairs same airFigureOf
-returns-2 c = rw (c .before .before .before .exposure .given .1, c .worked-figure .ensures, c .before .quotient .ensures) refl
+returns-2 c = rw (c .before .before .before .before .before .exposure .given .1, c .worked-figure .ensures, c .before .over .ensures, c .before .before .answer2 .ensures, c .before .before .before .answer .ensures) refl
 
 pub quotient-in-air-spec : {M : Type 1} → statement M
 quotient-in-air-spec =
     tie.close
-    (tie.spec enum-known-exposure enum-told returns quotient-requires worked-figure-requires returns-2)
+    (tie.spec
+    enum-known-exposure
+    enum-told
+    returns
+    answer-requires
+    answer-requires-2
+    over-requires
+    worked-figure-requires
+    returns-2)

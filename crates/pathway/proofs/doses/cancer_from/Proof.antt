@@ -18,58 +18,41 @@ returns : tie.Need-returns
 unfolding figure figureOf csfValue
 returns c = rw (c .enum-told .given .1) refl
 
-enum-known-exposure : tie.Need-enum-known-exposure
-enum-known-exposure c = search needs
+over-requires : tie.Need-over-requires
+over-requires c κs = search needs
+
+enum-known-f : tie.Need-enum-known-f
+enum-known-f c = search needs
 
 enum-told-2 : tie.Need-enum-told-2
 enum-told-2 c = search needs
 
 returns-2 : tie.Need-returns-2
 unfolding answer figure after mapped doseFor factorWith csfValue
-returns-2 c = rw (c .before .before .before .csf .given .1, c .enum-told2 .given .1) (sym (refused-carried Cancer 53 _))
+returns-2 c = rw (c .before .before .before .before .csf .given .1, ← c .before .before .over .ensures, c .enum-told2 .given .1) (sym (refused-carried Cancer 53 _))
 
-enum-known-base : tie.Need-enum-known-base
-enum-known-base c = search needs
+medium-of-requires : tie.Need-medium-of-requires
+medium-of-requires c κs = search needs
+
+dose-of-requires : tie.Need-dose-of-requires
+dose-of-requires c κs = search needs
+
+enum-known-d : tie.Need-enum-known-d
+enum-known-d c = search needs
 
 enum-told-3 : tie.Need-enum-told-3
 enum-told-3 c = search needs
 
 returns-3 : tie.Need-returns-3
 unfolding answer figure after mapped doseFor factorWith csfValue
-returns-3 c = rw (c .before .before .before .before .before .before .csf .given .1, c .before .before .before .exposure .given .1, c .enum-told3 .given .1) (sym (refused-carried Cancer 53 _))
-
-quotient-requires : tie.Need-quotient-requires
-quotient-requires c κs = search needs
-
-enum-known-f : tie.Need-enum-known-f
-enum-known-f c = search needs
-
-enum-told-4 : tie.Need-enum-told-4
-enum-told-4 c = search needs
-
-returns-4 : tie.Need-returns-4
-unfolding answer figure after mapped doseFor factorWith csfValue
-returns-4 c = rw (c .before .before .before .before .before .before .before .before .before .before .csf .given .1, c .before .before .before .before .before .before .before .exposure .given .1, c .before .before .before .before .base .given .1, ← c .before .before .quotient .ensures, c .enum-told4 .given .1) (sym (refused-carried Cancer 53 _))
-
-dose-for-requires : tie.Need-dose-for-requires
-dose-for-requires c κs = search needs
-
-enum-known-d : tie.Need-enum-known-d
-enum-known-d c = search needs
-
-enum-told-5 : tie.Need-enum-told-5
-enum-told-5 c = search needs
-
-returns-5 : tie.Need-returns-5
-unfolding answer figure after mapped doseFor factorWith csfValue
-returns-5 c = rw (c .before .before .before .before .before .before .before .before .before .before .before .before .before .before .csf .given .1, c .before .before .before .before .before .before .before .before .before .before .before .exposure .given .1, c .before .before .before .before .before .before .before .before .base .given .1, ← c .before .before .before .before .before .before .quotient .ensures, c .before .before .before .before .f .given .1, ← c .before .before .dose-for .ensures, c .enum-told5 .given .1) (sym (refused-carried Cancer 53 _))
+returns-3 c = rw (c .before .before .before .before .before .before .before .before .before .csf .given .1, ← c .before .before .before .before .before .before .before .over .ensures, c .before .before .before .before .before .f .given .1, ← c .before .before .before .medium-of .ensures, ← c .before .before .dose-of .ensures, c .enum-told3 .given .1) (sym (refused-carried Cancer 53 _))
 
 risk-of-requires : tie.Need-risk-of-requires
 risk-of-requires c κs = search needs
 
-returns-6 : tie.Need-returns-6
+returns-4 : tie.Need-returns-4
 unfolding answer after mapped doseFor factorWith csfValue
-returns-6 c = rw (c .before .before .before .before .before .before .before .before .before .before .before .before .before .before .before .before .csf .given .1, c .before .before .before .before .before .before .before .before .before .before .before .before .before .exposure .given .1, c .before .before .before .before .before .before .before .before .before .before .base .given .1, ← c .before .before .before .before .before .before .before .before .quotient .ensures, c .before .before .before .before .before .before .f .given .1, ← c .before .before .before .before .dose-for .ensures, c .before .before .d .given .1) (c .risk-of .ensures)
+returns-4 c = rw (c .before .before .before .before .before .before .before .before .before .before .before .csf .given .1, ← c .before .before .before .before .before .before .before .before .before .over .ensures, c .before .before .before .before .before .before .before .f .given .1, ← c .before .before .before .before .before .medium-of .ensures, ← c .before .before .before .before .dose-of .ensures, c .before .before .d .given .1) (c .risk-of .ensures)
 
 pub cancer-from-spec : {M : Type 1} → statement M
 cancer-from-spec =
@@ -78,19 +61,14 @@ cancer-from-spec =
     enum-known-csf
     enum-told
     returns
-    enum-known-exposure
+    over-requires
+    enum-known-f
     enum-told-2
     returns-2
-    enum-known-base
+    medium-of-requires
+    dose-of-requires
+    enum-known-d
     enum-told-3
     returns-3
-    quotient-requires
-    enum-known-f
-    enum-told-4
-    returns-4
-    dose-for-requires
-    enum-known-d
-    enum-told-5
-    returns-5
     risk-of-requires
-    returns-6)
+    returns-4)

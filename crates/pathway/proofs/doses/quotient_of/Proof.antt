@@ -11,15 +11,23 @@ use Rattle.pathway.specs.Lines.{figureOf}
 use Rattle.pathway.proofs.doses.quotient_of.Statement.{statement}
 use Rattle.pathway.proofs.doses.quotient_of.Tie as tie
 
-quotient-requires : tie.Need-quotient-requires
-quotient-requires c κs = search needs
+answer-requires : tie.Need-answer-requires
+answer-requires c κs = search needs
+
+answer-requires-2 : tie.Need-answer-requires-2
+answer-requires-2 c κs = search needs
+
+over-requires : tie.Need-over-requires
+over-requires c κs = search needs
 
 worked-figure-requires : tie.Need-worked-figure-requires
 worked-figure-requires c κs = search needs
 
 returns : tie.Need-returns
 unfolding after mapped figureBy ofTwo plain plainWith read letters pairs same figureOf
-returns c = rw (c .worked-figure .ensures, c .before .quotient .ensures) refl
+returns c = rw (c .worked-figure .ensures, c .before .over .ensures, c .before .before .answer2 .ensures, c .before .before .before .answer .ensures) refl
 
 pub quotient-of-spec : {M : Type 1} → statement M
-quotient-of-spec = tie.close (tie.spec quotient-requires worked-figure-requires returns)
+quotient-of-spec =
+    tie.close
+    (tie.spec answer-requires answer-requires-2 over-requires worked-figure-requires returns)
