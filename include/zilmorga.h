@@ -2,18 +2,17 @@
  *
  * Every call returns 0, or the number of the first condition that stops it:
  *
- *   11  the deck is empty, longer than 8,343 bytes (a composite's: 9,963), or no whole number of lines of 81 bytes
+ *   11  the deck is empty, longer than 6,723 bytes (a composite's: 8,019), or no whole number of lines of 81 bytes
  *   12  a line is not 80 bytes from 32 to 126 and a line feed
- *   21  a line of this kind cannot come here, or EN is missing, told as the line past the last; a deck with records of four lines, from
- *       before drinking and bathing, stops so at line 7
+ *   21  a line of this kind cannot come here, or EN is missing, told as the line past the last
  *   22  an id is misspelled, unlike its record's, or not above the one before; or EN is not blank
  *   31  a field is neither blank nor a lone - nor a number
- *   32  a needed field is blank, - stands where a value is needed or for the year, or a field that is no slot is not blank
+ *   32  a needed field is blank, - stands where a value is needed or for the year, or a later field is not blank
  *   33  a value is out of its range, or the site's year is neither 2005 nor 2009
  *   41  free: no call returns it, since quickly lost chemicals are worked too
  *   42  a report line is too large: a quotient's high end above 10,000, or a risk's above 1
  *   51  the report buffer is shorter than 95 bytes for each report line
- *   52  a list of units is longer than 128 numbers, or has one above 1E+16
+ *   52  a list of units is longer than 96 numbers, or has one above 1E+16
  *   53  a pair call cannot be answered: see "Pairs" below
  *
  * docs/DECK.md tells how a deck is written, and what to do about 11 to 33.
@@ -21,8 +20,8 @@
  * Memory. The caller owns all of it. A call reads its const arguments and writes its other pointers' targets during the call, keeps no
  * pointer, allocates nothing and frees nothing. No pointer may be null, not even with a length of 0; each must be aligned for its type
  * and good for the whole length given. What a call writes must not overlap anything else that is passed to the same call, so
- * zilmorga_sum(a, b, a) is wrong, and line and field must be two objects. zilmorga_report takes some 100 KB of
- * stack, zilmorga_composite_report some 114 KB, reading alone 67 KB, whatever the deck.
+ * zilmorga_sum(a, b, a) is wrong, and line and field must be two objects. zilmorga_report takes some 73 KB of
+ * stack, zilmorga_composite_report some 84 KB, reading alone 54 KB, whatever the deck.
  *
  * Threads. There is no state: no global variable, no setting, no errno. Calls may run at the same time in any threads, as long as no
  * call writes what another reads or writes.
@@ -41,13 +40,13 @@
 extern "C" {
 #endif
 
-/* The longest deck, and a report buffer that is long enough for every deck: 516 lines of 95 bytes. */
-#define ZILMORGA_LONGEST_DECK 8343
-#define ZILMORGA_LONGEST_REPORT 49020
+/* The longest deck, and a report buffer that is long enough for every deck: 388 lines of 95 bytes. */
+#define ZILMORGA_LONGEST_DECK 6723
+#define ZILMORGA_LONGEST_REPORT 36860
 
-/* The same of a composite: 129 lines, those of one receptor. */
-#define ZILMORGA_LONGEST_COMPOSITE_DECK 9963
-#define ZILMORGA_LONGEST_COMPOSITE_REPORT 12255
+/* The same of a composite: 97 lines, those of one receptor. */
+#define ZILMORGA_LONGEST_COMPOSITE_DECK 8019
+#define ZILMORGA_LONGEST_COMPOSITE_REPORT 9215
 
 /* Decks
  *
@@ -56,9 +55,8 @@ extern "C" {
 
 /* The report of a deck of n bytes, into a buffer of room bytes. Each receptor has its length of exposure in slot 22, over which cancer's
  * soil is a mean. The site's slot 12 is 2005, 2009 or blank, which means 2005: by 2009 pathway 1 is worked from the concentration in air,
- * and RfDi is a reference concentration in mg/m3, CSFi a unit risk per ug/m3. Each chemical has eight lines, of which 7 is drinking and 8
- * bathing. On 0, *line is the report's length in bytes and *field is 0; the bytes of the buffer past the report stay as they were. On a
- * refusal the whole buffer does.
+ * and RfDi is a reference concentration in mg/m3, CSFi a unit risk per ug/m3. On 0, *line is the report's length in bytes and *field is 0;
+ * the bytes of the buffer past the report stay as they were. On a refusal the whole buffer does.
  * Refusals, the first that holds: 11; then line by line 12, 21, 22, and in each field 31, 32, 33; then 51, 42. */
 uint32_t zilmorga_report(const uint8_t *deck, size_t n, uint8_t *report, size_t room, size_t *line, size_t *field);
 
@@ -71,7 +69,7 @@ uint32_t zilmorga_composite_report(const uint8_t *deck, size_t n, uint8_t *repor
 uint32_t zilmorga_read(const uint8_t *deck, size_t n, size_t *line, size_t *field);
 uint32_t zilmorga_composite_read(const uint8_t *deck, size_t n, size_t *line, size_t *field);
 
-/* The sum of a list of n units, at most 128. Refusal: 52, and *sum stays as it was. */
+/* The sum of a list of n units, at most 96. Refusal: 52, and *sum stays as it was. */
 uint32_t zilmorga_total(const uint64_t *list, size_t n, uint64_t *sum);
 
 /* Pairs

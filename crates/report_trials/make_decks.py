@@ -1,69 +1,45 @@
 #!/usr/bin/env python3
-"""make_decks.py ORACLE: stored decks with the answers of the independent reading in the folder ORACLE.
+"""make_decks.py ORACLE SEED FOLDER: stored decks with the answers of the independent reading in the folder ORACLE.
 
-Writes data/decks, data/composites, and stdout, which is what a trial of the one and then of the other prints.
+Writes FOLDER/decks, FOLDER/composites, and FOLDER/stdout, which is what a trial of the one and then of the other prints.
 
-The answers are those of level 12: document 01 with requests P1, P2, P4, P5, P6 and P12 (the others change none).
+The answers are those of level 6: document 01 with requests P1, P2, P4, P5 and P6 (P3 changes none). P6 changes what a filled slot 12 of the site means
+and nothing else: a deck whose slot 12 is blank must have the same answer at levels 5 and 6. P5 takes condition 41 away and changes nothing else: a deck
+that does not stop with 41 at level 4 must have the same answer at levels 4 and 5, and none may stop with 41 from there on. A deck of 2005 must have the
+answer that it has with slot 12 blank, and where both are reports, one of 2009 the same lines of pathways 2 to 6. An accepted deck's totals must hold to
+demand 3 with 256 terms. Else the script stops.
 
-The decks of document 01 and P1 to P6 are the ones that were stored before P12, with a C5 behind each C4, an R5 behind each R4 and 0 in each slot of P12.
-They and their answers of level 6 are made anew, and must be the bytes that were stored (BEFORE_WATER). The answer that is stored now is built from the one
-of level 6: the lines of pathways 1 to 6 and the totals as they were, 0 in the lines of 7 and 8 where the oral reference value is given and - where it is
-not, and the lines of a deck or a report counted anew; it must be that of level 12. What they are chosen by: those of document 01, P1, P2 and P4 by their
-answer at level 4, where a number wanted may be 41, those of P5 by that at level 5, and those of P6 by that at level 6. Their answers are held to those
-of earlier levels too: P6 changes what a filled slot 12 of the site means and nothing else, P5 takes condition 41 away and changes nothing else. A deck of
-2005 must have the answer that it has with slot 12 blank, and where both are reports, one of 2009 the same lines of pathways 2 and on.
-
-P12's decks, at the end, are chosen by their answer at level 12. Without C5, R5 and slot 24 of the receptors each must have at level 6 the lines of pathways 1
-to 6 and the totals without the lines of 7 and 8, or stop at the same place, unless it stops at what P12 added.
-
-An accepted deck's totals must hold to demand 3 with 256 terms. Else the script stops.
+The decks of document 01, P1, P2 and P4 are the ones that were stored before P5: what they are chosen by is their answer at level 4, where a number wanted
+may be 41. Those of P5 are chosen by their answer at level 5, and those of P6, at the end, by their answer at level 6.
 """
 import collections
 import functools
-import hashlib
 import math
 import random
 import sys
-from pathlib import Path
-sys.dont_write_bytecode = True
 sys.path.insert(0, sys.argv[1])
 import oracle
 import decks
-from oracle import SITE, CHEM, NOVALUE, NONZERO, ATMOST1, ATMOST366, report, Refusal
+from oracle import SITE, CHEM, NOVALUE, NONZERO, ATMOST1, ATMOST366, deck_text, report, Refusal
 
-SEED = 20261116
+SEED = int(sys.argv[2])
 rng = random.Random(SEED)
-HERE = Path(__file__).parent
 LINE = 95
-LEVEL, DRY, UNDATED, FIRST = 12, 6, 5, 4        # with P12, P6, P5, P4
-BEFORE_WATER = {"decks": "4160ae34f34cf1e883d60283de201599150667b8f75716ef80c33e4bb0a52bac",
-                "composites": "372b087f4c22a3bd7f95d57f6904391e7bd5f98026b4f2ae2848cd45af0c0d69"}      # SHA-256 of the files before P12
+LEVEL, BEFORE, FIRST = 6, 5, 4
 ORDINARY, COMPOSITE = (FIRST, False), (FIRST, True)
 REC = oracle.REC + ["T2"]
 call = ORDINARY         # the level that decks are chosen by, and whether it is the composite call
-moved, renewed, rewritten = collections.Counter(), [], []
+moved, renewed = collections.Counter(), []
 
 
 class File:
     """the decks of a file, and of each kind how many have which number"""
     def __init__(self):
         self.stored, self.have, self.by_kind = [], set(), collections.defaultdict(collections.Counter)
-        self.before, self.accepted = [], []
+        self.accepted = []
 
 
 files = {"decks": File(), "composites": File()}
-
-
-def file_of(how):
-    return files["composites" if how[1] else "decks"]
-
-
-def deck_text(*records):
-    return oracle.deck_text(*records, call[0])
-
-
-def lines_of(text, width=81):
-    return [text[i:i + width] for i in range(0, len(text), width)]
 
 
 def answer(deck, room, how=None):
@@ -75,14 +51,13 @@ def answer(deck, room, how=None):
         return e.answer, b""
 
 
-def need(deck, how=None):
+def need(deck):
     """bytes of its report, or None where the deck itself is refused"""
-    how = how or call
     try:
-        site, chems, recs = oracle.read_deck(deck, *how)
+        site, chems, recs = oracle.read_deck(deck, *call)
     except Refusal:
         return None
-    return LINE * (1 if how[1] else len(recs)) * (oracle.Rules(*how).pathways * len(chems) + 1)
+    return LINE * (1 if call[1] else len(recs)) * (6 * len(chems) + 1)
 
 
 def any_room(deck):
@@ -92,14 +67,10 @@ def any_room(deck):
     return rng.choice([n, n, n + 1, n + rng.randint(2, 700), n + 95, n + rng.randint(100, 900)])
 
 
-def is_text(part):
-    return all(32 <= c <= 126 for c in part)
-
-
 def without_exposure(deck):
     """an ordinary deck as it was before P4"""
     for at in range(0, len(deck) - 80, 81):
-        if deck[at:at + 2] == b"R4" and is_text(deck[at + 44:at + 56]):
+        if deck[at:at + 2] == b"R4" and all(32 <= c <= 126 for c in deck[at + 44:at + 56]):
             deck = deck[:at + 44] + b" " * 12 + deck[at + 56:]
     return deck
 
@@ -110,183 +81,42 @@ def slot_12(deck):
 
 
 def beside_air(text):
-    """a report's lines of pathways 2 and on"""
+    """a report's lines of pathways 2 to 6"""
     return [line for line in text.splitlines() if line[12:14] not in (b" 0", b" 1")]
 
 
-def hold_year(deck, room, now, how):
-    """where the year is read: the answer is that of a blank slot 12, or beside the air's lines, and the year 2009"""
-    if slot_12(deck) and now[0][0] in (0, 42, 51):
-        blank = answer(deck[:149] + b" " * 12 + deck[161:], room, how)
-        assert now == blank or oracle.read_deck(deck, *how)[0]["year"] == 2009 and (
-            42 in (now[0][0], blank[0][0]) or beside_air(now[1]) == beside_air(blank[1])), (now[0], blank[0])
-
-
 def held(deck, room):
-    """the answer that was stored before P12: the one before P6 where slot 12 is blank, and that the one before P5 but for 41"""
-    first, then, now = (answer(deck, room, (level, call[1])) for level in (FIRST, UNDATED, DRY))
+    """the answer that is stored: the one before P6 where slot 12 is blank, and that the one before P5 but for 41"""
+    first, then, now = (answer(deck, room, (level, call[1])) for level in (FIRST, BEFORE, LEVEL))
     assert then[0][0] != 41 and (first == then or first[0][0] == 41), (first[0], then[0])
     assert now[0][0] != 41 and (then == now or slot_12(deck)), (then[0], now[0])
-    hold_year(deck, room, now, (DRY, call[1]))
+    if slot_12(deck) and now[0][0] in (0, 42, 51):      # the year is 2005 or 2009
+        blank = answer(deck[:149] + b" " * 12 + deck[161:], room, (LEVEL, call[1]))
+        assert now == blank or oracle.read_deck(deck, LEVEL, call[1])[0]["year"] == 2009 and (
+            42 in (now[0][0], blank[0][0]) or beside_air(now[1]) == beside_air(blank[1])), (now[0], blank[0])
+    assert now[0][0] != 0 or oracle.demand_3(deck, 256, LEVEL, call[1])
     moved[call[1], now[0][0]] += first[0][0] == 41
-    if call[0] < DRY and then != now:
-        renewed.append((call[1], len(file_of(call).stored) + 1, slot_12(deck).decode(), then[0], now[0]))
+    if call[0] < LEVEL and then != now:
+        renewed.append((call[1], len(files["composites" if call[1] else "decks"].stored) + 1, slot_12(deck).decode(), then[0], now[0]))
     return now
-
-
-# ---- P12: a deck and its answer from before, and the deck without what is new ----
-FOURTH, FIFTH = (b"C4", b"R4"), (b"C5", b"R5")
-NO_WATER = {b"C": b"0".rjust(12) * 2 + b" " * 48, b"R": b"0".rjust(12) * 6}
-
-
-def is_a(line, *kinds):
-    return len(line) == 81 and line[:2] in kinds
-
-
-def with_slot_24(line, text):
-    return line[:68] + text.rjust(12) + line[80:]
-
-
-def without_slot_24(deck):
-    return b"".join(with_slot_24(line, b"") if is_a(line, b"R4") and is_text(line[68:80]) else line for line in lines_of(deck))
-
-
-def wet(deck):
-    """the deck with a C5 behind each C4, an R5 behind each R4 and 0 in each new slot; the place of each line in it, and that past the last"""
-    full, places = [], []
-    for line in lines_of(deck):
-        places.append(len(full) + 1)
-        full.append(with_slot_24(line, b"0") if is_a(line, b"R4") and not line[68:80].strip(b" ") else line)
-        if is_a(line, *FOURTH):
-            full.append(line[:1] + b"5" + line[2:8] + NO_WATER[line[:1]] + b"\n")
-    return b"".join(full), places + [len(full) + 1]
-
-
-def chemicals_of(deck):
-    return sum(is_a(line, b"C1") for line in lines_of(deck))
-
-
-def wet_line(line, chemicals):
-    """a report's line, counted with eight lines a chemical"""
-    receptor, within = divmod(line - 1, 6 * chemicals + 1)
-    return receptor * (8 * chemicals + 1) + within // 6 * 8 + within % 6 + 1
-
-
-def wet_report(text):
-    """with the lines of pathways 7 and 8, whose figures are 0 where line 6 has a figure"""
-    full = []
-    for line in lines_of(text, LINE):
-        full.append(line)
-        if line[12:14] == b" 6":
-            ends = b"".join((b"-" if end.strip() == b"-" else b"0").rjust(20) for end in lines_of(line[14:94], 20))
-            full += [line[:12] + path + ends + b"\n" for path in (b" 7", b" 8")]
-    return b"".join(full)
-
-
-def at_water(deck, told):
-    """the deck stops at slot 24 of a receptor, at C5 or R5, or at what stands in their place"""
-    number, line, field = told
-    if not 12 <= number <= 33:
-        return False
-    before, here = [b"", *(line[:2] for line in lines_of(deck)), b""][line - 1:line + 1]
-    return here in FIFTH or before in FOURTH or here == b"R4" and field == 6
-
-
-def brought_over(deck, room, told, rep):
-    """deck, buffer, answer and report with P12, from those before; a deck that stopped at slot 24 of a receptor has the reading's answer"""
-    how, (number, line, field) = (LEVEL, call[1]), told
-    full, places = wet(deck)
-    if number == 11 and len(full) % 81 == 0:            # still too long, if not empty
-        while 0 < len(full) <= oracle.Rules(*how).length:
-            full += full[-81:]
-    before = need(deck, (DRY, call[1]))
-    if before is not None and room >= before - LINE:
-        room += need(full, how) - before
-    if number > 30 and field == 6 and deck[81 * line - 81:81 * line - 79] == b"R4":
-        now = answer(full, room, how)
-        rewritten.append((call[1], len(file_of(call).stored) + 1, told, now[0]))
-    elif number == 0:
-        rep = wet_report(rep)
-        now = (0, len(rep), 0), rep
-    else:
-        line = wet_line(line, chemicals_of(deck)) if number == 42 else places[line - 1] if line else 0
-        now = (number, line, field), rep
-    assert now == answer(full, room, how), (told, now[0], answer(full, room, how)[0])
-    return full, room, *now
-
-
-def dry(deck):
-    """without C5, R5 and slot 24 of the receptors"""
-    return without_slot_24(b"".join(line for line in lines_of(deck) if not is_a(line, *FIFTH)))
-
-
-def figures_in(line):
-    return [None if end.strip() == b"-" else int(end) for end in lines_of(line[14:94], 20)]
-
-
-def dry_report(text):
-    """without the lines of pathways 7 and 8, and their figures taken from the totals"""
-    kept, off = [], [0] * 4
-    for line in lines_of(text, LINE):
-        if line[12:14] in (b" 7", b" 8"):
-            off = [a + (b or 0) for a, b in zip(off, figures_in(line))]
-        elif line[12:14] == b" 0":
-            kept.append(line[:14] + "".join(f"{'-' if a is None else a - b:>20}" for a, b in zip(figures_in(line), off)).encode() + b"\n")
-            off = [0] * 4
-        else:
-            kept.append(line)
-    return b"".join(kept)
-
-
-def hold_dry(deck, now):
-    """an answer of P12's decks to that of the deck without what is new, at level 6"""
-    (number, line, field), rep = now
-    then, before = answer(dry(deck), None, (DRY, call[1]))
-    if number == 0:
-        assert (then, before) == ((0, len(before), 0), dry_report(rep)), then
-    elif number == 42:
-        within = (line - 1) % (8 * chemicals_of(deck) + 1)
-        assert within % 8 > 5 or then[0] == 42 and wet_line(then[1], chemicals_of(deck)) == line, (now[0], then)
-    elif number == 51:
-        assert then[0] in (0, 42), then
-    elif not at_water(deck, now[0]):
-        added = sum(is_a(above, *FIFTH) for above in lines_of(deck)[:max(line - 1, 0)])
-        assert then == (number, line - added, field), (now[0], then)
-
-
-def renew(deck, room):
-    """deck, buffer, answer and report as they are stored"""
-    if call[0] == LEVEL:
-        now = answer(deck, room)
-        hold_year(deck, room, now, call)
-        hold_dry(deck, now)
-        return deck, room, *now
-    told, rep = held(deck, room)
-    file_of(call).before.append(entry(deck, room, told, rep))
-    return brought_over(deck, room, told, rep)
-
-
-def entry(deck, room, told, rep):
-    return "".join(f"{x:>6}" for x in (len(deck), room) + told).encode() + b"\n" + deck + rep
 
 
 def put(kind, deck, room=None, want=None):
     """stores it, where its number at the level of the call is wanted"""
     if room is None:
         room = any_room(deck)
-    file = file_of(call)
+    file = files["composites" if call[1] else "decks"]
     if (deck, room) in file.have:
         return False
     if want is not None and answer(deck, room)[0][0] not in want:
         return False
+    told, rep = held(deck, room)
+    assert len(deck) <= 8192 and room <= 40000, (len(deck), room)
     file.have.add((deck, room))
-    full, room, told, rep = renew(deck, room)
-    assert len(full) <= 10044 and room <= 49720, (len(full), room)      # the trial's own buffers
-    assert told[0] != 0 or oracle.demand_3(full, 256, LEVEL, call[1])
-    file.stored.append(entry(full, room, told, rep))
+    file.stored.append("".join(f"{x:>6}" for x in (len(deck), room) + told).encode() + b"\n" + deck + rep)
     file.by_kind[kind][told[0]] += 1
     if told[0] == 0:
-        file.accepted.append(full)
+        file.accepted.append(deck)
     return True
 
 
@@ -333,10 +163,10 @@ def top(name):
     return "1" if name in ATMOST1 else "366" if name in ATMOST366 else "1E+09"
 
 
-def realistic(nc, nr, receptor=None):
+def realistic(nc, nr, receptor=REC):
     s = (rng.randint(1, 999999), decks.record(rng, SITE, decks.typical))
     cs = [(i, decks.record(rng, CHEM, decks.typical)) for i in decks.ids(rng, nc)]
-    rs = [(i, decks.record(rng, receptor or REC, decks.typical)) for i in decks.ids(rng, nr)]
+    rs = [(i, decks.record(rng, receptor, decks.typical)) for i in decks.ids(rng, nr)]
     return s, cs, rs
 
 
@@ -656,7 +486,7 @@ def at(**texts):
 
 
 def value_of(text):
-    return oracle.read_number(text.rjust(12).encode(), DRY)
+    return oracle.read_number(text.rjust(12).encode(), LEVEL)
 
 
 def ends_of(text):
@@ -688,18 +518,10 @@ def long(v):
     return f"{v:.{width - 1 - len(str(int(v)))}f}"
 
 
-def long_record(names):
-    return ["" if n is None else long(lively(n)) for n in names]
-
-
 def long_deck(nc, nr):
-    return deck_text((rng.randint(1, 999999), long_record(SITE)), [(i, long_record(CHEM)) for i in decks.ids(rng, nc)],
-                     [(i, long_record(REC)) for i in decks.ids(rng, nr)])
-
-
-def long_records(nc, nr, receptor):
-    """numbered from 1"""
-    return ((1, long_record(SITE)), [(i, long_record(CHEM)) for i in range(1, nc + 1)], [(i, long_record(receptor)) for i in range(1, nr + 1)])
+    record = lambda names: [long(lively(n)) for n in names]
+    return deck_text((rng.randint(1, 999999), record(SITE)), [(i, record(CHEM)) for i in decks.ids(rng, nc)],
+                     [(i, record(REC)) for i in decks.ids(rng, nr)])
 
 
 K = "P1: ten to twelve digits in all fields"
@@ -723,24 +545,22 @@ def eleven_digits(name, wide):
     return f"{v:.{11 - len(str(int(v)))}f}"
 
 
-def reported(deck):
-    return answer(deck, None)[1]
-
-
-def telling(name, drawn, make=at, seen=reported):
-    """a deck that tells a drawn value from the working numbers next to it, by what is seen of the report"""
+def telling(name):
+    """a deck that tells its value from the working numbers next to it"""
     for k in range(400):
-        t = drawn(k)
+        t = eleven_digits(name, k > 60)
+        assert len(t) == 12, t
         low, high = ends_of(t)
-        mine, *others = (make(**{name: u}) for u in (t, nine_figures(low), nine_figures(high)))
-        if low != high and answer(mine, None)[0][0] == 0 and seen(mine) not in map(seen, others):
-            return mine
+        deck = at(**{name: t})
+        told, rep = answer(deck, None)
+        if low != high and told[0] == 0 and rep not in [answer(at(**{name: nine_figures(w)}), None)[1] for w in (low, high)]:
+            return deck
     raise SystemExit(f"{name}: no value tells its ends")
 
 
 for kind, names in NAMES:
     for name in names:
-        assert put(K, telling(name, lambda k: eleven_digits(name, k > 60)), None, {0})
+        assert put(K, telling(name), None, {0})
 
 # nine figures that carry
 K = "P1: nine figures that carry"
@@ -909,7 +729,7 @@ work = oracle.composite_person
 
 
 def stage(years="1", **c):
-    return with_(R0[:21] + ["", years] + (R0[23:] or [""]), STAGE, **c)
+    return with_(R0[:21] + ["", years, ""], STAGE, **c)
 
 
 FIVE = [stage(**ALIKE, **{k: v.split()[i] for k, v in TABLE.items()}) for i in range(5)]    # document 002's: crates/tally_composite says which are ours
@@ -958,10 +778,10 @@ def digits(v, count):
 def alone(figures):
     """a composite's deck of one stage, years and values of so many figures, and that receptor's ordinary deck"""
     while True:
-        some = {k: digits(min(max(lively(k), .001), 365), figures) for k in STAGE if k not in ("ED", "ATc", "years", None)}
+        some = {k: digits(min(max(lively(k), .001), 365), figures) for k in oracle.REC if k not in ("ED", "ATc")}
         years = digits(rng.uniform(1, 76), figures)
         fields = stage(years, ED="70", ATc="9", **{k: v for k, v in some.items() if value_of(v)})
-        plain = with_(fields[:22] + [""] + fields[23:], REC, ED=years, ATc=decks.exactly(365 * value_of(years)), T2=years)
+        plain = with_(fields[:22], REC, ED=years, ATc=decks.exactly(365 * value_of(years)), T2=years)
         pair = composite([fields], None, [C(Q="10")]), one(None, C(Q="10"), plain)
         if answer(pair[0], None, COMPOSITE)[0][0] == 0:
             return pair
@@ -1319,8 +1139,9 @@ for K, lists in {
         assert put(K, slow_if_long([with_(f, STAGE, years=y) for f, y in zip(EIGHT, years)]), None, {0})
 
 K = "values and years of ten to twelve digits"
+long_record = lambda names: ["" if k is None else long(lively(k)) for k in names]
 for nr in (1, 2, 3, 4, 5, 6, 7, 8):
-    fill(K, 1, lambda: deck_text(*long_records(1, nr, STAGE)), {0})
+    fill(K, 1, lambda: deck_text((1, long_record(SITE)), [(1, long_record(CHEM))], [(i, long_record(STAGE)) for i in range(1, nr + 1)]), {0})
 
 K = "fields at the ends of their ranges"
 ends_of_stage = {True: ["" if k is None else top(k) for k in STAGE], False: ["" if k is None else "1E-20" for k in STAGE]}
@@ -1358,7 +1179,7 @@ for deck, _ in singles[4][:6]:
 K = "one stage alone, not the ordinary report"
 for years in ("7.7777777", "1.2345678"):
     plain = oracle.example(*ORDINARY, recs=[{"ED": years, "ATc": decks.exactly(365 * value_of(years)), "T2": years}])
-    assert put(K, oracle.example(*COMPOSITE, recs=[{"years": years}])) and files["composites"].before[-1][-665:] != answer(plain, None, ORDINARY)[1]
+    assert put(K, oracle.example(*COMPOSITE, recs=[{"years": years}])) and files["composites"].stored[-1][-665:] != answer(plain, None, ORDINARY)[1]
 for deck, _ in unlike[5][:2] + unlike[7][:2]:
     assert put(K, deck, None, {0})
 
@@ -1688,7 +1509,7 @@ RUNOFF, RAIN = (dict(THIN, Kds="1E-20", **{k: "1E+09"}) for k in ("RO", "R"))
 EROSION = dict(THIN, Kds="1E+09", Xe="1E+09", SD="1E+09", ER="1E+09")
 ALL = {**EROSION, **{k: "1E+09" for k in ("RO", "R", "ksg", "ksv")}}
 
-ORDINARY, COMPOSITE = (UNDATED, False), (UNDATED, True)
+ORDINARY, COMPOSITE = (BEFORE, False), (BEFORE, True)
 call = ORDINARY
 solvents("P5: x at 64 and a unit of its ninth figure above",
          ("1", "0.5", "64", DOWN), ("1", "1", "64.0000001", UP), ("1", "0.5", "64.0000001", UP), ("10", "4", "6.40000001", UP), ("10", "10.05", "6.4", DOWN, DOWN),
@@ -1754,7 +1575,8 @@ K = "P5: ten to twelve digits in all fields"
 
 
 def long_solvents(nc, nr, receptor):
-    s, cs, rs = long_records(nc, nr, receptor)
+    record = lambda names: ["" if n is None else long(lively(n)) for n in names]
+    s, cs, rs = (1, record(SITE)), [(i, record(CHEM)) for i in range(1, nc + 1)], [(i, record(receptor)) for i in range(1, nr + 1)]
     for _, c in cs:
         c[11] = f"{10 ** rng.uniform(.3, 3) * 64 / float(s[1][2]):.10f}"[:12]
     return deck_text(s, cs, rs)
@@ -1895,9 +1717,9 @@ def first_lines(deck):
     return [line for line in answer(deck, None)[1].splitlines() if line[12:14] == b" 1"]
 
 
-def told_best(make, tries=10, ways=AIR_WAYS):
+def told_best(make, tries=10):
     """of accepted decks that make gives the one that tells the most ways apart"""
-    return max((accepted(make) for _ in range(tries)), key=lambda deck: len(told_apart(deck, ways)))
+    return max((accepted(make) for _ in range(tries)), key=lambda deck: len(told_apart(deck, AIR_WAYS)))
 
 
 NEW = dict(Q="0.1")        # the plain deck with a risk of the air below its cap under 2009
@@ -1927,7 +1749,7 @@ def stopped(K, deck, *shapes):
         assert answer(changed, None)[0] == told and put(K, changed), (told, changes)
 
 
-ORDINARY, COMPOSITE = (DRY, False), (DRY, True)
+ORDINARY, COMPOSITE = (LEVEL, False), (LEVEL, True)
 call = ORDINARY
 plain = one(None, C(**NEW))
 spelled("P6: a year in several spellings", plain, of_2009=6, of_2005=5)
@@ -1963,8 +1785,21 @@ def at_2009(**texts):
     return one(of_year("2009"), C(**c), R(**r))
 
 
-for name, span in SPAN.items():
-    assert put(K, telling(name, lambda k: digits(rng.uniform(*span), 11), at_2009, first_lines), None, {0})
+def telling_air(name):
+    """a deck whose line 1 tells its value from the working numbers next to it"""
+    for _ in range(400):
+        t = digits(rng.uniform(*SPAN[name]), 11)
+        low, high = ends_of(t)
+        decks_of_it = [at_2009(**{name: u}) for u in (t, nine_figures(low), nine_figures(high))]
+        if low != high and answer(decks_of_it[0], None)[0][0] == 0:
+            mine, *others = map(first_lines, decks_of_it)
+            if mine not in others:
+                return decks_of_it[0]
+    raise SystemExit(f"{name}: no value tells its ends in line 1")
+
+
+for name in SPAN:
+    assert put(K, telling_air(name), None, {0})
 
 # BW, IRinh and AFinh are not read by line 1, and the last two by no line
 K = "P6: 2009, slots that line 1 does not read"
@@ -2075,7 +1910,8 @@ for nc, nr in ((1, 1), (1, 2), (2, 3), (1, 5), (3, 8)):
     assert put(K, told_best(lambda: dated(real_composite(nc, nr), rng.choice(YEARS["2009"])), 6), None, {0})
 K = "P6: 2009, ten to twelve digits in all fields"
 for nc, nr in ((1, 3), (2, 8)):
-    d = told_best(lambda: dated(deck_text(*long_records(nc, nr, STAGE)), "000000002009"), 6)
+    d = told_best(lambda: dated(deck_text((1, long_record(SITE)), [(i, long_record(CHEM)) for i in range(1, nc + 1)],
+                                          [(i, long_record(STAGE)) for i in range(1, nr + 1)]), "000000002009"), 6)
     assert put(K, d, None, {0})
 K = "P6: 2009, 16 chemicals and 8 stages"
 d = accepted(lambda: dated(real_composite(16, 8), "2009"))
@@ -2131,421 +1967,6 @@ K = "P6: by the reading's own generator"
 for year, number, count in ((2009, 0, 3), (2009, 42, 1), (2005, 0, 1), (None, 33, 1)):
     fill(K, count, lambda: generated_year(year, 2600), {number})
 
-for name, file in files.items():
-    assert hashlib.sha256(b"".join(file.before)).hexdigest() == BEFORE_WATER[name], f"{name}: other decks or answers than before P12"
-    print(f"{name}: {len(file.before)} decks from before P12, of {sum(map(len, file.before))} bytes, with the answers that they had")
-    file.have.clear()           # a deck of before may stand there again as it was
-
-# ---- request P12: drinking and bathing, lines 7 and 8; ordinary decks and composites, chosen by the answers stored ----
-ORDINARY, COMPOSITE = (LEVEL, False), (LEVEL, True)
-rng = random.Random(SEED + LEVEL)
-WATER_C, WATER_R = "Cw Kp".split(), "IRw Fw EFd SAw events EFb hours".split()
-CHEM, REC, STAGE = oracle.Rules(LEVEL).slots["C"], oracle.Rules(LEVEL).slots["R"], oracle.Rules(LEVEL, True).slots["R"]
-C0, R0 = C0 + ["", "", "0.003", "0.02"], R0 + ["", *"2 0.5 350 18000 1.5 300 0.25".split()]
-NAMES = [("S", SITE), ("C", CHEM), ("R", REC)]
-RECORD = {name: kind for kind, names in NAMES for name in names if name}
-PLAIN = {k: v for k, v in zip(SITE + CHEM + REC, S0 + C0 + [""] * 4 + R0) if k}
-# with these line 7 has the quotient 0.1 and the risk 2.5E-6, line 8 0.02 and 5E-7
-XC, XR = with_(XC, CHEM, CSFo="0.5") + ["", "", "0.002", "0.01"], with_(XR, REC, ATc="36500") + ["", *"2 0.5 365 20000 2 365 0.5".split()]
-intake_kept = oracle.intake
-
-
-def times(A, n, names):
-    return oracle.products(A, *map(n, names.split()))
-
-
-def soaked(A, n):
-    """what a square centimetre takes up in an hour"""
-    return A.div(times(A, n, "Kp Cw"), A.num(1000))
-
-
-def drunk(names="IRw Fw AForal EFd ED"):
-    return lambda A, n, B: A.mul(A.div(times(A, n, names), B), n("Cw"))
-
-
-def bathed(names="hours SAw events EFb ED", taken=soaked):
-    return lambda A, n, B: A.div(oracle.products(A, taken(A, n), *map(n, names.split())), B)
-
-
-def water_otherwise(drink=drunk(), bathe=bathed(), time=lambda A, r, AT: AT):
-    """the oracle's intake, with one part of lines 7 and 8 taken another way"""
-    def intake(A, site, c, r, p, AT, medium):
-        if p < 7:
-            return intake_kept(A, site, c, r, p, AT, medium)
-        return (drink if p == 7 else bathe)(A, lambda k: r[k] if k in r else A.num(c[k]), A.mul(r["BW"], time(A, r, AT)))
-    return lambda: intake, oracle, "intake"
-
-
-def inhaled(A, site, c, r, p, hazard, cancer):
-    return values_kept(A, site, {**c, "RfDo": c["RfDi"], "CSFo": c["CSFi"]} if p > 6 else c, r, p, hazard, cancer)
-
-
-WATER_WAYS = {
-    "RfDi and CSFi": (lambda: inhaled, oracle, "line_values"),
-    "ATc for hazard": water_otherwise(time=lambda A, r, AT: r["ATc"]),
-    "365 x ED for cancer": water_otherwise(time=lambda A, r, AT: A.mul(A.num(365), r["ED"])),
-    "Fw left out": water_otherwise(drunk("IRw AForal EFd ED")),
-    "AForal left out": water_otherwise(drunk("IRw Fw EFd ED")),
-    "EFb for EFd": water_otherwise(drunk("IRw Fw AForal EFb ED")),
-    "AForal x EFd first": water_otherwise(lambda A, n, B: A.mul(A.div(A.mul(times(A, n, "IRw Fw"), times(A, n, "AForal EFd ED")), B), n("Cw"))),
-    "ED / B first": water_otherwise(lambda A, n, B: P(A, times(A, n, "IRw Fw AForal EFd"), A.div(n("ED"), B), n("Cw"))),
-    "Cw before / B": water_otherwise(lambda A, n, B: A.div(times(A, n, "IRw Fw AForal EFd ED Cw"), B)),
-    "Cw first": water_otherwise(lambda A, n, B: A.div(times(A, n, "Cw IRw Fw AForal EFd ED"), B)),
-    "AForal multiplies line 8": water_otherwise(bathe=bathed("hours SAw events EFb ED AForal")),
-    "AFderm multiplies line 8": water_otherwise(bathe=bathed("hours SAw events EFb ED AFderm")),
-    "EFd for EFb": water_otherwise(bathe=bathed("hours SAw events EFd ED")),
-    "hours left out": water_otherwise(bathe=bathed("SAw events EFb ED")),
-    "events left out": water_otherwise(bathe=bathed("hours SAw EFb ED")),
-    "without 1000": water_otherwise(bathe=bathed(taken=lambda A, n: times(A, n, "Kp Cw"))),
-    "in the slots' order": water_otherwise(bathe=bathed("SAw events EFb hours ED")),
-    "the factor first": water_otherwise(bathe=lambda A, n, B: A.mul(A.div(times(A, n, "hours SAw events EFb ED"), B), soaked(A, n))),
-    "Cw last": water_otherwise(bathe=lambda A, n, B: A.mul(bathed(taken=lambda A, n: A.div(n("Kp"), A.num(1000)))(A, n, B), n("Cw"))),
-}
-
-
-def lines_of_water(deck):
-    return [line for line in lines_of(reported(deck), LINE) if line[12:14] in (b" 7", b" 8")]
-
-
-def other_lines(deck):
-    return [line for line in lines_of(reported(deck), LINE) if line[12:14] not in (b" 0", b" 7", b" 8")]
-
-
-def is_nought(line):
-    return set(figures_in(line)) == {0}
-
-
-def wettest(K, make, *shapes, tries=10):
-    """stores of each shape the accepted deck that tells the most ways apart, of fewer the larger it is"""
-    for nc, nr in shapes:
-        assert put(K, told_best(lambda: make(nc, nr), tries if nc * nr < 8 else 2, WATER_WAYS), None, {0})
-
-
-def sparing(K, deck, made, wanted):
-    """stores decks of small size with these numbers"""
-    for number, count in wanted:
-        def small():
-            while True:
-                d = made(deck())
-                if len(d) < 2200:
-                    return d
-        fill(K, count, small, {number})
-
-
-def without(deck, kind):
-    """without the lines of a kind"""
-    return b"".join(line for line in lines_of(deck) if line[:2] != kind)
-
-
-def before_water(K, deck):
-    """stores the deck with four lines a record, with no C5, with no R5, and with neither R5 nor IRw"""
-    for made, number in ((dry(deck), 21), (without(deck, b"C5"), 21), (without(deck, b"R5"), 21), (without(without_slot_24(deck), b"R5"), 32)):
-        told = answer(made, None)[0]
-        assert told[1] == 7 or made[81 * 6:81 * 6 + 2] == b"C5", told
-        assert put(K, made, None, {number})
-
-
-def stop_at_water(K, deck, first, last):
-    """stores the deck with a slot of P12, of the record whose fourth line is told, missing, misspelled or out of range"""
-    bad = {**{name: "1.1E+09 9.9E-21" for name in WATER_C + WATER_R}, "Fw": "1.0000000001 2", "EFd": "366.00000001 367", "EFb": "366.1 1E-21"}
-    for i, name in enumerate(WATER_C + WATER_R):
-        line, field = divmod(CHEM.index(name) if name in WATER_C else STAGE.index(name), 6)
-        line += (first if name in WATER_C else last) - 3
-        shapes = [("", 32), ("-", 32), (MISSPELLED[i % 7], 31), *[(t, 33) for t in bad[name].split()]]
-        stopped(K, deck, *[((number, line, field + 1), (line, field + 1, t)) for t, number in shapes[(i + first) % 2::2]])
-
-
-def lost_and_doubled(K, deck, *lines):
-    """stores the deck with a line, a C5 or R5, lost, doubled, of another kind, followed by a sixth, or with another id"""
-    d = lines_of(deck)
-    for i in lines:
-        before, mine, after = d[:i - 1], d[i - 1], d[i:]
-        sixth = mine[:1] + b"6" + mine[2:]
-        for made, number in (([], 21), ([mine, mine], 21), ([sixth], 21), ([mine, sixth], 21), ([mine[:2] + b"     9" + mine[8:]], 22)):
-            assert put(K, b"".join(before + made + after), None, {number})
-
-
-# ---- ordinary decks
-call = ORDINARY
-K = "P12: document 01's example"
-EX = oracle.example(*ORDINARY)
-assert need(EX) == 855
-for room in (0, 1, 665, 854, 855, 856, 950, 1555):
-    assert put(K, EX, room, {0 if room >= 855 else 51})
-
-K = "P12: lines 7 and 8 by hand"
-for c, r, *by in (({}, {}, 1, 1, 1, 1), (dict(Cw="0.004"), {}, 2, 2, 2, 2), (dict(Kp="0.02"), {}, 1, 1, 2, 2), ({}, dict(IRw="1"), .5, .5, 1, 1),
-                  ({}, dict(Fw="1"), 2, 2, 1, 1), ({}, dict(EFd="73"), .2, .2, 1, 1), ({}, dict(SAw="5000"), 1, 1, .25, .25),
-                  ({}, dict(events="3"), 1, 1, 1.5, 1.5), ({}, dict(EFb="73"), 1, 1, .2, .2), ({}, dict(hours="2"), 1, 1, 4, 4), (dict(AForal="0.5"), {}, .5, .5, 1, 1),
-                  (dict(AFderm="1", Br="7", RCF="8", Q="2"), {}, 1, 1, 1, 1),
-                  (dict(RfDo="0.002"), {}, .5, 1, .5, 1), (dict(CSFo="0.25"), {}, 1, .5, 1, .5), ({}, dict(BW="40"), .5, .5, .5, .5), ({}, dict(ED="10"), 1, 2, 1, 2),
-                  ({}, dict(ATc="18250", T2="1E+09"), 1, 2, 1, 2)):
-    d = one(XS, with_(XC, CHEM, **c), with_(XR, REC, **r))
-    figures_7_and_8 = [v for line in lines_of_water(d) for v in figures_in(line)]
-    by_hand = [round(f * v) for f, v in zip(by, (1e11, 2.5e9, 2e10, 5e8)) for _ in (0, 1)]
-    assert figures_7_and_8 == by_hand and put(K, d, None, {0}), (c, r, figures_7_and_8)
-
-K = "P12: 0 in each of its slots"
-for names, lines in (("Cw", (7, 8)), ("Kp", (8,)), ("IRw", (7,)), ("Fw", (7,)), ("EFd", (7,)), ("SAw", (8,)), ("events", (8,)), ("EFb", (8,)), ("hours", (8,)),
-                     ("IRw SAw", (7, 8)), ("Cw Kp " + " ".join(WATER_R), (7, 8))):
-    d = at(**{name: rng.choice(NOUGHT + ["0.0000000000"]) for name in names.split()})
-    assert [7 + i for i, line in enumerate(lines_of_water(d)) if is_nought(line)] == list(lines)
-    assert other_lines(d) == other_lines(at()) and put(K, d, None, {0})
-
-K = "P12: a slot of it at an end of its range"
-for name in WATER_C + WATER_R:
-    for t in (rng.choice(SMALL), rng.choice(BIG[top(name)])):
-        assert put(K, at(**{name: t}), None, {0, 42})
-for texts in (dict.fromkeys(WATER_C + WATER_R, "1E-20"), {k: top(k) for k in WATER_C + WATER_R}):
-    assert put(K, at(**texts), None, {0, 42})
-assert put(K, one(None, C(Cw="1E-20", Kp="1E+09"), R(**{k: top(k) for k in WATER_R})), None, {0, 42})
-
-K = "P12: each slot of lines 7 and 8 in turn with eleven digits"
-for name in WATER_C + WATER_R + "AForal BW ED ATc RfDo CSFo".split():
-    assert put(K, telling(name, lambda k: eleven_digits(name, k > 60), at, lines_of_water), None, {0})
-
-K = "P12: reference values missing"
-for mask in range(1, 16, 2):            # without RfDo, or with CSFo alone of the oral ones
-    for m in {mask, mask ^ 5}:
-        d = at(**{k: "-" for i, k in enumerate(REFS) if m >> i & 1})
-        assert all((a is None, b is None) == (m & 1 > 0, m & 4 > 0) for a, _, b, _ in map(figures_in, lines_of_water(d))) and put(K, d, None, {0})
-assert put(K, deck_text((1, S0), [(i, C(**{k: "-" for b, k in enumerate(("RfDo", "CSFo")) if i >> b & 1})) for i in (1, 2, 3, 4)], [(1, R0), (2, R(IRw="0"))]), None, {0})
-
-wettest("P12: realistic", lambda nc, nr: deck_text(*realistic(nc, nr)), *[(1, 1)] * 6, *[(2, 1)] * 3, *[(1, 2)] * 3, (3, 2), (2, 3), (1, 4), (8, 1), (16, 1), (5, 4))
-wettest("P12: ten to twelve digits in all fields", long_deck, *[(1, 1)] * 4, (2, 1), (1, 2), (3, 2), (1, 4), (16, 4))
-wettest("P12: 2009, realistic", lambda nc, nr: dated(deck_text(*realistic(nc, nr)), "2009"), (1, 1), (1, 1), (2, 2), (1, 4), (3, 1))
-
-K = "P12: 16 chemicals and 4 receptors"
-for rooms in ((49020, 49019), (49021,), (49720, 36860), (49020 + 95,)):
-    d = accepted(lambda: real_deck(16, 4))
-    for room in rooms:
-        assert len(d) == 8343 and put(K, d, room, {0 if room >= 49020 else 51})
-K = "P12: a buffer too short, exact, longer"
-for nc, nr in ((1, 1), (2, 1), (1, 4), (3, 2), (16, 1)):
-    d, m = accepted(lambda: real_deck(nc, nr)), 95 * nr * (8 * nc + 1)
-    for room in (m - 1, m, 95 * nr * (6 * nc + 1)):
-        assert put(K, d, room, {0 if room == m else 51})
-
-K = "P12: figures of lines 7 and 8 at their caps"
-# the quotients are Cw x 1000 and Kp x Cw x 1000, the risks Cw x 0.1 and Kp x Cw x 0.1
-FULL_R = dict(IRw="20", Fw="1", EFd="365", SAw="20000", events="1", EFb="365", hours="1", ATc="1825")
-FULL_C = dict(Q="0", Cw="10", Kp="1", CSFo="0.1")
-alone_at = {7: dict(SAw="0"), 8: dict(IRw="0")}
-for line in (7, 8):
-    for ref in ("CSFo", "RfDo"):
-        for name, exact, above, below in (("Cw", "10", "10.000000001", "9.9999999999"), *([("Kp", "1.0", "1.0000000001", "0.9999999999")] * (line == 8)),
-                                          ("IRw", "20.0", "20.000000001", "19.999999999") if line == 7 else ("SAw", "20000.000000", "20000.000001", "19999.999999")):
-            for t, number in ((exact, 0), (above, 42), (below, 0)):
-                c, r = ({name: t}, {}) if name in WATER_C else ({}, {name: t})
-                d = one(XS, with_(XC, CHEM, **{**FULL_C, ref: "-", **c}), with_(XR, REC, **{**FULL_R, **alone_at[line], **r}))
-                assert answer(d, None)[0] == (number, line if number else 855, 0) and put(K, d), (line, ref, name, t)
-K = "P12: figures of lines 7 and 8 near their caps"
-DRY_ALONE = dict.fromkeys(("IRinh", "IRsoil", "SAb", "SAh", "IRag", "IRbg"), "0")
-for line in (7, 8):
-    for ref, numbers in (("RfDo", (42, 0)), ("CSFo", (0, 42))):
-        make = lambda t: one(None, C(**{**none, ref: t}), R(**{**DRY_ALONE, **alone_at[line]}))
-        for k, number in zip(adjacent(make, 0, 90_000_000 * 29), numbers):
-            assert put(K, make(nine(k)), None, {number}) and answer(make(nine(k)), None)[0][1] == (line if number else 855)
-        name = ("Cw", "Kp")[line - 7]
-        for q in range(-9, 10):
-            make = lambda t: one(None, C(**{**none, ref: f"1E{q:+03d}", name: t}), R(**{**DRY_ALONE, **alone_at[line]}))
-            if len({answer(make(eleven(k)), None)[0][0] for k in (0, MOST)}) == 2:
-                break
-        for k, number in zip(adjacent(make, 0, MOST, eleven), (0, 42)):
-            assert put(K, make(eleven(k)), None, {number})
-K = "P12: a later line above its cap"
-hot = dict(Q="0", Cw="1", Kp="1", RfDo="1E-07", CSFo="-")
-for cs, rs, line in (([C0, C(**hot)], [R0], 15), ([C0, C(**hot)], [R(IRw="0")], 16), ([C(**hot), C0], [R(IRw="0", SAw="0"), R(IRw="0")], 17 + 8),
-                     ([C0, C0, C(**hot)], [R(IRw="0", SAw="0"), R(SAw="0")], 25 + 23),
-                     ([C(**hot)], [R(IRw="0", EFb="0"), R(Fw="0", hours="0"), R(EFd="0", events="0"), R0], 34),
-                     ([C0] * 15 + [C(**hot)], [R(IRw="0", SAw="0")] * 3 + [R(IRw="0")], 3 * 129 + 128), ([C(**{**hot, "Q": "1E+09"})], [R0], 1),
-                     ([C0, C(Q="1E+09", CSFo="1E+09")], [R(IRw="1E+09", Fw="1")], 7)):
-    d = deck_text((1, S0), list(enumerate(cs, 1)), list(enumerate(rs, 1)))
-    told = answer(d, None)[0]
-    assert told == (42, line, 0) and put(K, d), (told, line)
-
-K = "P12: neither the year nor T2 nor the soil's loss changes lines 7 and 8"
-base = at()
-for texts, year in (({}, "2009"), ({}, "2005"), ({}, "20090E-01"), (dict(T2="1E-20"), ""), (dict(T2="30"), ""), (dict(T2="1E+09", ksg="5E-09", ksv="0"), "2009"),
-                    (dict(ksg="3.3", T2="20"), ""), (dict(ksg="1E+09", T2="75.5"), "2009"), (dict(tD="1E-20", T2="1"), ""), (dict(Zs="1", VG="0", RO="0"), "2005")):
-    d = dated(at(**{"Q": "0.1", **texts}), year)
-    assert lines_of_water(d) == lines_of_water(base) and other_lines(d) != other_lines(base) and put(K, d, None, {0})
-
-K = "P12: its slots missing, misspelled or out of range"
-pair = deck_text((1, S0), [(1, C0), (2, C0)], [(1, R0), (2, R0)])
-stop_at_water(K, one(), 6, 11)
-stop_at_water(K, pair, 11, 21)
-K = "P12: slots 23, 24 and 27 to 30 of a chemical filled"
-stopped(K, one(), *[((32, line, field), (line, field, t)) for line, field, t in ((6, 5, "1"), (6, 6, "0"), (7, 3, "0"), (7, 4, "-"), (7, 5, "1"), (7, 6, "0.003"))])
-stopped(K, pair, ((32, 12, 3), (12, 3, "2009")), ((31, 12, 6), (12, 6, "x")), ((32, 11, 5), (11, 5, "0")))
-K = "P12: C5 or R5 lost, doubled, of another kind or id"
-lost_and_doubled(K, pair, 12, 17)
-K = "P12: a deck from before, with four lines a record"
-for d in (EX, pair, accepted(lambda: real_deck(16, 4))):
-    before_water(K, d)
-K = "P12: two conditions at once"
-stopped(K, pair, ((33, 2, 6), (2, 6, "2010"), (7, 1, "x")), ((32, 7, 1), (7, 1, ""), (7, 2, "x")), ((31, 6, 4), (6, 4, "x"), (7, 1, "")),
-        ((33, 16, 6), (16, 6, "1.1E+09"), (17, 1, "2")), ((32, 16, 4), (16, 4, ""), (16, 6, "x")),
-        ((33, 17, 2), (17, 2, "367"), (17, 5, "367")), ((31, 17, 6), (17, 6, "1E5"), (22, 1, "")))
-d = one(None, C(**hot))
-for d, room, number in ((d, 854, 51), (d, 855, 42), (set_field(one(), 7, 1, "x"), 0, 31), (set_field(one(), 12, 6, ""), 854, 32), (one()[:-81], 855, 21)):
-    assert put(K, d, room, {number})
-K = "P12: lengths"
-big = accepted(lambda: real_deck(16, 4))
-for d in (big + big[-81:], big[:-1], big + b"\n", accepted(lambda: real_deck(1, 1))[:-1]):
-    assert put(K, d, None, {11})
-assert put(K, big[:-81], None, {21})
-assert put(K, accepted(lambda: real_deck(12, 4)), None, {0}) and len(file_of(call).accepted[-1]) == 6723
-
-K = "P12: the receptor that a composite of one stage equals"
-singles = [alone(4) for _ in range(40)]
-assert all(answer(a, None, COMPOSITE) == answer(b, None, ORDINARY) for a, b in singles)
-for _, deck in singles[:4]:
-    assert put(K, deck, None, {0})
-K = "P12: by the reading's own generator"
-sparing(K, lambda: decks.deck(rng, *call), lambda d: d, ((0, 14), (42, 3)))
-K = "P12: damaged decks"
-sparing(K, lambda: decks.deck(rng, *call), lambda d: decks.damage(rng, d, *call), ((0, 4), (11, 1), (12, 3), (21, 5), (22, 3), (31, 5), (32, 5), (33, 5)))
-
-# ---- composites
-call = COMPOSITE
-K = "P12: document 01's example, 1 as its years"
-EX2 = oracle.example(*COMPOSITE)
-for room in (0, 1, 665, 854, 855, 856, 950, 1555):
-    assert put(K, EX2, room, {0 if room >= 855 else 51})
-
-TABLE = {**TABLE, "IRw": "0.3 0.7 0.9 1.3 2", "Fw": "1 0.9 0.8 0.75 0.75", "EFd": "365 365 350 330 345", "SAw": "3500 6500 11000 16000 18000",
-         "events": "1 1.5 1 0.8 0.7", "EFb": "365 350 350 300 350", "hours": "0.4 0.5 0.33 0.25 0.2"}      # the last seven are ours
-FIVE = [stage(**ALIKE, **{k: v.split()[i] for k, v in TABLE.items()}) for i in range(5)]
-K = "P12: document 002's five stages, unlike in its slots"
-for s, cs in ((None, None), (XS, [XC]), (of_year("2009"), [C(**NEW), with_(XC, CHEM, Q="1"), C(Q="0.1", Fv="1")]), (S(tD="76"), [C(Q="1000", ksg="3.3")])):
-    assert put(K, composite(FIVE, s, cs), None, {0})
-assert put(K, composite(FIVE[:2]), None, {0}) and put(K, composite(FIVE[::-1], first=999995), None, {0})
-wettest("P12: realistic, one to eight stages", real_composite, *[(nc, nr) for nr in range(1, 9) for nc in (1, 2)], (3, 5), (5, 8), tries=6)
-wettest("P12: ten to twelve digits in all fields", lambda nc, nr: deck_text(*long_records(nc, nr, STAGE)), *[(1, nr) for nr in range(1, 9)], (2, 3), tries=6)
-
-K = "P12: each of its slots in turn, its values unlike"
-never_told = collections.Counter()
-for name in WATER_R:
-    for _ in range(2):
-        deck, left = slot_in_turn(name)
-        never_told.update(left)
-        assert put(K, deck, None, {0})
-print("other ways to work a slot of P12 that a deck does not tell:", dict(never_told))
-for K, zeros in (("P12: 0 in a slot of one stage", 1), ("P12: 0 in a slot of all stages", 5)):
-    for name in WATER_R:
-        stages = list(FIVE)
-        for i in rng.sample(range(5), zeros):
-            stages[i] = with_(stages[i], STAGE, **{name: rng.choice(NOUGHT + ["0.0000000000"])})
-        d = composite(stages)
-        assert any(map(is_nought, lines_of_water(d))) == (zeros == 5) and put(K, d, None, {0})
-K = "P12: its slots at the ends of their ranges"
-for names in ([k] for k in WATER_R + [None]):
-    names = WATER_R if names == [None] else names
-    ends_12 = [{k: "1E-20" for k in names}, {k: top(k) for k in names}]
-    assert put(K, composite([with_(f, STAGE, **ends_12[i % 2]) for i, f in enumerate(FIVE)], None, [C(Cw="1E-20" if len(names) > 1 else "1E-09")]), None, {0})
-K = "P12: shares of 1 and 366 days in all stages"
-FULL = {"Fw": "1", "EFd": "366", "EFb": "366"}
-for above, lists in ((True, ("0.123456789 123.456789", "0.3333333333", "12.345678901 " * 8)), (False, ("56", "0.5 4.5 7 8 56"))):
-    for years in lists:
-        d = composite(each(map(stage, years.split()), **FULL))
-        person = work(PAIRS, oracle.read_deck(d, *COMPOSITE)[2])
-        ends_12 = [(oracle.value(person[k][0]) - int(t), oracle.value(person[k][1]) - int(t)) for k, t in FULL.items()]
-        assert all(a < 0 < b if above else a == b == 0 for a, b in ends_12) and put(K, d, None, {0})
-K = "P12: one stage alone, the ordinary report"
-for deck, _ in singles[:4]:
-    assert put(K, deck, None, {0})
-K = "P12: one stage alone, not the ordinary report"
-others = [two for two in (alone(7) for _ in range(20)) if answer(two[0], None, COMPOSITE) != answer(two[1], None, ORDINARY)]
-for deck, _ in others[:3]:
-    assert put(K, deck, None, {0})
-K = "P12: stages in another order"
-for count in (3, 8):
-    while True:
-        stages = some_stages(count, "IRw", "SAw", "hours")
-        base, turned = composite(stages, first=11), composite(stages[::-1], first=7)
-        if figures_of(base) != figures_of(turned) and answer(base, None)[0][0] == answer(turned, None)[0][0] == 0:
-            break
-    assert put(K, base, None, {0}) and put(K, turned, None, {0})
-K = "P12: reference values missing"
-for mask in (1, 4, 5, 10, 15):
-    assert put(K, composite(FIVE, None, [C(**{k: "-" for i, k in enumerate(REFS) if mask >> i & 1}), C0][:1 + (mask < 5)]), None, {0})
-
-K = "P12: 16 chemicals and 8 stages"
-for rooms in ((12255, 12254), (12256,), (12255 + 877, 9215)):
-    d = accepted(lambda: real_composite(16, 8))
-    for room in rooms:
-        assert len(d) == 9963 and put(K, d, room, {0 if room >= 12255 else 51})
-K = "P12: a buffer too short, exact, longer"
-for nc, nr in ((1, 1), (2, 5), (1, 8), (5, 2)):
-    d, m = accepted(lambda: real_composite(nc, nr)), 95 * (8 * nc + 1)
-    for room in (m - 1, m, 95 * (6 * nc + 1), m * nr + 1):
-        assert put(K, d, room, {0 if room >= m else 51})
-
-K = "P12: figures of lines 7 and 8 at their caps"
-ONCE, THRICE = (with_(XR[:21] + ["", y] + XR[23:], STAGE, **{**FULL_R, "ED": "9", "ATc": "8"}) for y in ("1", "3"))
-for stages in ([ONCE], [ONCE, THRICE, THRICE]):
-    for line in (7, 8):
-        for ref in ("RfDo", "CSFo"):
-            for t, number in (("10.000000000", 0), ("10.000000001", 42), ("9.9999999999", 0))[:2 if len(stages) > 1 else 3]:
-                d = composite(each(stages, **alone_at[line]), XS, [with_(XC, CHEM, **{**FULL_C, ref: "-", "Cw": t})])
-                assert put(K, d, None, {number}) and answer(d, None)[0][1] == (line if number else 855)
-K = "P12: figures of lines 7 and 8 near their caps"
-for line, names in ((7, ("IRw", "Fw", "EFd")), (8, ("SAw", "events", "EFb", "hours"))):
-    for ref, numbers in (("RfDo", (42, 0)), ("CSFo", (0, 42))):
-        make = lambda t: composite(each(FIVE, **{**DRY_ALONE, **alone_at[line]}), None, [C(**{**none, ref: t})])
-        for k, number in zip(adjacent(make, 0, 90_000_000 * 29), numbers):
-            assert put(K, make(nine(k)), None, {number})
-    for i, name in enumerate(names):            # by one stage's field
-        ref = ("RfDo", "CSFo")[i % 2]
-        spelling = (lambda k: f"0.{k + 1:010}") if name == "Fw" else eleven
-        last = 9_999_999_998 if name == "Fw" else MOST
-        for q in [f"{m}E{e:+03d}" for e in range(-19, 9) for m in (1, 3)]:
-            make = lambda t: composite([with_(f, STAGE, **{**DRY_ALONE, **alone_at[line], name: u}) for f, u in zip(FIVE, ("1", "0.5", t))], None, [C(**{**none, ref: q})])
-            if len({answer(make(spelling(k)), None)[0][0] for k in (0, last)}) == 2:
-                break
-        for k, number in zip(adjacent(make, 0, last, spelling), (0, 42)):
-            assert put(K, make(spelling(k)), None, {number}), (name, number)
-K = "P12: a later line above its cap"
-for cs, line in (([C0, C(**hot)], 15), ([C0] * 15 + [C(**hot)], 127), ([C(**hot), C0], 7)):
-    d = composite(FIVE, None, cs)
-    assert answer(d, None)[0] == (42, line, 0) and put(K, d), answer(d, None)[0]
-d = composite(each(FIVE, Fw="0"), None, [C0, C0, C(**hot)])
-assert answer(d, None)[0] == (42, 24, 0) and put(K, d)
-
-five = composite(FIVE)
-K = "P12: its slots missing, misspelled or out of range"
-stop_at_water(K, five, 6, 11)
-stop_at_water(K, composite(FIVE, None, [C0, C0]), 11, 36)
-K = "P12: C5 or R5 lost, doubled, of another kind or id"
-lost_and_doubled(K, five, 7, 22)
-K = "P12: a deck from before, with four lines a record"
-for d in (EX2, five):
-    before_water(K, d)
-K = "P12: two conditions at once"
-stopped(K, five, ((32, 11, 5), (11, 5, ""), (11, 6, "x")), ((33, 11, 6), (11, 6, "1E-21"), (12, 1, "2")), ((32, 11, 4), (11, 4, "1"), (11, 6, "")),
-        ((32, 7, 6), (7, 6, "1"), (11, 5, "0")))
-for d, room, number in ((composite(FIVE, None, [C(**hot)]), 854, 51), (composite(FIVE, None, [C(**hot)]), 855, 42), (set_field(five, 32, 6, ""), 0, 32)):
-    assert put(K, d, room, {number})
-K = "P12: lengths"
-big = accepted(lambda: real_composite(16, 8))
-for d in (big + big[-81:], big[:-1], big + b"\n", composite(FIVE[:1])[:-1]):
-    assert put(K, d, None, {11})
-assert put(K, big[:-81], None, {21}) and put(K, accepted(lambda: real_composite(16, 4)), None, {0})
-K = "P12: by the reading's own generator"
-sparing(K, lambda: decks.deck(rng, *call), lambda d: d, ((0, 9), (42, 2)))
-K = "P12: damaged decks"
-sparing(K, lambda: decks.deck(rng, *call), lambda d: decks.damage(rng, d, *call), ((0, 3), (12, 2), (21, 3), (22, 2), (31, 3), (32, 4), (33, 4)))
-
-# what the accepted decks tell of lines 7 and 8, where one of them has a figure
-water_tells = collections.Counter()
-for name, file in files.items():
-    call = COMPOSITE if name == "composites" else ORDINARY
-    for deck in file.accepted:
-        if not all(set(figures_in(line)) <= {0, None} for line in lines_of_water(deck)):
-            water_tells.update((name, w) for w in told_apart(deck, WATER_WAYS) | {"all"})
-print("of the decks with a figure in lines 7 and 8 so many tell apart:", {f"{name}, {w}": n for (name, w), n in sorted(water_tells.items())})
-
 # what the decks of 2009 tell, those from before P6 too
 air_tells = collections.Counter()
 for name, file in files.items():
@@ -2569,17 +1990,15 @@ print("of the decks with a product at 64 or above so many tell apart:", {f"{name
 
 for name, file in files.items():
     data = b"".join(file.stored)
-    (HERE / "data" / name).write_bytes(data)
+    open(f"{sys.argv[3]}/{name}", "wb").write(data)
     numbers = sum(file.by_kind.values(), collections.Counter())
     accepted, refused = numbers[0], len(file.stored) - numbers[0]
     print(f"{name}: {len(file.stored)} decks, {len(data)} bytes; accepted {accepted}, refused {refused}; {dict(sorted(numbers.items()))}")
     for kind, told in file.by_kind.items():
         print(f"{kind:56} {sum(told.values()):4}", dict(sorted(told.items())))
-    with open(HERE / "stdout", "a" if name == "composites" else "w") as f:
+    with open(f"{sys.argv[3]}/stdout", "a" if name == "composites" else "w") as f:
         f.write(f"decks {len(file.stored)}\naccepted {accepted}\nrefused {refused}\ndiffering 0\n")
 for composites, whose in ((False, "ordinary"), (True, "a composite's")):
-    print(f"{whose} decks that stop with 41 before P5, and after it with:", {number: n for (c, number), n in sorted(moved.items()) if c == composites and n})
+    print(f"{whose} decks that stop with 41 before P5, and now with:", {number: n for (c, number), n in sorted(moved.items()) if c == composites and n})
 for composites, place, year, then, now in renewed:
-    print(f"{'composites' if composites else 'decks'} {place}, {year} in slot 12: {then} before P6, {now} after it")
-for composites, place, then, now in rewritten:
-    print(f"{'composites' if composites else 'decks'} {place}, slot 24 of a receptor filled: {then} before P12, {now} now")
+    print(f"{'composites' if composites else 'decks'} {place}, {year} in slot 12: {then} before P6, {now} now")

@@ -13,7 +13,7 @@ mod c {
     }
 }
 
-const LONGEST_REPORT: usize = 49_020;
+const LONGEST_REPORT: usize = 36_860;
 
 /// A report, or number, line and field.
 fn report(deck: &[u8], composite: bool) -> Result<Vec<u8>, (u32, usize, usize)> {

@@ -1,17 +1,10 @@
 //! A deck read into a case, or where it stops.
 
-use crate::page::PATHWAYS;
 use crate::pairs::{Pair, Working};
 use crate::years::Years;
 use crate::Outcome;
 
 pub const LINE: usize = 81;
-/// Fields of a line.
-pub const FIELDS: usize = 6;
-/// Lines of the site's record.
-pub const SITE_LINES: usize = 2;
-/// Lines of a chemical's record, and of a receptor's.
-pub const RECORD_LINES: usize = 5;
 pub const MOST_CHEMICALS: usize = 16;
 /// Receptors of an ordinary deck: as many as a report can have.
 pub const MOST_RECEPTORS: usize = 4;
@@ -37,7 +30,7 @@ impl Sort {
 
     /// A site, 16 chemicals, all receptors and EN.
     pub const fn longest_deck(self) -> usize {
-        LINE * (SITE_LINES + RECORD_LINES * (MOST_CHEMICALS + self.most_receptors()) + 1)
+        LINE * (2 + 4 * MOST_CHEMICALS + 4 * self.most_receptors() + 1)
     }
 
     /// The place of a receptor's years: T2 in slot 22, or those of a life stage in slot 23. The other one stays blank.
@@ -48,12 +41,12 @@ impl Sort {
         }
     }
 
-    /// By the slot, from 0.
-    pub fn receptor_place(self, at: usize) -> Place {
+    /// What a receptor's slot takes; `None` for one that stays blank.
+    pub fn receptor_slot(self, at: usize) -> Option<&'static Slot> {
         if at == self.years_at() {
-            Some((YEARS_BEHIND, &YEARS))
+            Some(&YEARS)
         } else {
-            beside_gap(&RECEPTOR, RECEPTOR_GAP, at)
+            RECEPTOR.get(at)
         }
     }
 }
@@ -133,65 +126,32 @@ const CSF: Slot = Slot { may_lack: true, ..ANY };
 
 /// Zs BD tD θ Xe SD | ER RO R VG FRsnow; the year comes behind.
 pub const SITE: [Slot; 11] = [POS, POS, POS, POS, ANY, ANY, ANY, ANY, ANY, SHARE, SHARE];
-/// Q HgA HgD Fv Cyv Cyp | Dydv Dywv Dydp Dywp Kds ksg | ksv Br RCF AFinh AForal AFderm | RfDo RfDi CSFo CSFi, gap | Cw Kp
-pub const CHEMICAL: [Slot; 24] = [
+/// Q HgA HgD Fv Cyv Cyp | Dydv Dywv Dydp Dywp Kds ksg | ksv Br RCF AFinh AForal AFderm | RfDo RfDi CSFo CSFi
+pub const CHEMICAL: [Slot; 22] = [
     ANY, SHARE, SHARE, SHARE, ANY, ANY, //
     ANY, ANY, ANY, ANY, POS, ANY, //
     ANY, ANY, ANY, SHARE, SHARE, SHARE, //
-    RFD, RFD, CSF, CSF, //
-    ANY, ANY,
+    RFD, RFD, CSF, CSF,
 ];
-/// BW ED ATc IRinh ETinh EFinh | IRsoil ETsoil EFs EFw SAb SAFb | SAh SAFh ETderm IRag Fag IRbg | Fbg WP EFp, gap, IRw |
-/// Fw EFd SAw events EFb hours
-pub const RECEPTOR: [Slot; 28] = [
+/// BW ED ATc IRinh ETinh EFinh | IRsoil ETsoil EFs EFw SAb SAFb | SAh SAFh ETderm IRag Fag IRbg | Fbg WP EFp
+pub const RECEPTOR: [Slot; 21] = [
     POS, POS, POS, ANY, SHARE, DAYS, //
     ANY, SHARE, DAYS, DAYS, ANY, ANY, //
     ANY, ANY, SHARE, ANY, SHARE, ANY, //
-    SHARE, SHARE, DAYS, ANY, //
-    SHARE, DAYS, ANY, ANY, DAYS, ANY,
+    SHARE, SHARE, DAYS,
 ];
 /// T2, or the years of a life stage.
 pub const YEARS: Slot = POS;
-
-/// Slots of C4 and R4 that the tables leave out: blank, but that one of a receptor's has the years.
-const GAP: usize = 2;
-/// Values before it.
-const CHEMICAL_GAP: usize = 22;
-pub const RECEPTOR_GAP: usize = 21;
-/// The place of a receptor's years, behind the table's.
-pub const YEARS_BEHIND: usize = RECEPTOR.len();
-
-/// Which of a record's values stands in a slot, and what it takes; `None` where the slot stays blank.
-pub type Place = Option<(usize, &'static Slot)>;
-
-fn beside_gap(table: &'static [Slot], gap: usize, at: usize) -> Place {
-    let value = match at {
-        _ if at < gap => at,
-        _ if at < gap + GAP => return None,
-        _ => at - GAP,
-    };
-    Some((value, table.get(value)?))
-}
-
-pub fn site_place(at: usize) -> Place {
-    Some((at, SITE.get(at)?))
-}
-
-pub fn chemical_place(at: usize) -> Place {
-    beside_gap(&CHEMICAL, CHEMICAL_GAP, at)
-}
 
 /// The place of tD among the site's slots.
 pub const TD: usize = 2;
 /// The year's, behind those with values.
 pub const YEAR: usize = SITE.len();
 
-/// A chemical's values before its reference values.
+/// A chemical's slots before its reference values.
 pub const CHEMICAL_VALUES: usize = 18;
 /// The place of Fv among them.
 pub const FV: usize = 3;
-/// The place of Cw, behind the reference values.
-pub const CW: usize = CHEMICAL_VALUES + 4;
 
 /// A number as a field prints it: digits × 10^power.
 pub type Printed = (u64, i32);
@@ -204,14 +164,12 @@ pub struct Chemical {
     pub fv: Printed,
     /// RfDo, RfDi, CSFo, CSFi.
     pub reference: [Option<Pair>; 4],
-    /// Cw, Kp.
-    pub water: [Pair; CHEMICAL.len() - CW],
 }
 
 #[derive(Clone, Copy, Debug)]
 pub struct Receptor {
     pub id: u32,
-    pub value: [Pair; RECEPTOR.len()],
+    pub value: [Pair; 21],
     /// T2, or the years of a life stage.
     pub years: Pair,
     /// The same as printed.
@@ -232,32 +190,13 @@ pub struct Case {
 }
 
 impl Chemical {
-    pub const EMPTY: Chemical = Chemical {
-        id: 0,
-        value: [Pair::ZERO; CHEMICAL_VALUES],
-        fv: (0, 0),
-        reference: [None; 4],
-        water: [Pair::ZERO; CHEMICAL.len() - CW],
-    };
-
-    /// Sets a value by its place among all; `None` where there is none.
-    pub fn set(&mut self, at: usize, value: Option<Pair>) {
-        if (CHEMICAL_VALUES..CW).contains(&at) {
-            self.reference[at - CHEMICAL_VALUES] = value;
-            return;
-        }
-        let value = value.unwrap_or(Pair::ZERO);
-        if at < CHEMICAL_VALUES {
-            self.value[at] = value;
-        } else {
-            self.water[at - CW] = value;
-        }
-    }
+    pub const EMPTY: Chemical =
+        Chemical { id: 0, value: [Pair::ZERO; CHEMICAL_VALUES], fv: (0, 0), reference: [None; 4] };
 }
 
 impl Receptor {
     pub const EMPTY: Receptor =
-        Receptor { id: 0, value: [Pair::ZERO; RECEPTOR.len()], years: Pair::ZERO, exact_years: Years::NONE };
+        Receptor { id: 0, value: [Pair::ZERO; 21], years: Pair::ZERO, exact_years: Years::NONE };
 }
 
 impl Case {
@@ -288,7 +227,7 @@ impl Case {
     }
 
     pub fn report_lines(&self) -> usize {
-        self.receptors * (PATHWAYS * self.chemicals + 1)
+        self.receptors * (6 * self.chemicals + 1)
     }
 
     pub fn report_length(&self) -> usize {
@@ -313,19 +252,6 @@ enum Kind {
     Chemical(usize),
     Receptor(usize),
     End,
-}
-
-/// A record's last line.
-const LAST: usize = RECORD_LINES - 1;
-
-impl Kind {
-    /// The lines of its record before this one.
-    fn lines_before(self) -> usize {
-        match self {
-            Kind::Site(k) | Kind::Chemical(k) | Kind::Receptor(k) => k,
-            Kind::Start | Kind::End => 0,
-        }
-    }
 }
 
 /// Reads into an empty case. A composite's holds its stages.
@@ -375,21 +301,22 @@ pub fn read_case(sort: Sort, deck: &[u8], case: &mut Case) -> Result<(), Outcome
             }
             _ => {}
         }
-        for f in 0..FIELDS {
-            let slot_at = FIELDS * kind.lines_before() + f;
+        for f in 0..6 {
+            let (at, slot) = match kind {
+                Kind::Site(k) => (6 * k + f, SITE.get(6 * k + f)),
+                Kind::Chemical(k) => (6 * k + f, CHEMICAL.get(6 * k + f)),
+                Kind::Receptor(k) => (6 * k + f, sort.receptor_slot(6 * k + f)),
+                Kind::Start | Kind::End => (f, None),
+            };
             let mark = mark(field(text, f));
-            if let (Kind::Site(_), YEAR) = (kind, slot_at) {
+            if let (Kind::Site(_), YEAR) = (kind, at) {
                 case.guidance = Guidance::told(mark).map_err(|number| stop(number, f + 1))?;
                 continue;
             }
-            let place = match kind {
-                Kind::Site(_) => site_place(slot_at),
-                Kind::Chemical(_) => chemical_place(slot_at),
-                Kind::Receptor(_) => sort.receptor_place(slot_at),
-                Kind::Start | Kind::End => None,
-            };
-            let value = fill(place.map(|(_, slot)| slot), mark).map_err(|number| stop(number, f + 1))?;
-            let Some((at, _)) = place else { continue };
+            let value = fill(slot, mark).map_err(|number| stop(number, f + 1))?;
+            if slot.is_none() {
+                continue;
+            }
             match kind {
                 Kind::Site(_) => {
                     case.site[at] = value.unwrap_or(Pair::ZERO);
@@ -399,7 +326,11 @@ pub fn read_case(sort: Sort, deck: &[u8], case: &mut Case) -> Result<(), Outcome
                 }
                 Kind::Chemical(_) => {
                     let c = &mut case.chemical[case.chemicals - 1];
-                    c.set(at, value);
+                    if at < CHEMICAL_VALUES {
+                        c.value[at] = value.unwrap_or(Pair::ZERO);
+                    } else {
+                        c.reference[at - CHEMICAL_VALUES] = value;
+                    }
                     if let (FV, Mark::Number(printed)) = (at, mark) {
                         c.fv = printed;
                     }
@@ -407,7 +338,7 @@ pub fn read_case(sort: Sort, deck: &[u8], case: &mut Case) -> Result<(), Outcome
                 _ => {
                     let r = &mut case.receptor[case.receptors - 1];
                     let value = value.unwrap_or(Pair::ZERO);
-                    if at != YEARS_BEHIND {
+                    if at != sort.years_at() {
                         r.value[at] = value;
                     } else if let Mark::Number(printed) = mark {
                         r.years = value;
@@ -429,9 +360,9 @@ pub fn read_case(sort: Sort, deck: &[u8], case: &mut Case) -> Result<(), Outcome
 fn next(sort: Sort, before: Kind, columns: [u8; 2], case: &Case) -> Option<Kind> {
     let k = columns[1].wrapping_sub(b'1') as usize;
     let kind = match columns[0] {
-        b'S' if k < SITE_LINES => Kind::Site(k),
-        b'C' if k < RECORD_LINES => Kind::Chemical(k),
-        b'R' if k < RECORD_LINES => Kind::Receptor(k),
+        b'S' if k < 2 => Kind::Site(k),
+        b'C' if k < 4 => Kind::Chemical(k),
+        b'R' if k < 4 => Kind::Receptor(k),
         b'E' if columns[1] == b'N' => Kind::End,
         _ => return None,
     };
@@ -439,11 +370,11 @@ fn next(sort: Sort, before: Kind, columns: [u8; 2], case: &Case) -> Option<Kind>
         (Kind::Start, Kind::Site(0)) => true,
         (Kind::Site(0), Kind::Site(1)) => true,
         (Kind::Site(1), Kind::Chemical(0)) => true,
-        (Kind::Chemical(LAST), Kind::Chemical(0)) => case.chemicals < MOST_CHEMICALS,
-        (Kind::Chemical(LAST), Kind::Receptor(0)) => true,
+        (Kind::Chemical(3), Kind::Chemical(0)) => case.chemicals < MOST_CHEMICALS,
+        (Kind::Chemical(3), Kind::Receptor(0)) => true,
         (Kind::Chemical(a), Kind::Chemical(b)) => b == a + 1,
-        (Kind::Receptor(LAST), Kind::Receptor(0)) => case.receptors < sort.most_receptors(),
-        (Kind::Receptor(LAST), Kind::End) => true,
+        (Kind::Receptor(3), Kind::Receptor(0)) => case.receptors < sort.most_receptors(),
+        (Kind::Receptor(3), Kind::End) => true,
         (Kind::Receptor(a), Kind::Receptor(b)) => b == a + 1,
         _ => false,
     };
@@ -666,39 +597,17 @@ mod tests {
     }
 
     #[test]
-    fn longest_decks() {
-        assert_eq!((Sort::Ordinary.longest_deck(), Sort::Composite.longest_deck()), (8_343, 9_963));
-    }
-
-    #[test]
     fn slots_of_a_receptor() {
-        for at in 0..FIELDS * RECORD_LINES {
-            let (ordinary, composite) = (Sort::Ordinary.receptor_place(at), Sort::Composite.receptor_place(at));
+        assert_eq!((Sort::Ordinary.longest_deck(), Sort::Composite.longest_deck()), (6_723, 8_019));
+        for at in 0..24 {
+            let (ordinary, composite) = (Sort::Ordinary.receptor_slot(at), Sort::Composite.receptor_slot(at));
+            assert_eq!(ordinary.is_some(), at < 22);
             match at {
-                21 => assert_eq!((ordinary, composite), (Some((28, &POS)), None)),
-                22 => assert_eq!((ordinary, composite), (None, Some((28, &POS)))),
-                _ => assert!(ordinary.is_some() && composite == ordinary),
+                21 => assert_eq!((ordinary, composite), (Some(&POS), None)),
+                22 => assert_eq!((ordinary, composite), (None, Some(&POS))),
+                _ => assert_eq!(composite, ordinary),
             }
         }
-        // IRw; Fw EFd SAw events EFb hours.
-        let water = [23, 24, 25, 26, 27, 28, 29].map(|at| Sort::Ordinary.receptor_place(at));
-        let slots = [ANY, SHARE, DAYS, ANY, ANY, DAYS, ANY];
-        for (i, (place, slot)) in water.iter().zip(&slots).enumerate() {
-            assert_eq!(*place, Some((21 + i, slot)));
-        }
-    }
-
-    #[test]
-    fn slots_of_a_chemical() {
-        for at in 0..FIELDS * RECORD_LINES {
-            let value = match at {
-                0..22 => Some(at),
-                24 | 25 => Some(at - 2),
-                _ => None,
-            };
-            assert_eq!(chemical_place(at).map(|(value, _)| value), value, "{at}");
-        }
-        assert_eq!((chemical_place(24), chemical_place(25)), (Some((22, &ANY)), Some((23, &ANY))));
     }
 
     #[test]

@@ -2,13 +2,10 @@
 //! Either call has its own.
 
 use crate::deck::{
-    chemical_place, site_place, Case, Chemical, Guidance, Place, Printed, Receptor, Slot, Sort, CHEMICAL, CW, FIELDS,
-    FV, LINE, MOST_CHEMICALS, RECEPTOR, RECEPTOR_GAP, RECORD_LINES, SITE, SITE_LINES, TD, YEAR, YEARS, YEARS_BEHIND,
+    Case, Chemical, Guidance, Printed, Receptor, Slot, Sort, CHEMICAL, CHEMICAL_VALUES, FV, LINE, MOST_CHEMICALS,
+    RECEPTOR, SITE, TD, YEAR, YEARS,
 };
-use crate::page::{
-    composite, has_series, pathways, water, Body, Exposure, Figures, Loss, Media, Site, MOST_QUOTIENT, MOST_RISK,
-    PATHWAYS,
-};
+use crate::page::{composite, has_series, pathways, Body, Exposure, Figures, Loss, Media, Site};
 use crate::pairs::{Pair, Working};
 use crate::rng::Rng;
 use crate::years::{Years, FINEST};
@@ -62,8 +59,8 @@ fn trial_of(sort: Sort, own_seed: u64, year: Year) -> Trial {
     // A few decks for the composite call are ordinary ones, if of too many receptors at times.
     let made_as = if sort == Sort::Composite && (51..=52).contains(&share) { Sort::Ordinary } else { sort };
     let deck = match share {
-        0..=58 => sound(rng, made_as, sort.most_receptors(), year),
-        59..=95 => damaged(rng, sort, year),
+        0..=55 => sound(rng, made_as, sort.most_receptors(), year),
+        56..=95 => damaged(rng, sort, year),
         96..=97 => crowded(rng, sort, year),
         _ => noise(rng, sort),
     };
@@ -71,8 +68,8 @@ fn trial_of(sort: Sort, own_seed: u64, year: Year) -> Trial {
     Trial { deck, room, before: rng.word() }
 }
 
-/// A sound deck of this many chemicals and receptors with everyday values, for timing: at every exponent a series is worked, and
-/// everyone drinks and bathes. It has no year.
+/// A sound deck of this many chemicals and receptors with everyday values, for timing: at every exponent a series is worked. It
+/// has no year.
 pub fn everyday(sort: Sort, seed: u64, chemicals: usize, receptors: usize) -> Vec<u8> {
     everyday_draft(&mut Rng::new(seed), sort, chemicals, receptors).1
 }
@@ -120,7 +117,7 @@ fn everyday_draft(rng: &mut Rng, sort: Sort, chemicals: usize, receptors: usize)
     loop {
         let draft = Draft::new(rng, sort, chemicals, receptors, 0);
         let deck = draft.deck(rng);
-        if accepted(sort, &deck) && slow(sort, &deck) && draft.all_drink_and_bathe() {
+        if accepted(sort, &deck) && slow(sort, &deck) {
             return (draft, deck);
         }
     }
@@ -202,26 +199,25 @@ const SITE_USUAL: [Usual; 11] = [
     (0, 30, -1), (0, 60, 0), (0, 60, 0), (0, 100, -2), (0, 100, -2),
 ];
 #[rustfmt::skip]
-const CHEMICAL_USUAL: [Usual; CHEMICAL.len()] = [
+const CHEMICAL_USUAL: [Usual; 22] = [
     (1, 999, -5), (0, 100, -2), (0, 100, -2), (0, 100, -2), (0, 999, -3), (0, 999, -3),
     (0, 99, -3), (0, 99, -3), (0, 99, -3), (0, 99, -3), (1, 999, 2), (0, 300, -3),
     (0, 99, -3), (0, 999, -3), (0, 999, -1), (0, 100, -2), (0, 100, -2), (0, 100, -2),
-    (1, 99, -3), (1, 99, -3), (1, 99, -2), (1, 99, -2), (1, 999, -5), (1, 999, -4),
+    (1, 99, -3), (1, 99, -3), (1, 99, -2), (1, 99, -2),
 ];
 #[rustfmt::skip]
-const RECEPTOR_USUAL: [Usual; RECEPTOR.len()] = [
+const RECEPTOR_USUAL: [Usual; 21] = [
     (8, 80, 0), (5, 75, 0), (25_000, 28_000, 0), (1, 25, 0), (0, 100, -2), (0, 366, 0),
     (10, 200, 0), (0, 100, -2), (0, 366, 0), (0, 366, 0), (100, 20_000, 0), (0, 99, -3),
     (100, 1_000, 0), (0, 99, -2), (0, 100, -2), (0, 500, -3), (0, 100, -2), (0, 500, -3),
-    (0, 100, -2), (0, 100, -2), (0, 366, 0), (0, 250, -2),
-    (0, 100, -2), (0, 366, 0), (300, 20_000, 0), (1, 3, 0), (0, 366, 0), (1, 40, -1),
+    (0, 100, -2), (0, 100, -2), (0, 366, 0),
 ];
 /// T2, about tD.
 const T2_USUAL: Usual = (1, 100, 0);
 /// The years of a life stage.
 const STAGE_USUAL: Usual = (2, 200, -1);
 
-/// What a receptor of either sort has, its years last; a draft has a value for each.
+/// The slots that a receptor of either sort fills, its years last; a draft has a value for each.
 fn receptor_slots() -> impl Iterator<Item = &'static Slot> {
     RECEPTOR.iter().chain([&YEARS])
 }
@@ -327,14 +323,8 @@ const KDS: usize = 10;
 const KSG: usize = 11;
 const KSV: usize = 12;
 const RFDO: usize = 18;
-const KP: usize = CW + 1;
-const IRW: usize = RECEPTOR_GAP;
-
-// Lines of a chemical, from 0.
-const DRINKING: usize = 6;
-const BATHING: usize = 7;
-/// Quotients and risks of the two.
-const WATER_LINES: [(usize, bool); 4] = [(DRINKING, true), (DRINKING, false), (BATHING, true), (BATHING, false)];
+/// The years in a draft, which leaves out a blank slot before them.
+const DRAFT_YEARS: usize = RECEPTOR.len();
 
 fn ids(rng: &mut Rng, n: usize) -> Vec<u32> {
     let mut ids: Vec<u32> = match rng.below(4) {
@@ -394,13 +384,12 @@ impl Draft {
         #[rustfmt::skip]
         let chemical = [
             (1, 0), (1, 0), (1, 0), (0, 0), (0, 0), (1, 0), (0, 0), (0, 0), (1, -3), (0, 0), (100, 0), (0, 0),
-            (0, 0), (1, -1), (10, 0), (1, 0), (1, 0), (1, -1), (1, -3), (1, -3), (1, 0), (1, 0), (1, -2), (1, -1),
+            (0, 0), (1, -1), (10, 0), (1, 0), (1, 0), (1, -1), (1, -3), (1, -3), (1, 0), (1, 0),
         ];
         #[rustfmt::skip]
         let receptor = [
             (20, 0), (5, 0), (27_375, 0), (10, 0), (1, 0), (365, 0), (80, 0), (1, 0), (73, 0), (146, 0), (1000, 0),
-            (2, -2), (400, 0), (1, -1), (1, 0), (1, -1), (5, -1), (2, -1), (5, -1), (1, 0), (365, 0), (2, 0),
-            (5, -1), (365, 0), (1000, 0), (2, 0), (73, 0), (5, -1), (5, 0),
+            (2, -2), (400, 0), (1, -1), (1, 0), (1, -1), (5, -1), (2, -1), (5, -1), (1, 0), (365, 0), (5, 0),
         ];
         fn varied(rng: &mut Rng, values: &[Printed], slots: impl IntoIterator<Item = &'static Slot>) -> Vec<Value> {
             let each = values.iter().zip(slots);
@@ -427,7 +416,7 @@ impl Draft {
             r[2] = Some((rng.one_of(&[27_375, 36_500, 29_200, 36_500]), 0));
             // T2 against a tD of 30: what comes to 60, 120 or 240 divides exactly.
             if sort == Sort::Ordinary && rng.chance(70) {
-                r[YEARS_BEHIND] = Some((rng.one_of(&[1, 30, 30, 31, 60, 60, 120, 240, 75]), 0));
+                r[DRAFT_YEARS] = Some((rng.one_of(&[1, 30, 30, 31, 60, 60, 120, 240, 75]), 0));
             }
         }
         // Stages alike but for their years: a composite's fields are theirs, exactly.
@@ -435,25 +424,22 @@ impl Draft {
             let like = draft.receptors[0].1.clone();
             for (_, r) in &mut draft.receptors {
                 r.clone_from(&like);
-                r[YEARS_BEHIND] = Some((rng.between(1, 160) as u64, rng.one_of(&[0, -1])));
+                r[DRAFT_YEARS] = Some((rng.between(1, 160) as u64, rng.one_of(&[0, -1])));
             }
         }
         draft
     }
 
-    /// The same figure on all eight pathways of every chemical, so that totals can come near 128 times a cap.
+    /// The same figure on all six pathways of every chemical, so that totals can come near 96 times a cap.
     fn level(rng: &mut Rng, sort: Sort, chemicals: usize, receptors: usize) -> Draft {
         let mut d = Draft::round_figures(rng, sort, chemicals, receptors);
         d.site[9] = Some((1, 0));
         d.site[FRSNOW] = Some((1, 0));
         let soil = rng.between(1, 99_999) as u64;
-        // As much in water as in the highest year's soil, or as in the mean while there is deposition.
-        let water = rng.one_of(&[(15, -2), (15, -2), (75, -3)]);
         for (_, c) in &mut d.chemicals {
             #[rustfmt::skip]
             let same = [
                 (4, (1, -3)), (5, (1, -3)), (8, (1, -3)), (9, (0, 0)), (KDS, (7, 1)), (13, (1, 0)), (14, (7, 1)), (17, (1, 0)),
-                (CW, water), (KP, (1, -3)),
             ];
             for (at, v) in same {
                 c[at] = Some(v);
@@ -461,10 +447,10 @@ impl Draft {
         }
         let days = Some((rng.between(1, 366) as u64, 0));
         for (_, r) in &mut d.receptors {
-            for at in [5, 8, 9, 20, 23, 26] {
+            for at in [5, 8, 9, 20] {
                 r[at] = days;
             }
-            for at in [4, 7, 14, 16, 18, 19, 22, 25, 27] {
+            for at in [4, 7, 14, 16, 18, 19] {
                 r[at] = Some((1, 0));
             }
             r[3] = Some((soil, -6));
@@ -474,8 +460,6 @@ impl Draft {
             r[12] = Some((0, 0));
             r[15] = Some((soil, -6));
             r[17] = Some((soil, -6));
-            r[IRW] = Some((soil, -6));
-            r[24] = Some((soil, 0));
         }
         d
     }
@@ -496,7 +480,7 @@ impl Draft {
         let style = rng.below(5);
         let alike = far(rng, &YEARS);
         for (i, (_, r)) in self.receptors.iter_mut().enumerate() {
-            r[YEARS_BEHIND] = match style {
+            r[DRAFT_YEARS] = match style {
                 0 | 1 => far(rng, &YEARS),
                 2 => Some(rng.one_of(&[(1, -20), (1, 9), (99_999_999_999, -2), (1, -10), (1, 0), (3, 0)])),
                 3 => alike,
@@ -539,14 +523,18 @@ impl Draft {
         let (id, values) = &self.chemicals[i];
         let mut c = Chemical { id: *id, fv: values[FV].unwrap_or((0, 0)), ..Chemical::EMPTY };
         for (at, &v) in values.iter().enumerate() {
-            c.set(at, v.map(|_| pair(v)));
+            if at < CHEMICAL_VALUES {
+                c.value[at] = pair(v);
+            } else {
+                c.reference[at - CHEMICAL_VALUES] = v.map(|_| pair(v));
+            }
         }
         c
     }
 
     fn receptor(&self, i: usize) -> Receptor {
         let (id, values) = &self.receptors[i];
-        let own = values[YEARS_BEHIND];
+        let own = values[DRAFT_YEARS];
         let mut r = Receptor { id: *id, years: pair(own), exact_years: years(own), ..Receptor::EMPTY };
         r.value.iter_mut().zip(values).for_each(|(p, &v)| *p = pair(v));
         r
@@ -571,27 +559,10 @@ impl Draft {
     }
 
     /// The figures of one chemical and receptor.
-    fn figures(&self, chemical: usize, receptor: usize) -> [Figures; PATHWAYS] {
+    fn figures(&self, chemical: usize, receptor: usize) -> [Figures; 6] {
         let (site, chemical, person) = (self.site(), self.chemical(chemical), self.person(receptor));
         let media = Media::new(&site, &chemical);
         pathways(&site, &chemical, &media, &site.exposure(&person), &Body::new(&person, self.guidance()))
-    }
-
-    /// A figure on line 7 or 8 of one chemical and receptor.
-    fn water_figure(&self, chemical: usize, receptor: usize, line: usize, hazard: bool) -> f64 {
-        let body = Body::new(&self.person(receptor), self.guidance());
-        real_figure(&water(&self.chemical(chemical), &body)[line - DRINKING], hazard)
-    }
-
-    /// The highest among those who are reported.
-    fn most_water(&self, chemical: usize, line: usize, hazard: bool) -> f64 {
-        (0..self.persons()).map(|r| self.water_figure(chemical, r, line, hazard)).fold(0.0, f64::max)
-    }
-
-    /// Whether lines 7 and 8 of everyone come to more than 0, in some chemical's quotient and in some chemical's risk.
-    fn all_drink_and_bathe(&self) -> bool {
-        let some = |r, line, hazard| (0..self.chemicals.len()).any(|i| self.water_figure(i, r, line, hazard) > 0.0);
-        (0..self.persons()).all(|r| WATER_LINES.iter().all(|&(line, hazard)| some(r, line, hazard)))
     }
 
     fn loss(&self, i: usize) -> Loss {
@@ -636,7 +607,7 @@ impl Draft {
             Sort::Ordinary => 0,
             Sort::Composite => {
                 let all = self.receptors.iter().enumerate();
-                all.filter(|&(i, _)| i != r).map(|(_, (_, values))| years(values[YEARS_BEHIND]).0).sum()
+                all.filter(|&(i, _)| i != r).map(|(_, (_, values))| years(values[DRAFT_YEARS]).0).sum()
             }
         }
     }
@@ -660,7 +631,7 @@ impl Draft {
     fn bring_t2_to_td(&mut self, rng: &mut Rng, r: usize) {
         self.most = 12;
         let (td, others) = (years(self.site[TD]).0, self.other_years(r));
-        let own = years(self.receptors[r].1[YEARS_BEHIND]).0;
+        let own = years(self.receptors[r].1[DRAFT_YEARS]).0;
         // With an exponent eight figures fit, without one eleven digits beside the point.
         let place = if td < 10u128.pow((-9 - FINEST) as u32) {
             10u128.pow(td.ilog10().saturating_sub(7))
@@ -687,7 +658,7 @@ impl Draft {
                 self.site[TD] = Some(v);
             }
         } else if let Some(v) = wanted.and_then(|n| n.checked_sub(others)).and_then(|n| self.near_years(n)) {
-            self.receptors[r].1[YEARS_BEHIND] = Some(v);
+            self.receptors[r].1[DRAFT_YEARS] = Some(v);
         }
     }
 
@@ -708,7 +679,7 @@ impl Draft {
             let rest = (640_000_000 + rng.one_of(&[0, 1, 1, 2, -1])) as u128 * 10u128.pow((-7 - FINEST) as u32);
             let own = (years(self.site[TD]).0 + rest).checked_sub(self.other_years(r));
             if let Some(v) = own.and_then(|n| self.near_years(n)) {
-                self.receptors[r].1[YEARS_BEHIND] = Some(v);
+                self.receptors[r].1[DRAFT_YEARS] = Some(v);
                 return;
             }
         }
@@ -729,7 +700,7 @@ impl Draft {
         let (digits, power) = decimal(wanted, 11);
         let near = self.fitted((digits.saturating_add_signed(rng.between(-3, 3)), power));
         if in_range(&YEARS, near) {
-            self.receptors[r].1[YEARS_BEHIND] = Some(near);
+            self.receptors[r].1[DRAFT_YEARS] = Some(near);
         }
     }
 
@@ -810,9 +781,9 @@ impl Draft {
         // T2 is tD and so many millionths of it.
         let t2 = (td / 1_000_000).checked_mul(by).map(|rest| td + rest);
         if let Some(v) = t2.and_then(|t2| t2.checked_sub(others)).and_then(|own| self.near_years(own)) {
-            self.receptors[r].1[YEARS_BEHIND] = Some(v);
+            self.receptors[r].1[DRAFT_YEARS] = Some(v);
         } else {
-            let t2 = others + years(self.receptors[r].1[YEARS_BEHIND]).0;
+            let t2 = others + years(self.receptors[r].1[DRAFT_YEARS]).0;
             match self.near_years(t2 / (1_000_000 + by) * 1_000_000) {
                 Some(v) => self.site[TD] = Some(v),
                 None => return,
@@ -832,8 +803,8 @@ impl Draft {
         // The largest of those that share a reference value, so that no other line stops first; or any line.
         let line = match rng.below(4) {
             0 => 0,
-            1 => 1 + rng.below(PATHWAYS - 1),
-            _ => (1..PATHWAYS)
+            1 => 1 + rng.below(5),
+            _ => (1..6)
                 .max_by(|&a, &b| real_figure(&figures[a], hazard).total_cmp(&real_figure(&figures[b], hazard)))
                 .unwrap_or(1),
         };
@@ -858,73 +829,16 @@ impl Draft {
         let at = RFDO + if hazard { 0 } else { 2 } + usize::from(line == 0);
         let Some(now) = self.chemicals[i].1[at] else { return };
         let now = real(pair(Some(now)).high);
-        let by_cap = figure / cap(hazard) * less;
-        if let Some(near) = self.near(rng, &CHEMICAL[at], if hazard { now * by_cap } else { now / by_cap }) {
-            self.chemicals[i].1[at] = Some(near);
-        }
-    }
-
-    /// This number or one next to it, as a field can print it; if it is in range.
-    fn near(&self, rng: &mut Rng, slot: &Slot, wanted: f64) -> Value {
+        let wanted = if hazard { now * figure / 10_000.0 * less } else { now / figure / less };
         if !(1e-20..=1e9).contains(&wanted) {
-            return None;
+            return;
         }
         let figures = if self.most == 9 { 8 } else { 11 };
         let (digits, power) = decimal(wanted, figures);
         let near = digits.saturating_add_signed(rng.one_of(&[0, 0, 0, 1, -1, 2, -2])).max(1);
         let near = self.fitted((near, power));
-        in_range(slot, near).then_some(near)
-    }
-
-    /// Sets one chemical's Cw so that its line 7, or Kp so that its line 8, comes to about the cap in whoever takes most of it,
-    /// or to so many times less.
-    fn bring_water_to_cap(&mut self, rng: &mut Rng, i: usize, line: usize, hazard: bool, less: f64) {
-        let at = if line == DRINKING { CW } else { KP };
-        let before = self.chemicals[i].1[at];
-        // At 1, and so in proportion.
-        self.chemicals[i].1[at] = Some((1, 0));
-        let wanted = cap(hazard) / less / self.most_water(i, line, hazard);
-        self.chemicals[i].1[at] = self.near(rng, &CHEMICAL[at], wanted).or(before);
-    }
-
-    /// Brings both of one chemical's lines of water to the cap, or one of them, quotients or risks.
-    fn bring_waters_to_cap(&mut self, rng: &mut Rng, i: usize) {
-        let hazard = rng.chance(50);
-        let lines: &[usize] = rng.one_of(&[&[DRINKING], &[BATHING], &[DRINKING, BATHING], &[DRINKING, BATHING]]);
-        for &line in lines {
-            let less = rng.one_of(&[1.0, 1.0, 1.0, 2.0]);
-            self.bring_water_to_cap(rng, i, line, hazard, less);
-        }
-        // The other effect would often stop the deck first.
-        let over = |line: &usize| self.most_water(i, *line, !hazard) > cap(!hazard);
-        if [DRINKING, BATHING].iter().any(over) && rng.chance(85) {
-            self.chemicals[i].1[RFDO + if hazard { 2 } else { 0 }] = None;
-        }
-    }
-
-    /// Water as no one has it: values of any size in range, its ends above all.
-    fn odd_water(&mut self, rng: &mut Rng) {
-        let percent = rng.one_of(&[20, 60, 100]);
-        let mut change = |values: &mut [Value], slots: &[Slot]| {
-            for (value, slot) in values.iter_mut().zip(slots) {
-                if rng.chance(percent) {
-                    *value = far(rng, slot);
-                }
-            }
-        };
-        self.receptors.iter_mut().for_each(|(_, r)| change(&mut r[IRW..YEARS_BEHIND], &RECEPTOR[IRW..]));
-        self.chemicals.iter_mut().for_each(|(_, c)| change(&mut c[CW..], &CHEMICAL[CW..]));
-    }
-
-    /// Less Cw and Kp where they would bring a line above its cap, so that few decks stop for water alone.
-    fn thin_water(&mut self, rng: &mut Rng) {
-        for i in 0..self.chemicals.len() {
-            for (line, hazard) in WATER_LINES {
-                if self.most_water(i, line, hazard) > cap(hazard) && rng.chance(97) {
-                    let less = rng.one_of(&[2.0, 30.0, 1e6, 1e12]);
-                    self.bring_water_to_cap(rng, i, line, hazard, less);
-                }
-            }
+        if in_range(&CHEMICAL[at], near) {
+            self.chemicals[i].1[at] = Some(near);
         }
     }
 
@@ -951,31 +865,34 @@ impl Draft {
 
     fn written(&self, mut spell: impl FnMut(Printed) -> String) -> Vec<u8> {
         let mut deck = Vec::new();
-        let mut record = |kind: u8, lines: usize, id: u32, values: &[Value], place: &dyn Fn(usize) -> Place| {
+        let mut record = |kind: u8, id: u32, values: &[Value]| {
+            let lines = values.len().div_ceil(6);
             for k in 0..lines {
                 deck.extend([kind, b'1' + k as u8]);
                 deck.extend(format!("{id:>6}").bytes());
-                for at in FIELDS * k..FIELDS * (k + 1) {
-                    let text = match place(at).map(|(value, _)| values[value]) {
+                for at in 6 * k..6 * k + 6 {
+                    // A draft leaves out a blank slot before the years.
+                    let value = match kind {
+                        b'R' if at == self.sort.years_at() => values.get(DRAFT_YEARS),
+                        b'R' if at == DRAFT_YEARS => None,
+                        _ => values.get(at),
+                    };
+                    let text = match value {
                         None if kind == b'S' && at == YEAR => {
                             self.year.as_ref().map_or(String::new(), |year| year.1.clone())
                         }
                         None => String::new(),
                         Some(None) => "-".to_string(),
-                        Some(Some(v)) => spell(v),
+                        Some(Some(v)) => spell(*v),
                     };
                     deck.extend(format!("{text:>12}").bytes());
                 }
                 deck.push(b'\n');
             }
         };
-        record(b'S', SITE_LINES, self.site_id, &self.site, &site_place);
-        for (id, c) in &self.chemicals {
-            record(b'C', RECORD_LINES, *id, c, &chemical_place);
-        }
-        for (id, r) in &self.receptors {
-            record(b'R', RECORD_LINES, *id, r, &|at| self.sort.receptor_place(at));
-        }
+        record(b'S', self.site_id, &self.site);
+        self.chemicals.iter().for_each(|(id, c)| record(b'C', *id, c));
+        self.receptors.iter().for_each(|(id, r)| record(b'R', *id, r));
         deck.extend(END);
         deck
     }
@@ -986,11 +903,6 @@ const END: &[u8; LINE] = b"EN                                                   
 /// A quotient's or a risk's high end; 0 without the reference value.
 fn real_figure(f: &Figures, hazard: bool) -> f64 {
     (if hazard { f.quotient } else { f.risk }).map_or(0.0, |p: Pair| real(p.high))
-}
-
-/// A quotient's or a risk's cap.
-fn cap(hazard: bool) -> f64 {
-    real(if hazard { MOST_QUOTIENT } else { MOST_RISK })
 }
 
 /// Through the decimal spelling: the same double on every machine.
@@ -1083,9 +995,7 @@ fn size(rng: &mut Rng, most_receptors: usize) -> (usize, usize) {
 fn sound(rng: &mut Rng, sort: Sort, most_receptors: usize, year: Year) -> Vec<u8> {
     let (chemicals, receptors) = size(rng, most_receptors);
     let long = rng.chance(50);
-    let style = rng.below(100);
-    let odd = (55..=72).contains(&style);
-    let mut draft = match style {
+    let mut draft = match rng.below(100) {
         0..=54 => Draft::new(rng, sort, chemicals, receptors, 0),
         55..=66 => Draft::new(rng, sort, chemicals, receptors, 5),
         67..=72 => Draft::new(rng, sort, chemicals, receptors, 100),
@@ -1140,17 +1050,8 @@ fn sound(rng: &mut Rng, sort: Sort, most_receptors: usize, year: Year) -> Vec<u8
     } else if about_64 < 60 {
         draft.bring_to_cap(rng, i, 1.0);
     }
-    if draft.guidance() == Guidance::Of2009 && rng.chance(20) {
+    if draft.guidance() == Guidance::Of2009 && rng.chance(15) {
         draft.bring_air_to_cap(rng);
-    }
-    let water = rng.below(100);
-    if water < 12 {
-        draft.odd_water(rng);
-    }
-    if water < 12 || odd {
-        draft.thin_water(rng);
-    } else if water < 22 {
-        draft.bring_waters_to_cap(rng, i);
     }
     draft.deck(rng)
 }
@@ -1189,13 +1090,9 @@ fn noise(rng: &mut Rng, sort: Sort) -> Vec<u8> {
 fn damaged(rng: &mut Rng, sort: Sort, year: Year) -> Vec<u8> {
     let dated = year.is_some();
     let mut deck = sound(rng, sort, sort.most_receptors(), year);
-    // Of those with a year, some are hurt by the year alone; of all, some by water alone.
-    if dated && rng.chance(18) {
+    // Of those with a year, some are hurt by the year alone.
+    if dated && rng.chance(15) {
         damage_year(rng, sort, &mut deck);
-        return deck;
-    }
-    if rng.chance(12) {
-        damage_water(rng, &mut deck);
         return deck;
     }
     for _ in 0..rng.one_of(&[1, 1, 1, 1, 2, 3]) {
@@ -1222,8 +1119,8 @@ const IDS: &[&[u8; 6]] = &[
 ];
 #[rustfmt::skip]
 const KINDS: &[&[u8; 2]] = &[
-    b"S1", b"S2", b"S3", b"C1", b"C2", b"C3", b"C4", b"C5", b"C6", b"R1", b"R2", b"R3", b"R4", b"R5", b"R6", b"EN", b"  ", b"c1",
-    b"en", b"S0", b"C0", b"E1", b"1C", b"X1", b"S ",
+    b"S1", b"S2", b"S3", b"C1", b"C2", b"C3", b"C4", b"C5", b"R1", b"R2", b"R3", b"R4", b"R5", b"EN", b"  ", b"c1", b"en", b"S0",
+    b"C0", b"E1", b"1C", b"X1", b"S ",
 ];
 #[rustfmt::skip]
 const MISSPELLED: &[&str] = &[
@@ -1269,17 +1166,8 @@ const BAD_YEAR: &[&str] = &[
     "20O9", ".2009E+04", "2.009E+003", "2005-01-01",
 ];
 
-/// For water's fields: none, at the ends of each range and beyond by the last digit, misspelled.
-#[rustfmt::skip]
-const BAD_WATER: &[&str] = &[
-    "", "", "", "", "", "", "", "", "-", "-", "-", "-", "1.0000000001", "1.00000001", "1.0000000000", "2", "1.5", "100", "366",
-    "366.00000001", "366.000001", "366.00000000", "365.99999999", "367", "24", "1E+09", "1000000000.1", "1000000000.0",
-    "1.000001E+09", "1E+10", "999999999999", "1E+99", "1E-21", "9.999999E-21", "99999999E-28", "1E-20", "1E-99", "0", "0E+99",
-    "0.0000000000", "-1", "+1", ".5", "5.", "x", "1E5", "1,5", "2 L", "1/2", "3/day", "0.5 ", "--",
-];
-
 /// Line and field of the year, from 0.
-const YEAR_AT: (usize, usize) = (YEAR / FIELDS, YEAR % FIELDS);
+const YEAR_AT: (usize, usize) = (YEAR / 6, YEAR % 6);
 
 /// A bad year, or one written in vain: in a later slot, neither the year's nor that of T2 or a stage's years.
 fn damage_year(rng: &mut Rng, sort: Sort, deck: &mut [u8]) {
@@ -1288,7 +1176,7 @@ fn damage_year(rng: &mut Rng, sort: Sort, deck: &mut [u8]) {
         return;
     }
     let in_vain = |&(l, f): &(usize, usize)| match deck[l * LINE] {
-        b'R' => f != sort.years_at() % FIELDS,
+        b'R' => f != sort.years_at() % 6,
         kind => kind != b'S',
     };
     let later: Vec<(usize, usize)> = later_slots(deck).into_iter().filter(in_vain).collect();
@@ -1299,77 +1187,16 @@ fn damage_year(rng: &mut Rng, sort: Sort, deck: &mut [u8]) {
     place_field(deck, line, f, rng.one_of(&["2005", "2009", "2009", "2.009E+03", "2005.0", "000000002009"]));
 }
 
-/// The lines of a kind, from 0.
-fn lines_of(deck: &[u8], kind: &[u8; 2]) -> Vec<usize> {
-    (0..deck.len() / LINE).filter(|l| deck[l * LINE..].starts_with(kind)).collect()
-}
-
-/// Line and field, from 0, of the slots that no table has: S2 6, which has the year, C4 5 and 6, C5 3 to 6, R4 4 and 5, of which
-/// one has the years.
+/// Line and field of the slots behind a record's values: S2 6, which has the year, C4 5 and 6, R4 4 to 6, of which one has the
+/// years.
 fn later_slots(deck: &[u8]) -> Vec<(usize, usize)> {
-    let slots = |(l, line): (usize, &[u8])| {
-        let fields = match &line[..2] {
-            b"S2" => 5..6,
-            b"C4" => 4..6,
-            b"C5" => 2..6,
-            b"R4" => 3..5,
-            _ => 0..0,
-        };
-        fields.map(move |f| (l, f))
+    let slots = |(l, line): (usize, &[u8])| match &line[..2] {
+        b"S2" => vec![(l, 5)],
+        b"C4" => vec![(l, 4), (l, 5)],
+        b"R4" => vec![(l, 3), (l, 4), (l, 5)],
+        _ => vec![],
     };
     deck.chunks_exact(LINE).enumerate().flat_map(slots).collect()
-}
-
-/// Where water stands: Cw Kp, IRw, Fw EFd SAw events EFb hours.
-#[rustfmt::skip]
-const WATER_AT: [(&[u8; 2], usize); 9] = [
-    (b"C5", 0), (b"C5", 1), (b"R4", 5), (b"R5", 0), (b"R5", 1), (b"R5", 2), (b"R5", 3), (b"R5", 4), (b"R5", 5),
-];
-
-/// A bad field of water, or records without their fifth lines.
-fn damage_water(rng: &mut Rng, deck: &mut Vec<u8>) {
-    let (kind, f) = rng.one_of(&WATER_AT);
-    let lines = lines_of(deck, kind);
-    if lines.is_empty() || rng.chance(25) {
-        damage_fifth_lines(rng, deck);
-    } else {
-        place_field(deck, rng.one_of(&lines), f, rng.one_of(BAD_WATER));
-    }
-}
-
-/// Takes fifth lines away, as decks once were without them; or adds one more, or puts one before its fourth.
-fn damage_fifth_lines(rng: &mut Rng, deck: &mut Vec<u8>) {
-    let (of_chemicals, of_receptors) = (lines_of(deck, b"C5"), lines_of(deck, b"R5"));
-    let fifth = [&of_chemicals[..], &of_receptors].concat();
-    if fifth.is_empty() {
-        return;
-    }
-    let one = rng.one_of(&fifth);
-    let way = rng.below(10);
-    if way < 4 {
-        for line in lines_of(deck, b"R4") {
-            place_field(deck, line, 5, "");
-        }
-    }
-    let gone = match way {
-        0 | 1 => fifth,
-        2..=4 => of_receptors,
-        5 => of_chemicals,
-        6 | 7 => vec![one],
-        8 => {
-            let mut copy = deck[one * LINE..(one + 1) * LINE].to_vec();
-            copy[1] = rng.one_of(b"56");
-            place_line(deck, one + 1, &copy);
-            return;
-        }
-        _ => {
-            let before = one.saturating_sub(1);
-            (0..LINE).for_each(|i| deck.swap(one * LINE + i, before * LINE + i));
-            return;
-        }
-    };
-    let kept = deck.chunks(LINE).enumerate().filter(|(l, _)| !gone.contains(l));
-    *deck = kept.flat_map(|(_, line)| line.to_vec()).collect();
 }
 
 fn damage(rng: &mut Rng, sort: Sort, deck: &mut Vec<u8>) {
@@ -1380,7 +1207,7 @@ fn damage(rng: &mut Rng, sort: Sort, deck: &mut Vec<u8>) {
     }
     let line = rng.below(n);
     let from = line * LINE;
-    match rng.below(38) {
+    match rng.below(34) {
         0 => {
             let at = rng.below(deck.len());
             deck[at] = rng.byte();
@@ -1410,33 +1237,33 @@ fn damage(rng: &mut Rng, sort: Sort, deck: &mut Vec<u8>) {
         9 | 10 => deck[from + 2..from + 8].copy_from_slice(&rng.one_of(IDS)[..]),
         11 => {
             // Ids spelled well, but a whole record's is not above the one before.
-            let later: Vec<usize> = (RECORD_LINES..(n + 1).saturating_sub(RECORD_LINES))
+            let later: Vec<usize> = (4..n.saturating_sub(3))
                 .filter(|l| [b"C1", b"R1"].contains(&&[deck[l * LINE], deck[l * LINE + 1]]))
-                .filter(|l| deck[l * LINE] == deck[(l - RECORD_LINES) * LINE])
+                .filter(|l| deck[l * LINE] == deck[(l - 4) * LINE])
                 .collect();
             let id = |n: i64| format!("{:>6}", n.max(1)).into_bytes();
             if later.is_empty() || rng.chance(30) {
                 deck[from + 2..from + 8].copy_from_slice(&id(rng.figures(1, 6)));
             } else {
                 let first = rng.one_of(&later);
-                let before = &deck[(first - RECORD_LINES) * LINE + 2..][..6];
+                let before = &deck[(first - 4) * LINE + 2..(first - 4) * LINE + 8];
                 let before: i64 = String::from_utf8_lossy(before).trim().parse().unwrap_or(1);
                 let text = id(before - rng.one_of(&[0, 0, 1]));
-                for l in first..first + RECORD_LINES {
+                for l in first..first + 4 {
                     deck[l * LINE + 2..l * LINE + 8].copy_from_slice(&text);
                 }
             }
         }
         12 | 13 => deck[from..from + 2].copy_from_slice(&rng.one_of(KINDS)[..]),
-        14 | 15 => place_field(deck, line, rng.below(FIELDS), rng.one_of(MISSPELLED)),
+        14 | 15 => place_field(deck, line, rng.below(6), rng.one_of(MISSPELLED)),
         16 => {
             // One byte of a field.
             let at = from + 8 + rng.below(72);
             deck[at] = rng.one_of(b" 0123456789.E+-e,");
         }
-        17 => place_field(deck, line, rng.below(FIELDS), ""),
-        18 => place_field(deck, line, rng.below(FIELDS), "-"),
-        19..=22 => place_field(deck, line, rng.below(FIELDS), rng.one_of(OUT_OF_RANGE)),
+        17 => place_field(deck, line, rng.below(6), ""),
+        18 => place_field(deck, line, rng.below(6), "-"),
+        19..=22 => place_field(deck, line, rng.below(6), rng.one_of(OUT_OF_RANGE)),
         23 | 24 => {
             let later = later_slots(deck);
             if !later.is_empty() {
@@ -1467,25 +1294,24 @@ fn damage(rng: &mut Rng, sort: Sort, deck: &mut Vec<u8>) {
         }
         29 => {
             // Fv next to an end of its range.
-            let first = lines_of(deck, b"C1");
+            let first: Vec<usize> = (0..n).filter(|l| deck[l * LINE..].starts_with(b"C1")).collect();
             if !first.is_empty() {
                 place_field(deck, rng.one_of(&first), FV, rng.one_of(SHARE_ENDS));
             }
         }
         30 => {
             // A field moved to the left within its columns.
-            let f = rng.below(FIELDS);
+            let f = rng.below(6);
             let at = from + 8 + 12 * f;
             let by = rng.below(4);
             deck[at..at + 12].rotate_left(by);
         }
-        31..=33 => {
-            let fourth = lines_of(deck, b"R4");
-            if !fourth.is_empty() {
-                place_field(deck, rng.one_of(&fourth), sort.years_at() % FIELDS, rng.one_of(BAD_YEARS));
+        _ => {
+            let last: Vec<usize> = (0..n).filter(|l| deck[l * LINE..].starts_with(b"R4")).collect();
+            if !last.is_empty() {
+                place_field(deck, rng.one_of(&last), sort.years_at() % 6, rng.one_of(BAD_YEARS));
             }
         }
-        _ => damage_water(rng, deck),
     }
 }
 
@@ -1569,9 +1395,7 @@ mod tests {
             for place in 0..6_000 {
                 let t = trial(sort, 1, place);
                 let told = crate::report(sort, &t.deck, &mut out);
-                if told.0 > 22
-                    && told.2 == sort.years_at() % FIELDS + 1
-                    && t.deck[(told.1 - 1) * LINE..].starts_with(b"R4")
+                if told.0 > 22 && told.2 == sort.years_at() % 6 + 1 && t.deck[(told.1 - 1) * LINE..].starts_with(b"R4")
                 {
                     refused[told.0 as usize] += 1;
                 }
@@ -1617,7 +1441,7 @@ mod tests {
             let mut none = [0; 2];
             // x above 64 by decay alone, volatilization, erosion, runoff, leaching, or by several.
             let mut ways = [0; 6];
-            // Of the soil's lines with x or k × (T2 − tD) above 64, those that tell nine figures of a quotient, or of a risk.
+            // Of the lines with x or k × (T2 − tD) above 64, those that tell nine figures of a quotient, or of a risk.
             let mut told = [0; 2];
             for place in 0..6_000 {
                 let t = trial(sort, 1, place);
@@ -1655,11 +1479,10 @@ mod tests {
                         let slow = [has_series(loss.x), rest.is_none_or(has_series)];
                         sides[usize::from(!slow[0])][rest.map_or(0, |_| 1 + usize::from(!slow[1]))] += 1;
                         none[usize::from(rest.is_some())] += usize::from(loss.k == Pair::ZERO);
-                        for (pathway, line) in (1..=PATHWAYS).zip(&mut lines) {
+                        for line in lines.by_ref().take(6) {
                             let nine = |at: usize| line[at..at + 12].iter().any(|&b| b != b' ');
-                            let by_soil = (2..=6).contains(&pathway);
-                            told[0] += usize::from(slow != [true; 2] && by_soil && nine(34));
-                            told[1] += usize::from(slow != [true; 2] && by_soil && nine(74));
+                            told[0] += usize::from(slow != [true; 2] && line[13] != b'1' && nine(34));
+                            told[1] += usize::from(slow != [true; 2] && line[13] != b'1' && nine(74));
                         }
                     }
                     lines.next();
@@ -1724,7 +1547,7 @@ mod tests {
                     let (body, exposure) = (Body::new(r, case.guidance), site.exposure(r));
                     for (c, media) in case.chemicals().iter().zip(&media) {
                         let air = pathways(&site, c, media, &exposure, &body)[0];
-                        let caps = [MOST_QUOTIENT, MOST_RISK];
+                        let caps = [crate::page::MOST_QUOTIENT, crate::page::MOST_RISK];
                         for (effect, (figure, cap)) in [air.quotient, air.risk].into_iter().zip(caps).enumerate() {
                             let Some(p) = figure else {
                                 lacking[effect] += usize::from(is_answered);
@@ -1738,7 +1561,7 @@ mod tests {
                             // The last of nine figures is a unit or more.
                             nine[effect] += usize::from(is_answered && p.low.e >= [-12, -15][effect]);
                         }
-                        line += PATHWAYS;
+                        line += 6;
                     }
                     line += 1;
                 }
@@ -1755,141 +1578,6 @@ mod tests {
             assert!(refused[31..=33].iter().all(|&n| n > 15) && texts.len() > 40, "{all}");
             assert!(above.iter().all(|&n| n > 40) && [at, below].iter().flatten().all(|&n| n > 5), "{all}");
             assert!(nine.iter().chain(&lacking).all(|&n| n > 500), "{all}");
-        }
-    }
-
-    /// What decks say of water, those answered and those that stop for it; and where lines 7 and 8 come to.
-    #[test]
-    fn kinds_of_water() {
-        for sort in [Sort::Ordinary, Sort::Composite] {
-            let mut out = vec![0; LONGEST_REPORT];
-            // By the value: Cw Kp, IRw Fw EFd SAw events EFb hours. 31, 32, 33; in decks answered 0, 1E-20, the cap, more than
-            // nine digits.
-            let (mut refused, mut answered) = ([[0; 3]; 9], [[0; 4]; 9]);
-            // C4 5 and 6, C5 3 to 6: 31, 32.
-            let mut later = [[0; 2]; 6];
-            // Where C5 and R5 are missing: 21 at line 7, at another chemical, at a receptor; receptors of four lines that stop
-            // at IRw.
-            let (mut missing, mut four) = ([0; 3], 0);
-            // Lines 7 and 8, quotient and risk: above the cap by less than a millionth, at the cap, below by less than a
-            // millionth; nine figures told; 0.
-            let mut figures = [[[0; 5]; 2]; 2];
-            let (near, caps) = (Pair::entry(1_000_001, -6), [MOST_QUOTIENT, MOST_RISK]);
-            for place in 0..6_000 {
-                let t = trial(sort, 1, place);
-                let told = crate::report(sort, &t.deck, &mut out);
-                let kind_at = |line: usize| t.deck.get((line - 1) * LINE..).and_then(|rest| rest.get(..2));
-                if let (number @ 31..=33, line, f) = told {
-                    let by = number as usize - 31;
-                    match (kind_at(line), f) {
-                        (Some(b"C4"), 5 | 6) => later[f - 5][by] += 1,
-                        (Some(b"C5"), 3..) => later[f - 1][by] += 1,
-                        (Some(kind), _) => {
-                            let value = WATER_AT.iter().position(|&(own, at)| kind == own && f == at + 1);
-                            value.into_iter().for_each(|value| refused[value][by] += 1);
-                        }
-                        _ => {}
-                    }
-                    four += usize::from(
-                        number == 32 && f == 6 && kind_at(line) == Some(b"R4") && {
-                            let next = kind_at(line + 1);
-                            next == Some(b"R1") || next == Some(b"EN")
-                        },
-                    );
-                }
-                if let (21, line @ 2.., _) = told {
-                    match (kind_at(line - 1), kind_at(line)) {
-                        (Some(b"C4"), Some(b"C1" | b"R1")) => missing[usize::from(line != 7)] += 1,
-                        (Some(b"R4"), Some(b"R1" | b"EN")) => missing[2] += 1,
-                        _ => {}
-                    }
-                }
-                if ![0, 42].contains(&told.0) {
-                    continue;
-                }
-                let mut case = Case::empty();
-                crate::report::read_reported(sort, &t.deck, &mut case).unwrap();
-                let is_answered = told.0 == 0;
-                if is_answered {
-                    for (value, (kind, f)) in WATER_AT.into_iter().enumerate() {
-                        let most = [1e9, 1e9, 1e9, 1.0, 366.0, 1e9, 1e9, 366.0, 1e9][value];
-                        for from in lines_of(&t.deck, kind).into_iter().map(|l| l * LINE + 8 + 12 * f) {
-                            let text = String::from_utf8_lossy(&t.deck[from..from + 12]).trim_start().to_string();
-                            let real: f64 = text.parse().unwrap();
-                            let digits = text.split('E').next().unwrap().trim_start_matches('0');
-                            let digits = digits.bytes().filter(u8::is_ascii_digit).count();
-                            let kinds = [real == 0.0, real == 1e-20, real == most, digits > 9];
-                            answered[value].iter_mut().zip(kinds).for_each(|(n, is)| *n += usize::from(is));
-                        }
-                    }
-                }
-                let site = Site::new(&case.site, case.td);
-                let media: Vec<Media> = case.chemicals().iter().map(|c| Media::new(&site, c)).collect();
-                let mut line = 1;
-                for r in case.receptors() {
-                    let (body, exposure) = (Body::new(r, case.guidance), site.exposure(r));
-                    for (c, media) in case.chemicals().iter().zip(&media) {
-                        let all = pathways(&site, c, media, &exposure, &body);
-                        for (i, water) in [DRINKING, BATHING].into_iter().enumerate() {
-                            let both = [all[water].quotient, all[water].risk];
-                            for (effect, (figure, cap)) in both.into_iter().zip(caps).enumerate() {
-                                let Some(p) = figure else { continue };
-                                let close = cap.at_most((p * near).low) && p.high.at_most((Pair::of(cap) * near).high);
-                                let stops = told.1 == line + water && !p.high.at_most(cap);
-                                let kinds = [
-                                    !is_answered && stops && close,
-                                    is_answered && p.high == cap,
-                                    is_answered && close && p.high != cap,
-                                    is_answered && p.low.e >= [-12, -15][effect],
-                                    is_answered && p == Pair::ZERO,
-                                ];
-                                let counts = &mut figures[i][effect];
-                                counts.iter_mut().zip(kinds).for_each(|(n, is)| *n += usize::from(is));
-                            }
-                        }
-                        line += PATHWAYS;
-                    }
-                    line += 1;
-                }
-            }
-            let all = format!("{sort:?}: {refused:?} {answered:?} {later:?} {missing:?} {four} {figures:?}");
-            assert!(refused.iter().flatten().all(|&n| n > 2), "{all}");
-            assert!(answered.iter().flatten().all(|&n| n > 10), "{all}");
-            assert!(later.iter().flatten().all(|&n| n > 1) && missing.iter().all(|&n| n > 10) && four > 10, "{all}");
-            for [above, at, below, nine, zero] in figures.into_iter().flatten() {
-                assert!(above > 10 && at > 3 && below > 10 && nine > 500 && zero > 100, "{all}");
-            }
-        }
-    }
-
-    /// Decks that are timed: everyone's lines 7 and 8 are more than 0 in some chemical, and so for the sizes that are timed.
-    #[test]
-    fn everyday_decks_have_water() {
-        for (sort, chemicals, receptors) in [
-            (Sort::Ordinary, 1, 1),
-            (Sort::Ordinary, 4, 2),
-            (Sort::Ordinary, 16, 4),
-            (Sort::Composite, 1, 8),
-            (Sort::Composite, 16, 8),
-        ] {
-            for make in [everyday, everyday_eleven] {
-                for seed in 0..4 {
-                    let mut out = vec![0; LONGEST_REPORT];
-                    let told = crate::report(sort, &make(sort, seed, chemicals, receptors), &mut out);
-                    assert_eq!(told.0, 0);
-                    let lines: Vec<&[u8]> = out[..told.1].chunks(crate::report::LINE).collect();
-                    for person in lines.chunks(chemicals * PATHWAYS + 1) {
-                        for pathway in [b'7', b'8'] {
-                            // Low ends, right-justified: more than "0" and no "-".
-                            let some = |at: usize| {
-                                let mut own = person.iter().filter(|line| line[13] == pathway);
-                                own.any(|line| line[at..at + 20].iter().any(|b| (b'1'..=b'9').contains(b)))
-                            };
-                            assert!(some(14) && some(54), "{sort:?} {chemicals} {receptors} {seed}");
-                        }
-                    }
-                }
-            }
         }
     }
 
@@ -1946,7 +1634,7 @@ mod tests {
             let deck = String::from_utf8(everyday_eleven(Sort::Ordinary, seed, 4, 2)).unwrap();
             let mut longer_pairs = 0;
             for line in deck.lines().filter(|l| !l.starts_with("EN")) {
-                for f in 0..FIELDS {
+                for f in 0..6 {
                     let field = &line[8 + 12 * f..20 + 12 * f];
                     if field.trim().is_empty() || field.trim() == "-" {
                         continue;

@@ -5,7 +5,7 @@
 //! 1E-27 at least, so every exponent here stays within a few hundred, those of the series (worked at 64 at most) within some
 //! tens of thousands; and no divisor is 0, since its factors are never 0, and x divides only where it is about 64 or more.
 
-use crate::deck::{Chemical, Guidance, Receptor, RECEPTOR};
+use crate::deck::{Chemical, Guidance, Receptor};
 use crate::pairs::{self, Pair, Working};
 use crate::years::Years;
 
@@ -21,9 +21,6 @@ const MOST_X: Working = Working::entry(64, 0);
 const BY_PHI_ABOVE: Pair = Pair { low: Working::ZERO, high: Working::entry(1, -25) };
 pub const MOST_QUOTIENT: Working = Working::entry(10_000, 0);
 pub const MOST_RISK: Working = Working::ONE;
-
-/// Pathways of a chemical.
-pub const PATHWAYS: usize = 8;
 
 /// The site's own values, as pairs.
 #[derive(Clone, Copy)]
@@ -246,7 +243,7 @@ enum Inhaled {
 
 /// What the pathways take from a receptor alone.
 pub struct Body {
-    value: [Pair; RECEPTOR.len()],
+    value: [Pair; 21],
     inhaled: Inhaled,
     /// SAb × SAFb + SAh × SAFh.
     adhering: Pair,
@@ -279,15 +276,9 @@ pub struct Figures {
     pub risk: Option<Pair>,
 }
 
-/// Pathways 1 to 8 of one receptor and chemical.
-pub fn pathways(
-    site: &Site,
-    chemical: &Chemical,
-    media: &Media,
-    exposure: &Exposure,
-    body: &Body,
-) -> [Figures; PATHWAYS] {
-    let [_, ed, _, irinh, etinh, efinh, irsoil, etsoil, efs, efw, _, _, _, _, etderm, irag, fag, irbg, fbg, wp, efp, ..] =
+/// Pathways 1 to 6 of one receptor and chemical.
+pub fn pathways(site: &Site, chemical: &Chemical, media: &Media, exposure: &Exposure, body: &Body) -> [Figures; 6] {
+    let [_, ed, _, irinh, etinh, efinh, irsoil, etsoil, efs, efw, _, _, _, _, etderm, irag, fag, irbg, fbg, wp, efp] =
         body.value;
     let [.., afinh, aforal, afderm] = chemical.value;
     let [rfdo, rfdi, csfo, csfi] = chemical.reference;
@@ -307,7 +298,6 @@ pub fn pathways(
             risk: csfi.map(|unit_risk| cancer.in_air(media.air).risk(unit_risk)),
         },
     };
-    let [drinking, bathing] = water(chemical, body);
     [
         air,
         in_soil(irsoil * aforal * etsoil * efs * ed * MILLIONTH),
@@ -315,26 +305,7 @@ pub fn pathways(
         in_soil(body.adhering * afderm * etderm * efs * ed * MILLIONTH),
         figures(irag * fag * wp * aforal * efp * ed, (highest.above_ground, rfdo), (mean.above_ground, csfo)),
         figures(irbg * fbg * wp * aforal * efp * ed, (highest.below_ground, rfdo), (mean.below_ground, csfo)),
-        drinking,
-        bathing,
     ]
-}
-
-/// Pathways 7 and 8, drinking and bathing: nothing of the site or of an exposure counts.
-pub fn water(chemical: &Chemical, body: &Body) -> [Figures; 2] {
-    let [_, ed, ..] = body.value;
-    let [.., irw, fw, efd, saw, events, efb, hours] = body.value;
-    let [.., aforal, _] = chemical.value;
-    let [cw, kp] = chemical.water;
-    let [rfdo, _, csfo, _] = chemical.reference;
-    // An intake by its B.
-    let figures = |intake: &dyn Fn(Pair) -> Pair| Figures {
-        quotient: rfdo.map(|rfd| intake(body.b_hazard) / rfd),
-        risk: csfo.map(|csf| intake(body.b_cancer) * csf),
-    };
-    let drunk = irw * fw * aforal * efd * ed;
-    let bathed = kp * cw / THOUSAND * hours * saw * events * efb * ed;
-    [figures(&|b| drunk / b * cw), figures(&|b| bathed / b)]
 }
 
 #[cfg(test)]
@@ -461,12 +432,7 @@ mod tests {
     }
 
     fn stage(years: (u64, i32), value: Pair) -> Receptor {
-        Receptor {
-            id: 7,
-            value: [value; RECEPTOR.len()],
-            years: Pair::entry(years.0, years.1),
-            exact_years: Years::printed(years),
-        }
+        Receptor { id: 7, value: [value; 21], years: Pair::entry(years.0, years.1), exact_years: Years::printed(years) }
     }
 
     /// Document 002's body weights and years; it divides by 75, though the years add to 76.
@@ -502,30 +468,6 @@ mod tests {
         assert_eq!(late[0], Pair { low: Working { m: 999_999_980, e: -9 }, high: Working { m: 100_000_002, e: -8 } });
         // The years times 0 are 0.
         assert_eq!(composite(&[stage((1, -20), Pair::ZERO), stage((1, 9), Pair::ZERO)]).value[0], Pair::ZERO);
-    }
-
-    /// Document 002's toddler who swims in water with 5.7E-7 mg/L for 2 hours, 14 times a year: 7.9E-10 mg/kg-day by the mouth
-    /// and 1.6E-11 through the skin, in its two figures.
-    #[test]
-    fn swimmer_of_002() {
-        let e = Pair::entry;
-        let mut toddler = stage((45, -1), Pair::ONE);
-        for (at, v) in [(0, e(165, -1)), (ED, e(45, -1)), (21, e(6, -1)), (23, e(14, 0)), (24, e(6130, 0))] {
-            toddler.value[at] = v;
-        }
-        (toddler.value[26], toddler.value[27]) = (e(14, 0), e(2, 0));
-        let mut arsenic = Chemical { water: [e(57, -8), e(1, -3)], ..Chemical::EMPTY };
-        arsenic.value = [Pair::ONE; crate::deck::CHEMICAL_VALUES];
-        arsenic.reference[0] = Some(Pair::ONE);
-        let site = site((1, 0));
-        let media = Media::new(&site, &arsenic);
-        let body = Body::new(&toddler, Guidance::Of2005);
-        let [.., drinking, bathing] = pathways(&site, &arsenic, &media, &site.exposure(&toddler), &body);
-        let ends = |low: u32, high: u32, e: i32| Pair { low: Working { m: low, e }, high: Working { m: high, e } };
-        // 37.8 / 27101.25 is 1.39476961E-3 to ..62E-3; 4.402566E-7 / 27101.25 is rounded once.
-        assert_eq!(drinking.quotient, Some(ends(795_018_677, 795_018_684, -18)));
-        assert_eq!(bathing.quotient, Some(ends(162_448_816, 162_448_817, -19)));
-        assert!(drinking.risk.is_none() && bathing.risk.is_none());
     }
 
     #[test]

@@ -2,9 +2,7 @@
 
 use crate::calls::Raw;
 use crate::deck::Printed;
-use crate::page::PATHWAYS;
 use crate::pairs::{LEAST, MOST, MOST_PRINTED, REACH};
-use crate::report::MOST_ADDED;
 use crate::rng::Rng;
 
 /// One call and what it is given.
@@ -283,9 +281,8 @@ fn loss(rng: &mut Rng) -> Raw {
 const MOST_LISTED: i64 = 10_000_000_000_000_000;
 
 fn list(rng: &mut Rng) -> Vec<u64> {
-    let any = rng.below(MOST_ADDED + 20);
-    let about_most = MOST_ADDED + rng.below(4) - 1;
-    let n = rng.one_of(&[0, 1, PATHWAYS, 96, 97, about_most, about_most, about_most, MOST_ADDED, MOST_ADDED, any]);
+    let any = rng.below(110);
+    let n = rng.one_of(&[0, 1, 6, 95, 96, 96, 96, 97, any]);
     let top = rng.chance(20);
     let mut list: Vec<u64> =
         (0..n).map(|_| if top { MOST_LISTED } else { rng.between(0, MOST_LISTED) } as u64).collect();

@@ -1,8 +1,9 @@
--- A case in range lacks no value that a deck needs: every place of a record is a slot with a name, stays blank, or is a later slot. Assumes nothing.
-use mathlib.Core.Path.{◌≡◌, refl, sym, ap, subst}
+-- A case in range lacks no value that a deck needs: every place of a record is a slot with a name, or a later slot. Assumes nothing.
+use mathlib.Core.Path.{◌≡◌, refl, sym, ◌∙◌, ap, subst}
 use mathlib.Core.Bool.{Bool, true, false, not, ◌&&◌, ◌||◌, false≢true}
 use mathlib.Core.List.{map}
 use Prim.Native.Nat.{ℕ, ◌≤◌, ◌<◌}
+use native.Mathlib.Omega.{arith}
 use lib.Dec.{eqb, ltb}
 use lib.ListN.{length, get_or, length-map}
 use borrow.Author.Tests.{eqb-true, ltb-true, ltb-false, not-false}
@@ -14,7 +15,6 @@ use Rattle.slots.specs.declared.Owner.{Owner}
 use Rattle.slots.specs.declared.Owner.TheVariants.{Site, Chemical, Receptor}
 use Rattle.slots.specs.declared.Rule.{Rule}
 use Rattle.slots.specs.declared.Sort.{Sort}
-use Rattle.slots.specs.declared.Sort.TheVariants.{Ordinary, Composite}
 use Rattle.slots.specs.Slots.{Slot, table, same, is_in, place_in, rule_in, rule_at, owner_of, place_of, rule_for}
 use Rattle.slots.proofs.SlotLaws.{name_of, later_rule}
 use Rattle.cases.specs.declared.Case.{Case}
@@ -54,23 +54,11 @@ alike_same Receptor Receptor h = refl
 unfoldable found : Owner → ℕ → Bool
 found o k = eqb (place_of (name_at o k)) k && alike (owner_of (name_at o k)) o
 
--- or the place stays blank, in each sort of deck
-unfoldable blank_in : Sort → Owner → ℕ → Bool
-blank_in sort o k = (rule_at sort o k).blank
-
-unfoldable settled : Owner → ℕ → Bool
-settled o k = found o k || (blank_in Ordinary o k && blank_in Composite o k)
-
-blank_in_lem : (sort : Sort) (o : Owner) (k : ℕ) → (blank_in Ordinary o k && blank_in Composite o k) ≡ true → (rule_at sort o k).blank ≡ true
-unfolding blank_in
-blank_in_lem Ordinary o k h = (both (rule_at Ordinary o k).blank (rule_at Composite o k).blank h).0
-blank_in_lem Composite o k h = (both (rule_at Ordinary o k).blank (rule_at Composite o k).blank h).1
-
-all_settled : (o : Owner) → any_of (λ k. not (settled o k)) (length (table o)) ≡ false
-unfolding settled blank_in rule_at rule_in found name_at alike name_of any_of place_of owner_of place_in is_in same table
-all_settled Site = refl
-all_settled Chemical = refl
-all_settled Receptor = refl
+all_found : (o : Owner) → any_of (λ k. not (found o k)) (length (table o)) ≡ false
+unfolding found name_at alike name_of any_of place_of owner_of place_in is_in same table
+all_found Site = refl
+all_found Chemical = refl
+all_found Receptor = refl
 
 -- ---- a value that fits its rule is not missing
 fits_there : (rule : Rule) (v : Value) → Fits rule v → is_missing rule v ≡ false
@@ -98,14 +86,9 @@ module _ (sort : Sort) (case : Case) (ranged : Ranged sort case) (j i : ℕ) (j-
       (subst (λ (n : ℕ). is_missing (rule_at sort (owner_of (name_at o k)) n) (value_at (owners_record (owner_of (name_at o k)) case j i) n) ≡ false) at
       (fits_there _ _ (ranged.fits j i j-small i-small (name_at o k))))
 
-  settled_there : (o : Owner) (k : ℕ) (t : Bool) → found o k ≡ t → (t || (blank_in Ordinary o k && blank_in Composite o k)) ≡ true → is_missing (rule_at sort o k) (value_at (owners_record o case j i) k) ≡ false
-  settled_there o k true e h = named o k e
-  settled_there o k false e h = later_there (rule_at sort o k) _ (blank_in_lem sort o k h)
-
   place_there : (o : Owner) (k : ℕ) (t : Bool) → ltb k (length (table o)) ≡ t → is_missing (rule_at sort o k) (value_at (owners_record o case j i) k) ≡ false
-  unfolding settled
   place_there o k true e =
-      settled_there o k (found o k) refl (not-false (settled o k) (none_of (λ n. not (settled o n)) (length (table o)) (all_settled o) k (ltb-true k (length (table o)) e)))
+      named o k (not-false (found o k) (none_of (λ n. not (found o n)) (length (table o)) (all_found o) k (ltb-true k (length (table o)) e)))
   place_there o k false e =
       later_there (rule_at sort o k) _ (ap (λ (r : Rule). r.blank) (later_rule sort o k (subst (λ (n : ℕ). n ≤ k) (sym (length-map (table o) (rule_in sort))) (ltb-false k (length (table o)) e))))
 

@@ -12,7 +12,7 @@ use crate::stages::composite_of;
 use cases::{Status, Told};
 use slots::Sort;
 
-// The longest report, of one receptor: 129 lines.
+// The longest report, of one receptor: 97 lines.
 pub const MAX_REPORT: usize = report::MAX_REPORT / sizes::MAX_RECEPTORS;
 
 // A byte more than the longest deck: input that fills it is no deck, whatever is in it.

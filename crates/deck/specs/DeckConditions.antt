@@ -111,7 +111,7 @@ line_conditions sort deck n = line_conditions_after sort (seen_in deck (n - 1)) 
 abbrev pub max_lines : Sort → ℕ
 max_lines sort = site_lines + record_lines * (max_chemicals + max_receptors sort) + 1
 
--- 8,343 bytes, or a composite's 9,963
+-- 6,723 bytes, or a composite's 8,019
 abbrev pub max_length : Sort → ℕ
 max_length sort = deck_line_width * max_lines sort
 

@@ -1,51 +1,26 @@
 -- What holds of each thing that the pathways take by their medium, their route or the year's guidance, holds of what each pathway takes. `by_medium_lem`
--- and `by_way_lem` alone go through the pathways. Assumes nothing.
+-- alone goes through the pathways. Assumes nothing.
 use mathlib.Core.Path.{◌≡◌, refl}
-use mathlib.Core.Bool.{Bool, true, false, cond, false≢true, true≢false}
+use mathlib.Core.Bool.{Bool, true, false, cond}
 use Rattle.equations.specs.declared.Pathway.{Pathway}
-use Rattle.equations.specs.declared.Pathway.TheVariants.{Air, SoilSummer, SoilWinter, Skin, AboveGround, BelowGround, Drinking, Bathing}
-use Rattle.equations.specs.Page.{by_medium, by_way, by_route, by_guidance}
+use Rattle.equations.specs.declared.Pathway.TheVariants.{Air, SoilSummer, SoilWinter, Skin, AboveGround, BelowGround}
+use Rattle.equations.specs.Page.{by_medium, by_route, by_guidance}
 use Rattle.slots.specs.declared.Guidance.{Guidance}
 use Rattle.slots.specs.declared.Guidance.TheVariants.{Of2005, Of2009}
 
 -- what goes together in its medium
-pub by_medium_lem : {A B : Type 0} (R : Pathway → A → B → Type 0) {a s f r w : A} {a' s' f' r' w' : B} → R Air a a' → (p : Pathway) → R p s s' → R p f f' → R p r r' → R p w w' →
-    R p (by_medium p a s f r w) (by_medium p a' s' f' r' w')
+pub by_medium_lem : {A B : Type 0} (R : Pathway → A → B → Type 0) {a s f r : A} {a' s' f' r' : B} → R Air a a' → (p : Pathway) → R p s s' → R p f f' → R p r r' → R p (by_medium p a s f r) (by_medium p a' s' f' r')
 unfolding by_medium
-by_medium_lem R h Air k l m n = h
-by_medium_lem R h SoilSummer k l m n = k
-by_medium_lem R h SoilWinter k l m n = k
-by_medium_lem R h Skin k l m n = k
-by_medium_lem R h AboveGround k l m n = l
-by_medium_lem R h BelowGround k l m n = m
-by_medium_lem R h Drinking k l m n = n
-by_medium_lem R h Bathing k l m n = n
-
--- what goes together with a factor, and of bathing
-pub by_way_lem : {A B : Type 0} (R : Pathway → A → B → Type 0) {f b : A} {f' b' : B} → R Bathing b b' → (p : Pathway) → (by_way p true false ≡ true → R p f f') → R p (by_way p f b) (by_way p f' b')
-unfolding by_way
-by_way_lem R h Air k = k refl
-by_way_lem R h SoilSummer k = k refl
-by_way_lem R h SoilWinter k = k refl
-by_way_lem R h Skin k = k refl
-by_way_lem R h AboveGround k = k refl
-by_way_lem R h BelowGround k = k refl
-by_way_lem R h Drinking k = k refl
-by_way_lem R h Bathing k = h
+by_medium_lem R h Air k l m = h
+by_medium_lem R h SoilSummer k l m = k
+by_medium_lem R h SoilWinter k l m = k
+by_medium_lem R h Skin k l m = k
+by_medium_lem R h AboveGround k l m = l
+by_medium_lem R h BelowGround k l m = m
 
 pub by_route_lem : {A B : Type 0} (R : Pathway → A → B → Type 0) {i o : A} {i' o' : B} → R Air i i' → (p : Pathway) → R p o o' → R p (by_route p i o) (by_route p i' o')
 unfolding by_route
-by_route_lem R h p k = by_medium_lem R h p k k k k
-
--- a pathway that goes by a factor, and the one that does not
-pub factored : {A : Type 0} (p : Pathway) (f b : A) → by_way p true false ≡ true → by_way p f b ≡ f
-factored p f b = by_way_lem (λ q x (t : Bool). t ≡ true → x ≡ f) (λ t. absurd (false≢true t)) p (λ h t. refl)
-
-pub not_bathing : (p : Pathway) → by_way p false true ≡ false → by_way p true false ≡ true
-not_bathing p = by_way_lem (λ q (t u : Bool). t ≡ false → u ≡ true) (λ t. absurd (true≢false t)) p (λ h t. refl)
-
-pub only_bathing : (p : Pathway) → by_way p false true ≡ true → p ≡ Bathing
-only_bathing p = by_way_lem (λ q (t u : Bool). t ≡ true → q ≡ Bathing) {f' = true} {b' = true} (λ t. refl) p (λ h t. absurd (false≢true t))
+by_route_lem R h p k = by_medium_lem R h p k k k
 
 pub on_route : {A : Type 0} (P : A → Type 0) (p : Pathway) (i o : A) → P i → P o → P (by_route p i o)
 on_route P p i o h k = by_route_lem (λ q x (t : Bool). P x) {i' = true} {o' = true} h p k

@@ -15,16 +15,18 @@ use Rattle.pair.specs.Fraction as exact
 use Rattle.pair.specs.Fraction.{Fraction}
 use Rattle.pair.specs.Number.{is_pair, value, depth}
 use Rattle.pair.specs.Calls.{Outcome, is}
-use Rattle.pair.specs.Promises.{Holds, Near, spread}
+use Rattle.pair.specs.Promises.{Holds, products, quotients, Near, spread}
 use Rattle.pair.proofs.Promises.{joint}
 use Rattle.pair.proofs.Widths.{near_more}
-use Rattle.pair.proofs.Profiles.{Profile, of_number, positives, usable, joined, Fits, Good, answered_as, good_more, good_number}
+use Rattle.pair.proofs.Profiles.{Profile, of_number, positives, usable, joined, Fits, Good, answered_as, parts, good_more, good_number}
 use Rattle.lists.proofs.Booleans.{both}
 use Rattle.equations.specs.declared.Pathway.{Pathway}
 use Rattle.equations.specs.declared.Effect.{Effect}
+use Rattle.equations.specs.declared.Effect.TheVariants.{Hazard, Cancer}
 use Rattle.equations.specs.declared.Stay.{Stay}
 use Rattle.equations.specs.declared.Stay.TheVariants.{Within, Beyond}
 use Rattle.slots.specs.declared.Guidance.{Guidance}
+use Rattle.slots.specs.declared.Guidance.TheVariants.{Of2005}
 use Rattle.slots.specs.declared.Owner.{Owner}
 use Rattle.slots.specs.declared.Owner.TheVariants.{Site, Chemical, Receptor}
 use Rattle.slots.specs.Slots.{Slot, table, same, is_in, place_in, entry_rule, owner_of, place_of, rule_of, never_zero, at_most_one}
@@ -34,7 +36,7 @@ use Rattle.equations.specs.Page.{Growth, growth, x, x'}
 use Rattle.equations.specs.Readings.{Inputs, AtBoth, letters, no_growth, plain_with, plain, exponents, growth_at_both, as_answers, paces_of, pair_growing, worked, exact_inputs, exact_growing, exactly, by_owner}
 use Rattle.equations.proofs.Profile.{profiles}
 use Rattle.equations.proofs.FormulaLaws.{profile, reads_good}
-use Rattle.equations.proofs.Pathways.{pathways, passes, on_each, by_either, on_line, on_guided}
+use Rattle.equations.proofs.Pathways.{pathways, passes, on_each, by_either, on_guided}
 use Rattle.equations.proofs.Plain.{x_plain, x'_plain}
 use Rattle.equations.proofs.FastLaws.{of_exponent}
 use Rattle.equations.proofs.GrowthLaws.{of_g, of_h, grown}
@@ -114,7 +116,7 @@ narrow f = f.answered && leb f.width 11600
 
 -- The profiles of the lines, and with them of all that stands in a line.
 line_computed : (y : Guidance) (e : Effect) (stay : Stay) (p : Pathway) → narrow (of_formula stay (page.line y e stay p)) ≡ true
-unfolding passes pathways on_each by_either narrow of_formula of_grown of_later_growth profile read profiles letters page.line page.by_guidance page.air_line page.air_figure_by page.time_share page.time_in_air page.intake_line page.figure_by page.intake page.by_way page.bathed page.flux page.factor page.medium page.by_medium page.soil page.mean page.gathered page.exposure page.B page.AT page.reference page.reference_slot page.by_route page.A page.C page.D page.above_ground page.below_ground x x' page.k page.u page.kse page.ksr page.ksl of_number joined joint spread positives usable of_slots of_slot of_rest of_later by_owner table same is_in place_in entry_rule owner_of place_of rule_of never_zero at_most_one
+unfolding passes pathways on_each by_either narrow of_formula of_grown of_later_growth profile read profiles letters page.line page.by_guidance page.air_line page.air_figure_by page.time_share page.time_in_air page.intake_line page.figure_by page.intake page.factor page.medium page.by_medium page.soil page.mean page.gathered page.exposure page.B page.AT page.reference page.reference_slot page.by_route page.A page.C page.D page.above_ground page.below_ground x x' page.k page.u page.kse page.ksr page.ksl of_number joined joint spread positives usable of_slots of_slot of_rest of_later by_owner table same is_in place_in entry_rule owner_of place_of rule_of never_zero at_most_one
 line_computed = on_guided (λ y e stay p. narrow (of_formula stay (page.line y e stay p))) refl
 
 checked : (f : Profile) → narrow f ≡ true → (f.answered ≡ true) × (f.width ≤ 11600)
@@ -126,9 +128,14 @@ checked f h =
 line_checked : (y : Guidance) (e : Effect) (stay : Stay) (p : Pathway) → ((of_formula stay (page.line y e stay p)).answered ≡ true) × ((of_formula stay (page.line y e stay p)).width ≤ 11600)
 line_checked y e stay p = checked (of_formula stay (page.line y e stay p)) (line_computed y e stay p)
 
+intake_checked : (e : Effect) (stay : Stay) (p : Pathway) → (of_formula stay (page.intake e stay p)).answered ≡ true
+unfolding page.line page.by_guidance page.intake_line page.figure_by of_formula profile read profiles
+intake_checked Hazard stay p = (parts quotients (of_formula stay (page.intake Hazard stay p)) (of_formula stay (page.reference Hazard p)) (checked _ (line_computed Of2005 Hazard stay p)).0).first
+intake_checked Cancer stay p = (parts products (of_formula stay (page.intake Cancer stay p)) (of_formula stay (page.reference Cancer p)) (checked _ (line_computed Of2005 Cancer stay p)).0).first
+
 medium_checked : (e : Effect) (stay : Stay) (p : Pathway) → (of_formula stay (page.medium e stay p)).answered ≡ true
-unfolding passes pathways on_each of_formula of_grown of_later_growth profile read profiles letters page.medium page.by_medium page.soil page.mean page.gathered page.A page.C page.D page.above_ground page.below_ground x x' page.k page.u page.kse page.ksr page.ksl of_number joined joint spread positives usable of_slots of_slot of_rest of_later by_owner table same is_in place_in entry_rule owner_of place_of rule_of never_zero at_most_one
-medium_checked = on_line (λ e stay p. (of_formula stay (page.medium e stay p)).answered) refl
+unfolding page.intake of_formula profile read profiles
+medium_checked e stay p = (parts products (of_formula stay (page.factor e p)) (of_formula stay (page.medium e stay p)) (intake_checked e stay p)).second
 
 -- The pair reading of f is r, which fits f's profile and holds the exact reading for every N from 256 up.
 pub record Works (stay : Stay) (env : Inputs Pair) (vals : Slot → Fraction) (f : Formula) (r : Pair) : Type 0 where

@@ -8,7 +8,7 @@ use lib.Dec.{lit<}
 use lib.ListN.{length, get_or}
 use Rattle.lists.proofs.Booleans.{both}
 use Rattle.equations.specs.declared.Pathway.{Pathway}
-use Rattle.equations.specs.declared.Pathway.TheVariants.{Air, SoilSummer, SoilWinter, Skin, AboveGround, BelowGround, Drinking, Bathing}
+use Rattle.equations.specs.declared.Pathway.TheVariants.{Air, SoilSummer, SoilWinter, Skin, AboveGround, BelowGround}
 use Rattle.equations.specs.declared.Effect.{Effect}
 use Rattle.equations.specs.declared.Effect.TheVariants.{Hazard, Cancer}
 use Rattle.equations.specs.declared.Stay.{Stay}
@@ -17,7 +17,7 @@ use Rattle.slots.specs.declared.Guidance.{Guidance}
 use Rattle.slots.specs.declared.Guidance.TheVariants.{Of2005, Of2009}
 
 unfoldable pub pathways : List Pathway
-pathways = Air ∷ SoilSummer ∷ SoilWinter ∷ Skin ∷ AboveGround ∷ BelowGround ∷ Drinking ∷ Bathing ∷ []
+pathways = Air ∷ SoilSummer ∷ SoilWinter ∷ Skin ∷ AboveGround ∷ BelowGround ∷ []
 
 unfoldable pub passes : (Pathway → Bool) → List Pathway → Bool
 passes t [] = true
@@ -37,8 +37,6 @@ on_pathway t h SoilWinter = passed t pathways h 2 (lit< tt)
 on_pathway t h Skin = passed t pathways h 3 (lit< tt)
 on_pathway t h AboveGround = passed t pathways h 4 (lit< tt)
 on_pathway t h BelowGround = passed t pathways h 5 (lit< tt)
-on_pathway t h Drinking = passed t pathways h 6 (lit< tt)
-on_pathway t h Bathing = passed t pathways h 7 (lit< tt)
 
 -- each effect, within the deposition and beyond it
 unfoldable pub on_each : (Effect → Stay → Pathway → Bool) → Pathway → Bool

@@ -183,7 +183,7 @@ unfolding steady only marked letters emission same x x' page.k page.u page.kse p
 x_steady = (refl, refl)
 
 line_rising : (y : Guidance) (e : Effect) (stay : Stay) (p : Pathway) → rising (marked emission) (page.line y e stay p) ≡ true
-unfolding passes pathways on_each by_either rising rising_letter steady only marked letters emission same page.line page.by_guidance page.air_line page.air_figure_by page.time_share page.time_in_air page.intake_line page.figure_by page.intake page.by_way page.bathed page.flux page.factor page.medium page.by_medium page.soil page.mean page.gathered page.exposure page.B page.AT page.reference page.reference_slot page.by_route page.A page.C page.D page.above_ground page.below_ground x x' page.k page.u page.kse page.ksr page.ksl
+unfolding passes pathways on_each by_either rising rising_letter steady only marked letters emission same page.line page.by_guidance page.air_line page.air_figure_by page.time_share page.time_in_air page.intake_line page.figure_by page.intake page.factor page.medium page.by_medium page.soil page.mean page.gathered page.exposure page.B page.AT page.reference page.reference_slot page.by_route page.A page.C page.D page.above_ground page.below_ground x x' page.k page.u page.kse page.ksr page.ksl
 line_rising = on_guided (λ y e stay p. rising (marked emission) (page.line y e stay p)) refl
 
 -- Each end of every line rises with the printed Q, where all else is alike.
@@ -209,5 +209,5 @@ unfolding steady only marked letters the_year same x x' page.k page.u page.kse p
 year_free = (refl, refl)
 
 pub year_steady : (y : Guidance) (e : Effect) (stay : Stay) (p : Pathway) → steady (marked the_year) (page.line y e stay p) ≡ true
-unfolding passes pathways on_each by_either steady only marked letters the_year same page.line page.by_guidance page.air_line page.air_figure_by page.time_share page.time_in_air page.intake_line page.figure_by page.intake page.by_way page.bathed page.flux page.factor page.medium page.by_medium page.soil page.mean page.gathered page.exposure page.B page.AT page.reference page.reference_slot page.by_route page.A page.C page.D page.above_ground page.below_ground x x' page.k page.u page.kse page.ksr page.ksl
+unfolding passes pathways on_each by_either steady only marked letters the_year same page.line page.by_guidance page.air_line page.air_figure_by page.time_share page.time_in_air page.intake_line page.figure_by page.intake page.factor page.medium page.by_medium page.soil page.mean page.gathered page.exposure page.B page.AT page.reference page.reference_slot page.by_route page.A page.C page.D page.above_ground page.below_ground x x' page.k page.u page.kse page.ksr page.ksl
 year_steady = on_guided (λ y e stay p. steady (marked the_year) (page.line y e stay p)) refl

@@ -90,12 +90,6 @@ AForal = letter (slot "AForal")
 abbrev pub AFderm : Formula
 AFderm = letter (slot "AFderm")
 
-abbrev pub Cw : Formula
-Cw = letter (slot "Cw")
-
-abbrev pub Kp : Formula
-Kp = letter (slot "Kp")
-
 -- Receptor
 abbrev pub BW : Formula
 BW = letter (slot "BW")
@@ -162,27 +156,6 @@ EFp = letter (slot "EFp")
 
 abbrev pub T2 : Formula
 T2 = letter (slot "T2")
-
-abbrev pub IRw : Formula
-IRw = letter (slot "IRw")
-
-abbrev pub Fw : Formula
-Fw = letter (slot "Fw")
-
-abbrev pub EFd : Formula
-EFd = letter (slot "EFd")
-
-abbrev pub SAw : Formula
-SAw = letter (slot "SAw")
-
-abbrev pub events : Formula
-events = letter (slot "events")
-
-abbrev pub EFb : Formula
-EFb = letter (slot "EFb")
-
-abbrev pub hours : Formula
-hours = letter (slot "hours")
 
 -- at x
 abbrev pub g : Formula

@@ -1,9 +1,8 @@
--- Document 01, "Loss and series", "Media" and "Six pathways", with document 02's P4 to P6 and P12: every formula, once, in its order and with its
--- letters.
+-- Document 01, "Loss and series", "Media" and "Six pathways", with document 02's P4 to P6: every formula, once, in its order and with its letters.
 -- ⊗ and ⊘ bind alike and from the left, then ⊕ from the left.
 use Rattle.std.specs.Prelude.{pos, negsuc}
 use Rattle.equations.specs.declared.Pathway.{Pathway}
-use Rattle.equations.specs.declared.Pathway.TheVariants.{Air, SoilSummer, SoilWinter, Skin, AboveGround, BelowGround, Drinking, Bathing}
+use Rattle.equations.specs.declared.Pathway.TheVariants.{Air, SoilSummer, SoilWinter, Skin, AboveGround, BelowGround}
 use Rattle.equations.specs.declared.Effect.{Effect}
 use Rattle.equations.specs.declared.Effect.TheVariants.{Hazard, Cancer}
 use Rattle.equations.specs.declared.Stay.{Stay}
@@ -13,7 +12,7 @@ use Rattle.slots.specs.declared.Guidance.TheVariants.{Of2005, Of2009}
 use Rattle.slots.specs.Slots.{Slot}
 use Rattle.equations.specs.Formula.{Formula, Algebra, letter, slot, constant, 1−, T2−tD, ◌⊕◌, ◌⊗◌, ◌⊘◌}
 use Rattle.equations.specs.Series.{Series, phi, psi}
-use Rattle.equations.specs.Letters.{Zs, BD, tD, θ, Xe, SD, ER, RO, R, VG, FRsnow, Q, HgA, HgD, Fv, Cyv, Cyp, Dydv, Dywv, Dydp, Dywp, Kds, ksg, ksv, Br, RCF, AFinh, AForal, AFderm, Cw, Kp, BW, ED, ATc, IRinh, ETinh, EFinh, IRsoil, ETsoil, EFs, EFw, SAb, SAFb, SAh, SAFh, ETderm, IRag, Fag, IRbg, Fbg, WP, EFp, T2, IRw, Fw, EFd, SAw, events, EFb, hours, g, h, g'}
+use Rattle.equations.specs.Letters.{Zs, BD, tD, θ, Xe, SD, ER, RO, R, VG, FRsnow, Q, HgA, HgD, Fv, Cyv, Cyp, Dydv, Dywv, Dydp, Dywp, Kds, ksg, ksv, Br, RCF, AFinh, AForal, AFderm, BW, ED, ATc, IRinh, ETinh, EFinh, IRsoil, ETsoil, EFs, EFw, SAb, SAFb, SAh, SAFh, ETderm, IRag, Fag, IRbg, Fbg, WP, EFp, T2, g, h, g'}
 
 -- Constants: 1, 0.1, 100, 1000, 365 and 0.000001
 abbrev pub unity : Formula
@@ -129,21 +128,13 @@ above_ground soil = soil ⊗ Br
 unfoldable pub below_ground : Formula → Formula
 below_ground soil = soil ⊗ RCF ⊗ VG ⊘ Kds
 
--- What goes through the skin from the water, mg/cm² in an hour (P12): Cw is in mg/L, and a litre has 1000 cm³
-unfoldable pub flux : Formula
-flux = Kp ⊗ Cw ⊘ thousand
-
--- Eight pathways: the intake factor, its medium, and the reference value
+-- Six pathways: the intake factor, its medium, and the reference value
 unfoldable pub AT : Effect → Formula
 AT Hazard = days_per_year ⊗ ED
 AT Cancer = ATc
 
 unfoldable pub B : Effect → Formula
 B e = BW ⊗ AT e
-
--- what a bather's skin takes up over the exposure, mg, from a given flux
-abbrev pub taken_up : Formula → Formula
-taken_up flux = flux ⊗ hours ⊗ SAw ⊗ events ⊗ EFb ⊗ ED
 
 -- what stands above B
 unfoldable pub exposure : Pathway → Formula
@@ -153,47 +144,29 @@ exposure SoilWinter = IRsoil ⊗ AForal ⊗ FRsnow ⊗ ETsoil ⊗ EFw ⊗ ED ⊗
 exposure Skin = (SAb ⊗ SAFb ⊕ SAh ⊗ SAFh) ⊗ AFderm ⊗ ETderm ⊗ EFs ⊗ ED ⊗ per_million
 exposure AboveGround = IRag ⊗ Fag ⊗ WP ⊗ AForal ⊗ EFp ⊗ ED
 exposure BelowGround = IRbg ⊗ Fbg ⊗ WP ⊗ AForal ⊗ EFp ⊗ ED
-exposure Drinking = IRw ⊗ Fw ⊗ AForal ⊗ EFd ⊗ ED
-exposure Bathing = taken_up flux
 
--- the intake factor of 1 to 7
 unfoldable pub factor : Effect → Pathway → Formula
 factor e p = exposure p ⊘ B e
 
--- A for 1, the soil for 2 to 4, the produce for 5 and 6, the water for 7 and 8
-unfoldable pub by_medium : {A : Type 0} → Pathway → A → A → A → A → A → A
-by_medium Air air soil above below water = air
-by_medium SoilSummer air soil above below water = soil
-by_medium SoilWinter air soil above below water = soil
-by_medium Skin air soil above below water = soil
-by_medium AboveGround air soil above below water = above
-by_medium BelowGround air soil above below water = below
-by_medium Drinking air soil above below water = water
-by_medium Bathing air soil above below water = water
+-- A for 1, the soil for 2 to 4, the produce for 5 and 6
+unfoldable pub by_medium : {A : Type 0} → Pathway → A → A → A → A → A
+by_medium Air air soil above below = air
+by_medium SoilSummer air soil above below = soil
+by_medium SoilWinter air soil above below = soil
+by_medium Skin air soil above below = soil
+by_medium AboveGround air soil above below = above
+by_medium BelowGround air soil above below = below
 
 unfoldable pub medium : Effect → Stay → Pathway → Formula
-medium e stay p = by_medium p A (soil e stay) (above_ground (soil e stay)) (below_ground (soil e stay)) Cw
+medium e stay p = by_medium p A (soil e stay) (above_ground (soil e stay)) (below_ground (soil e stay))
 
--- Intake factor × medium. Pathway 8 has no factor: its medium stands within what is above B, and that by B is the intake.
-unfoldable pub by_way : {A : Type 0} → Pathway → A → A → A
-by_way Air factored bathed = factored
-by_way SoilSummer factored bathed = factored
-by_way SoilWinter factored bathed = factored
-by_way Skin factored bathed = factored
-by_way AboveGround factored bathed = factored
-by_way BelowGround factored bathed = factored
-by_way Drinking factored bathed = factored
-by_way Bathing factored bathed = bathed
-
-unfoldable pub bathed : Effect → Formula
-bathed e = exposure Bathing ⊘ B e
-
+-- intake factor × medium
 unfoldable pub intake : Effect → Stay → Pathway → Formula
-intake e stay p = by_way p (factor e p ⊗ medium e stay p) (bathed e)
+intake e stay p = factor e p ⊗ medium e stay p
 
 -- Pathway 1, whose medium is the air, takes RfDi and CSFi, the rest RfDo and CSFo.
 unfoldable pub by_route : {A : Type 0} → Pathway → A → A → A
-by_route p inhaled oral = by_medium p inhaled oral oral oral oral
+by_route p inhaled oral = by_medium p inhaled oral oral oral
 
 unfoldable pub reference_slot : Effect → Pathway → Slot
 reference_slot Hazard p = by_route p "RfDi" "RfDo"

@@ -7,7 +7,7 @@ ghost use Rattle.equations.specs.Readings.{value_in};
 use pair::{Answer, Pair};
 use sizes::SLOTS;
 
-// The eight pathways, in the order of document 01 and of document 02's P12.
+// The six pathways, in document 01's order.
 #[derive(Drop)]
 pub enum Pathway {
     Air,
@@ -16,8 +16,6 @@ pub enum Pathway {
     Skin,
     AboveGround,
     BelowGround,
-    Drinking,
-    Bathing,
 }
 
 // What a line tells: the hazard quotient, or the cancer risk.

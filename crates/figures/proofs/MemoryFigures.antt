@@ -58,11 +58,11 @@ unfolding given record_with site chemical receptor case_of_three with under scen
 too_deep = refl
 
 weightless : unworked Hazard (ordinary_of (case_of_three site chemical (with receptor "BW" (Given (pos 0) 0)))) 0 0 Air ≡ true
-unfolding within leading lines_of line_of field_in field_of digits_value id_spelled id_in sign_spelled exponent_spelled power_of digits_read ended_of pointed_of spelled_of lone_dash word_of kind_of id_of tabulate value_of slot_spelled record_of records_of case_with case_of table same is_in place_in owner_of place_of value_at chemical_at receptor_at or_no_pair pair_of rest_of values_of chemical_in receptor_in given_in scenario_with or_no_time time_given deposition_of stay_if later_if receptor_with entered entered_from calls.long_entry years.time years.amount years.is_years years.words_of years.time_of years.none years.least years.places years.printed_amount years.printed years.together years.at_most years.as_pair years.beyond ordinary scenario_of value_in by_owner inputs pairs_at as_answers nine_figures in_reach zero_exponent is_zero is_number zero one lesser rise units_at lower at_most is_pair extra divided excess_from excess carried rounded calls.written sum_end product_end quotient_end rest_end provided calls.ends after after_one zero_pair one_pair entry sum product quotient one_minus_entry pairs read letters no_growth plain_with plain exponents growth_at_both stay_in compared pace_if pace_of paces_of pair_growing sixty_four worked series.first series.step terms from_zero pair_series u kse ksr ksl k x page.x' page.g_with growth page.gathered page.mean page.soil A D C above_ground below_ground AT B exposure factor by_medium medium page.by_way page.bathed page.flux intake by_route reference_slot reference figure_by intake_line by_guidance line guidance_of guidance_in pathway_at is_given has_reference figure_at chained units_end in_units unit_of counted counted_in columns_at air_line time_share time_in_air air_figure_by year_of above below is_year_of is_year numbered kind_in is_line begun_with seen_with seen_in told of_value otherwise values_if lacks is_missing any_of rule_at rule_in unworked is_refused case_of_three given record_with site chemical receptor with ordinary_of no_pairs no_pair
+unfolding within leading lines_of line_of field_in field_of digits_value id_spelled id_in sign_spelled exponent_spelled power_of digits_read ended_of pointed_of spelled_of lone_dash word_of kind_of id_of tabulate value_of slot_spelled record_of records_of case_with case_of table same is_in place_in owner_of place_of value_at chemical_at receptor_at or_no_pair pair_of rest_of values_of chemical_in receptor_in given_in scenario_with or_no_time time_given deposition_of stay_if later_if receptor_with entered entered_from calls.long_entry years.time years.amount years.is_years years.words_of years.time_of years.none years.least years.places years.printed_amount years.printed years.together years.at_most years.as_pair years.beyond ordinary scenario_of value_in by_owner inputs pairs_at as_answers nine_figures in_reach zero_exponent is_zero is_number zero one lesser rise units_at lower at_most is_pair extra divided excess_from excess carried rounded calls.written sum_end product_end quotient_end rest_end provided calls.ends after after_one zero_pair one_pair entry sum product quotient one_minus_entry pairs read letters no_growth plain_with plain exponents growth_at_both stay_in compared pace_if pace_of paces_of pair_growing sixty_four worked series.first series.step terms from_zero pair_series u kse ksr ksl k x page.x' page.g_with growth page.gathered page.mean page.soil A D C above_ground below_ground AT B exposure factor by_medium medium intake by_route reference_slot reference figure_by intake_line by_guidance line guidance_of guidance_in pathway_at is_given has_reference figure_at chained units_end in_units unit_of counted counted_in columns_at air_line time_share time_in_air air_figure_by year_of above below is_year_of is_year numbered kind_in is_line begun_with seen_with seen_in told of_value otherwise values_if lacks is_missing any_of rule_at rule_in unworked is_refused case_of_three given record_with site chemical receptor with ordinary_of no_pairs no_pair
 weightless = refl
 
 unweighed : unworked Hazard (ordinary_of (case_of_three site chemical (with receptor "BW" Absent))) 0 0 Air ≡ true
-unfolding within leading lines_of line_of field_in field_of digits_value id_spelled id_in sign_spelled exponent_spelled power_of digits_read ended_of pointed_of spelled_of lone_dash word_of kind_of id_of tabulate value_of slot_spelled record_of records_of case_with case_of table same is_in place_in owner_of place_of value_at chemical_at receptor_at or_no_pair pair_of rest_of values_of chemical_in receptor_in given_in scenario_with or_no_time time_given deposition_of stay_if later_if receptor_with entered entered_from calls.long_entry years.time years.amount years.is_years years.words_of years.time_of years.none years.least years.places years.printed_amount years.printed years.together years.at_most years.as_pair years.beyond ordinary scenario_of value_in by_owner inputs pairs_at as_answers nine_figures in_reach zero_exponent is_zero is_number zero one lesser rise units_at lower at_most is_pair extra divided excess_from excess carried rounded calls.written sum_end product_end quotient_end rest_end provided calls.ends after after_one zero_pair one_pair entry sum product quotient one_minus_entry pairs read letters no_growth plain_with plain exponents growth_at_both stay_in compared pace_if pace_of paces_of pair_growing sixty_four worked series.first series.step terms from_zero pair_series u kse ksr ksl k x page.x' page.g_with growth page.gathered page.mean page.soil A D C above_ground below_ground AT B exposure factor by_medium medium page.by_way page.bathed page.flux intake by_route reference_slot reference figure_by intake_line by_guidance line guidance_of guidance_in pathway_at is_given has_reference figure_at chained units_end in_units unit_of counted counted_in columns_at air_line time_share time_in_air air_figure_by year_of above below is_year_of is_year numbered kind_in is_line begun_with seen_with seen_in told of_value otherwise values_if lacks is_missing any_of rule_at rule_in unworked is_refused case_of_three given record_with site chemical receptor with ordinary_of no_pairs no_pair
+unfolding within leading lines_of line_of field_in field_of digits_value id_spelled id_in sign_spelled exponent_spelled power_of digits_read ended_of pointed_of spelled_of lone_dash word_of kind_of id_of tabulate value_of slot_spelled record_of records_of case_with case_of table same is_in place_in owner_of place_of value_at chemical_at receptor_at or_no_pair pair_of rest_of values_of chemical_in receptor_in given_in scenario_with or_no_time time_given deposition_of stay_if later_if receptor_with entered entered_from calls.long_entry years.time years.amount years.is_years years.words_of years.time_of years.none years.least years.places years.printed_amount years.printed years.together years.at_most years.as_pair years.beyond ordinary scenario_of value_in by_owner inputs pairs_at as_answers nine_figures in_reach zero_exponent is_zero is_number zero one lesser rise units_at lower at_most is_pair extra divided excess_from excess carried rounded calls.written sum_end product_end quotient_end rest_end provided calls.ends after after_one zero_pair one_pair entry sum product quotient one_minus_entry pairs read letters no_growth plain_with plain exponents growth_at_both stay_in compared pace_if pace_of paces_of pair_growing sixty_four worked series.first series.step terms from_zero pair_series u kse ksr ksl k x page.x' page.g_with growth page.gathered page.mean page.soil A D C above_ground below_ground AT B exposure factor by_medium medium intake by_route reference_slot reference figure_by intake_line by_guidance line guidance_of guidance_in pathway_at is_given has_reference figure_at chained units_end in_units unit_of counted counted_in columns_at air_line time_share time_in_air air_figure_by year_of above below is_year_of is_year numbered kind_in is_line begun_with seen_with seen_in told of_value otherwise values_if lacks is_missing any_of rule_at rule_in unworked is_refused case_of_three given record_with site chemical receptor with ordinary_of no_pairs no_pair
 unweighed = refl
 
 five : entry 5 (pos 0) ≡ is (pair_of (Given (negsuc 11) 5000000000000))

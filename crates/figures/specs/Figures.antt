@@ -15,11 +15,11 @@ use Rattle.equations.specs.declared.Values.{Values}
 use Rattle.equations.specs.Formula.{pairs}
 use Rattle.equations.specs.Series.{phi, psi, pair_series}
 use Rattle.equations.specs.Letters.{g, h}
-use Rattle.equations.specs.Page.{kse, ksr, ksl, x, A, D, C, soil, flux, AT}
+use Rattle.equations.specs.Page.{kse, ksr, ksl, x, A, D, C, soil, AT}
 use Rattle.equations.specs.Readings.{worked, inputs}
 use Rattle.media.specs.Media.{of_slots, of_media, growth_at}
 use Rattle.pathway.specs.Lines.{worked_for, factor_of}
-use Rattle.cases.specs.declared.Status.TheVariants.{Passed, Stopped}
+use Rattle.cases.specs.declared.Status.TheVariants.{Passed}
 use Rattle.cases.specs.Conditions.{first}
 use Rattle.totals.specs.declared.Columns.{Columns}
 use Rattle.totals.specs.declared.Columns.TheVariants.{Absent, Counted}
@@ -41,40 +41,28 @@ unfoldable pub lines : List String → List ℕ
 lines [] = []
 lines (l ∷ ls) = bytes l ++ (10 ∷ lines ls)
 
--- the deck: kind, id and six fields; its site's second line, its chemical's second and fourth, what follows the fourth, its receptor's fourth, and what
--- follows that are given
-unfoldable pub deck_from : String → String → String → List String → String → List String → List ℕ
-deck_from s2 c2 c4 after-c4 r4 after-r4 =
+-- the deck: kind, id and six fields; its site's second line, its chemical's second and fourth and its receptor's fourth are given
+unfoldable pub deck_of : String → String → String → String → List ℕ
+deck_of s2 c2 c4 r4 =
     lines
-    (("S1     1          10           2          30         0.2           0           0"
+    ("S1     1          10           2          30         0.2           0           0"
     ∷ s2
     ∷ "C1     1           1           1           1           0           0           1"
     ∷ c2
     ∷ "C3     1           0         0.1          10           1           1         0.1"
-    ∷ c4 ∷ after-c4)
-    ++ (("R1     1          20           5       27375          10           1         365"
+    ∷ c4
+    ∷ "R1     1          20           5       27375          10           1         365"
     ∷ "R2     1          80           1          73         146        1000        0.02"
     ∷ "R3     1         400         0.1           1         0.1         0.5         0.2"
-    ∷ r4 ∷ after-r4)
-    ++ ("EN                                                                              " ∷ [])))
-
--- with 1 in each slot of the lines that document 02's P12 adds
-abbrev pub fifth_lines : List String × List String
-fifth_lines =
-    ("C5     1           1           1                                                " ∷ [], "R5     1           1           1           1           1           1           1" ∷ [])
-
-unfoldable pub deck_of : String → String → String → String → List ℕ
-deck_of s2 c2 c4 r4 = deck_from s2 c2 c4 fifth_lines.0 r4 fifth_lines.1
+    ∷ r4
+    ∷ "EN                                                                              "
+    ∷ [])
 
 -- with no year and no CSFi
-abbrev pub no_year : String
-no_year = "S2     1           0           0           0        0.01         0.5            "
-
-abbrev pub no_inhaled_slope : String
-no_inhaled_slope = "C4     1       0.001       0.001           1           -                        "
-
 unfoldable pub deck_with : String → String → List ℕ
-deck_with c2 r4 = deck_of no_year c2 no_inhaled_slope r4
+deck_with c2 r4 =
+    deck_of "S2     1           0           0           0        0.01         0.5            " c2
+    "C4     1       0.001       0.001           1           -                        " r4
 
 -- ksg is 0, or as large as a field holds
 abbrev pub kept_line : String
@@ -83,36 +71,29 @@ kept_line = "C2     1           0           0       0.001           0         10
 abbrev pub lost_line : String
 lost_line = "C2     1           0           0       0.001           0         100       1E+09"
 
--- with 1 in the slots of this line that document 02's P4 and P12 add, T2 and IRw
+-- with 1 in the slot that document 02's P4 adds, T2
 unfoldable pub deck : List ℕ
-deck = deck_with kept_line "R4     1         0.5           1         365           1                       1"
-
--- from before P12, of four-line records; and with five lines of the chemical alone
-unfoldable pub old_deck : List ℕ
-old_deck = deck_from no_year kept_line no_inhaled_slope [] "R4     1         0.5           1         365           1                        " []
-
-unfoldable pub mixed_deck : List ℕ
-mixed_deck = deck_from no_year kept_line no_inhaled_slope fifth_lines.0 "R4     1         0.5           1         365           1                        " []
+deck = deck_with kept_line "R4     1         0.5           1         365           1                        "
 
 -- with T2 equal to tD, and with T2 twice as long
 unfoldable pub equal_deck : List ℕ
-equal_deck = deck_with kept_line "R4     1         0.5           1         365          30                       1"
+equal_deck = deck_with kept_line "R4     1         0.5           1         365          30                        "
 
 unfoldable pub long_deck : List ℕ
-long_deck = deck_with kept_line "R4     1         0.5           1         365          60                       1"
+long_deck = deck_with kept_line "R4     1         0.5           1         365          60                        "
 
 -- the same as the last of a solvent
 unfoldable pub solvent_deck : List ℕ
-solvent_deck = deck_with lost_line "R4     1         0.5           1         365          60                       1"
+solvent_deck = deck_with lost_line "R4     1         0.5           1         365          60                        "
 
 -- the first deck by the guidance of 2009, with a CSFi of 0.5
 unfoldable pub air_deck : List ℕ
 air_deck =
     deck_of "S2     1           0           0           0        0.01         0.5        2009" kept_line
-    "C4     1       0.001       0.001           1         0.5                        " "R4     1         0.5           1         365           1                       1"
+    "C4     1       0.001       0.001           1         0.5                        " "R4     1         0.5           1         365           1                        "
 
--- by 2005, with every loss, both shares of the air and of what it lays down, all four reference values, a bather and T2 beyond tD in play; x is 87.8 and
--- k × (T2 − tD) 70.2, so that no series is worked. No two slots of water can be exchanged without another line: hours, SAw and events by their roundings
+-- by 2005, with every loss, both shares of the air and of what it lays down, all four reference values and T2 beyond tD in play; x is 87.8 and
+-- k × (T2 − tD) 70.2, so that no series is worked
 unfoldable pub full_deck : List ℕ
 full_deck =
     lines
@@ -122,12 +103,10 @@ full_deck =
     ∷ "C2     1        0.02        0.03        0.05        0.07         0.4           1"
     ∷ "C3     1           2         0.2           5         0.9         0.7         0.1"
     ∷ "C4     1       0.002       0.003         0.4         0.6                        "
-    ∷ "C5     1  0.00312345  0.02345671                                                "
     ∷ "R1     1          15           6       25550           8         0.9         350"
     ∷ "R2     1         100         0.8         180         120        2000        0.01"
     ∷ "R3     1         300         0.2         0.7         0.1         0.5         0.2"
-    ∷ "R4     1         0.4         0.9         360          18               1.3234567"
-    ∷ "R5     1   0.8123457   341.23457   5947.2633   3.6172233   51.234567   0.4996206"
+    ∷ "R4     1         0.4         0.9         360          18                        "
     ∷ "EN                                                                              "
     ∷ [])
 
@@ -137,7 +116,7 @@ cancer_soil deck' = worked (pairs_at (scenario_of ordinary deck') 0 0) (soil Can
 
 -- with 1 in the slot that document 02's P2 adds: a composite's deck of one stage, its years 1
 unfoldable pub composite_deck : List ℕ
-composite_deck = deck_with kept_line "R4     1         0.5           1         365                       1           1"
+composite_deck = deck_with kept_line "R4     1         0.5           1         365                       1            "
 
 -- what `tally` prints of it, and these lines as values
 unfoldable pub printed_lines : List String
@@ -148,9 +127,7 @@ printed_lines =
     ∷ "     1     1 4             9000000             9000000              300000              300000"
     ∷ "     1     1 5         37500000000         37500000000          1249999990          1250000010"
     ∷ "     1     1 6           750000000           750000000            24999999            25000001"
-    ∷ "     1     1 7        136986301000        136986302000          9132420090          9132420100"
-    ∷ "     1     1 8           136986301           136986302             9132420             9132421"
-    ∷ "     1     0 0        675622287301        675622288302         10424852497         10424852534"
+    ∷ "     1     0 0        538499000000        538499000000          1283299987          1283300013"
     ∷ []
 
 unfoldable pub printed_text : List ℕ
@@ -168,9 +145,7 @@ rows =
     ∷ row 1 1 4 (Counted 9000000 9000000) (Counted 300000 300000)
     ∷ row 1 1 5 (Counted 37500000000 37500000000) (Counted 1249999990 1250000010)
     ∷ row 1 1 6 (Counted 750000000 750000000) (Counted 24999999 25000001)
-    ∷ row 1 1 7 (Counted 136986301000 136986302000) (Counted 9132420090 9132420100)
-    ∷ row 1 1 8 (Counted 136986301 136986302) (Counted 9132420 9132421)
-    ∷ row 1 0 0 (Counted 675622287301 675622288302) (Counted 10424852497 10424852534)
+    ∷ row 1 0 0 (Counted 538499000000 538499000000) (Counted 1283299987 1283300013)
     ∷ []
 
 -- what `tally_composite` prints of the composite's deck, in which ED and T2 are 1 and ATc 365
@@ -183,9 +158,7 @@ composite_text =
     ∷ "     1     1 4             9000000             9000000             4500000             4500000"
     ∷ "     1     1 5         37500000000         37500000000         18750000000         18750000000"
     ∷ "     1     1 6           750000000           750000000           375000000           375000000"
-    ∷ "     1     1 7        136986301000        136986302000        136986301000        136986302000"
-    ∷ "     1     1 8           136986301           136986302           136986301           136986302"
-    ∷ "     1     0 0        675622287301        675622288302        156372787301        156372788302"
+    ∷ "     1     0 0        538499000000        538499000000         19249500000         19249500000"
     ∷ [])
 
 unfoldable pub composite_rows : List Row
@@ -196,9 +169,7 @@ composite_rows =
     ∷ row 1 1 4 (Counted 9000000 9000000) (Counted 4500000 4500000)
     ∷ row 1 1 5 (Counted 37500000000 37500000000) (Counted 18750000000 18750000000)
     ∷ row 1 1 6 (Counted 750000000 750000000) (Counted 375000000 375000000)
-    ∷ row 1 1 7 (Counted 136986301000 136986302000) (Counted 136986301000 136986302000)
-    ∷ row 1 1 8 (Counted 136986301 136986302) (Counted 136986301 136986302)
-    ∷ row 1 0 0 (Counted 675622287301 675622288302) (Counted 156372787301 156372788302)
+    ∷ row 1 0 0 (Counted 538499000000 538499000000) (Counted 19249500000 19249500000)
     ∷ []
 
 -- the lines of the deck with everything in play
@@ -210,9 +181,7 @@ full_rows =
     ∷ row 1 1 4 (Counted 2768635 2768636) (Counted 105471 105472)
     ∷ row 1 1 5 (Counted 6229429400 6229429600) (Counted 237311596 237311605)
     ∷ row 1 1 6 (Counted 311471471000 311471479000) (Counted 11865579800 11865580400)
-    ∷ row 1 1 7 (Counted 73252443500 73252445500) (Counted 5023024680 5023024840)
-    ∷ row 1 1 8 (Counted 3684541270 3684541340) (Counted 252654258 252654264)
-    ∷ row 1 0 0 (Counted 403654757129 403654767472) (Counted 18764919530 18764920328)
+    ∷ row 1 0 0 (Counted 326717772359 326717780632) (Counted 13489240592 13489241224)
     ∷ []
 
 -- 002's five life stages, infant to adult: their years, and their body weights in every other slot
@@ -243,7 +212,7 @@ pub record Winter (env : Slot → Pair) : Type 0 where
   pub BW : is (env "BW") ≡ entry 633 (negsuc 0)
   pub ATc : is (env "ATc") ≡ whole 27375
 
--- document 01's cases, and the figures of document 02's P1, P2, P4, P5, P6 and P12
+-- document 01's cases, and the figures of document 02's P1, P2, P4, P5 and P6
 unfoldable pub cases : List (Type 0)
 cases =
     -- 2 / 3
@@ -268,12 +237,9 @@ cases =
     -- 999999999.5, and 1 − 0.99999999999, as printed numbers of more than nine digits are taken
     ∷ (entry 9999999995 (negsuc 0) ≡ is (record { low = record { significand = 999999999; exponent = pos 0 }; high = record { significand = 100000000; exponent = pos 1 } }))
     ∷ (one_minus_entry 99999999999 (negsuc 10) ≡ both_ends 100000000 100000000 (negsuc 18))
-    -- a deck from before P12 stops at the place of C5, and with C5 but no R5 at IRw
-    ∷ (first (all_conditions ordinary old_deck 855) ≡ Stopped 21 7 0)
-    ∷ (first (all_conditions ordinary mixed_deck 855) ≡ Stopped 32 11 6)
-    -- the deck: no condition holds, with a buffer of 855 bytes; its answer, its report's lines, and their bytes
-    ∷ (first (all_conditions ordinary deck 855) ≡ Passed)
-    ∷ (outcome_of ordinary deck 855 ≡ record { number = 0; line = 855; field = 0 })
+    -- the deck: no condition holds, with a buffer of 665 bytes; its answer, its report's lines, and their bytes
+    ∷ (first (all_conditions ordinary deck 665) ≡ Passed)
+    ∷ (outcome_of ordinary deck 665 ≡ record { number = 0; line = 665; field = 0 })
     ∷ (rows_of (scenario_of ordinary deck) ≡ rows)
     ∷ (lines_text (rows_of (scenario_of ordinary deck)) ≡ printed_text)
     -- its highest-year soil is 0.15 mg/kg; with nothing lost the soil of cancer is half of it where T2 is tD, and three quarters where T2 is twice tD
@@ -284,21 +250,20 @@ cases =
     ∷ (worked (pairs_at (scenario_of ordinary solvent_deck) 0 0) C ≡ both_ends 499999998 500000001 (negsuc 19))
     ∷ (cancer_soil solvent_deck ≡ both_ends 249999998 250000004 (negsuc 19))
     -- by the guidance of 2009 its air is 1 × 365 × 5 / (365 × 5) × 0.001 / 0.001 = 1, and 1 × 365 × 5 / 27375 × 0.001 × 1000 × 0.5, a thirtieth
-    ∷ (first (all_conditions ordinary air_deck 855) ≡ Passed)
+    ∷ (first (all_conditions ordinary air_deck 665) ≡ Passed)
     ∷ (columns_at Hazard (scenario_of ordinary air_deck) 0 0 Air ≡ Counted 1000000000000 1000000000000)
     ∷ (columns_at Cancer (scenario_of ordinary air_deck) 0 0 Air ≡ Counted 33333333300000 33333333400000)
-    -- the deck with everything in play: kse, ksr and ksl, air, yearly deposition, what goes through the skin, and its lines
-    ∷ (first (all_conditions ordinary full_deck 855) ≡ Passed)
+    -- the deck with everything in play: kse, ksr and ksl, air, yearly deposition, and its lines
+    ∷ (first (all_conditions ordinary full_deck 665) ≡ Passed)
     ∷ (worked (pairs_at (scenario_of ordinary full_deck) 0 0) kse ≡ both_ends 133333333 133333334 (negsuc 7))
     ∷ (worked (pairs_at (scenario_of ordinary full_deck) 0 0) ksr ≡ both_ends 166666666 166666667 (negsuc 7))
     ∷ (worked (pairs_at (scenario_of ordinary full_deck) 0 0) ksl ≡ both_ends 277777777 277777778 (negsuc 7))
     ∷ (worked (pairs_at (scenario_of ordinary full_deck) 0 0) A ≡ both_ends 650000000 650000000 (negsuc 12))
     ∷ (worked (pairs_at (scenario_of ordinary full_deck) 0 0) D ≡ both_ends 263999999 264000001 (negsuc 8))
-    ∷ (worked (pairs_at (scenario_of ordinary full_deck) 0 0) flux ≡ both_ends 732658608 732658609 (negsuc 15))
     ∷ (rows_of (scenario_of ordinary full_deck) ≡ full_rows)
     -- the composite's deck likewise
-    ∷ (first (all_conditions composite composite_deck 855) ≡ Passed)
-    ∷ (outcome_of composite composite_deck 855 ≡ record { number = 0; line = 855; field = 0 })
+    ∷ (first (all_conditions composite composite_deck 665) ≡ Passed)
+    ∷ (outcome_of composite composite_deck 665 ≡ record { number = 0; line = 665; field = 0 })
     ∷ (rows_of (scenario_of composite composite_deck) ≡ composite_rows)
     ∷ (lines_text (rows_of (scenario_of composite composite_deck)) ≡ composite_text)
     -- 002's five stages weigh 62.44 kg, where 002 prints 63.3; their years add to 76, as pairs and to the last digit

@@ -1,7 +1,7 @@
 -- What calls on memory tell of a case that no deck could hold, and of values given in another way than a deck spells them: document 01's example in
 -- memory, with one thing changed each time.
 -- Assumes nothing.
-use Rattle.std.specs.Prelude.{◌≡◌, true, List, [], ◌∷◌, ◌++◌, ℕ, ◌-◌, pos, negsuc, length, replicate, set}
+use Rattle.std.specs.Prelude.{◌≡◌, true, List, [], ◌∷◌, ◌++◌, ℕ, ◌-◌, ℤ, pos, negsuc, length, replicate, set}
 use Rattle.pair.specs.Calls.{is, entry, one_minus_entry}
 use Rattle.times.specs.Times as years
 use Rattle.sizes.specs.Sizes.{slots_per_record, max_chemicals, most_stages}
@@ -37,15 +37,13 @@ unfoldable pub chemical : Record
 chemical =
     record_with 1
     (given 1 ∷ given 1 ∷ given 1 ∷ given 0 ∷ given 0 ∷ given 1 ∷ given 0 ∷ given 0 ∷ record { value = Given (negsuc 2) 1 } ∷ given 0 ∷ given 100 ∷ given 0
-    ∷ given 0 ∷ record { value = Given (negsuc 0) 1 } ∷ given 10 ∷ given 1 ∷ given 1 ∷ record { value = Given (negsuc 0) 1 } ∷ record { value = Given (negsuc 2) 1 } ∷ record { value = Given (negsuc 2) 1 } ∷ given 1
-    ∷ no_slot ∷ no_slot ∷ no_slot ∷ given 1 ∷ given 1 ∷ [])
+    ∷ given 0 ∷ record { value = Given (negsuc 0) 1 } ∷ given 10 ∷ given 1 ∷ given 1 ∷ record { value = Given (negsuc 0) 1 } ∷ record { value = Given (negsuc 2) 1 } ∷ record { value = Given (negsuc 2) 1 } ∷ given 1 ∷ [])
 
 unfoldable pub receptor : Record
 receptor =
     record_with 1
     (given 20 ∷ given 5 ∷ given 27375 ∷ given 10 ∷ given 1 ∷ given 365 ∷ given 80 ∷ given 1 ∷ given 73 ∷ given 146 ∷ given 1000 ∷ record { value = Given (negsuc 1) 2 }
-    ∷ given 400 ∷ record { value = Given (negsuc 0) 1 } ∷ given 1 ∷ record { value = Given (negsuc 0) 1 } ∷ record { value = Given (negsuc 0) 5 } ∷ record { value = Given (negsuc 0) 2 } ∷ record { value = Given (negsuc 0) 5 } ∷ given 1 ∷ given 365 ∷ given 1
-    ∷ no_slot ∷ given 1 ∷ given 1 ∷ given 1 ∷ given 1 ∷ given 1 ∷ given 1 ∷ given 1 ∷ [])
+    ∷ given 400 ∷ record { value = Given (negsuc 0) 1 } ∷ given 1 ∷ record { value = Given (negsuc 0) 1 } ∷ record { value = Given (negsuc 0) 5 } ∷ record { value = Given (negsuc 0) 2 } ∷ record { value = Given (negsuc 0) 5 } ∷ given 1 ∷ given 365 ∷ given 1 ∷ [])
 
 unfoldable pub case_of_three : Record → Record → Record → Case
 case_of_three s c r =

@@ -4,14 +4,12 @@ use Rattle.std.specs.Prelude.{◌≡◌, Bool, true, false}
 use Rattle.pair.specs.Calls.{Outcome, is, mapped, after, quotient}
 use Rattle.equations.specs.declared.Pathway.{Pathway}
 use Rattle.equations.specs.declared.Values.{Values}
-use Rattle.equations.specs.declared.Effect.TheVariants.{Hazard, Cancer}
 use Rattle.equations.specs.Page.{by_route}
 use Rattle.media.specs.declared.AirConc.{AirConc}
-use Rattle.water.specs.declared.Uptake.{Uptake}
 use Rattle.pathway.specs.declared.Absorbed.{Absorbed}
 use Rattle.pathway.specs.declared.References.{References}
 use Rattle.pathway.specs.declared.TimeShare.{TimeShare}
-use Rattle.pathway.specs.Lines.{none, Figured, exposure_from, rfd_value, csf_value, dose_bathed, figure_of, air_figures_with, Breathed, by_dose, by_time}
+use Rattle.pathway.specs.Lines.{none, Figured, exposure_from, air_figures_with, Breathed, by_dose, by_time}
 
 -- one share for each letter of a chemical
 unfoldable pub each : Pair → Absorbed
@@ -33,11 +31,3 @@ is_timed (by_time t) p = by_route p true false
 unfoldable pub timed_figures : Breathed → AirConc → References → Figured
 timed_figures by_dose air refs = record { hazard = is none; cancer = is none }
 timed_figures (by_time t) air refs = air_figures_with t air refs
-
--- the figures of bathing, from the uptake and B of each effect
-unfoldable pub bathed_figures : Outcome Uptake → Outcome Pair → Outcome Pair → References → Figured
-bathed_figures u noncancer lifetime refs =
-    record {
-      hazard = figure_of Hazard (dose_bathed u noncancer) (rfd_value refs.rfd_o);
-      cancer = figure_of Cancer (dose_bathed u lifetime) (csf_value refs.csf_o);
-    }

@@ -1,18 +1,17 @@
--- The pathways of documents 01 and 02 by the working rule. A concentration, an intake factor, a dose and a reference value are quantities of
--- their own: factor × concentration is a dose, a dose by an RfD is a quotient, and a dose times a CSF is a risk. Bathing (P12) has no factor: what
--- the skin takes up is a quantity of its own too, and by B it is a dose. By the guidance of 2009 (document
+-- The six pathways of document 01 by the working rule. A concentration, an intake factor, a dose and a reference value are quantities of
+-- their own: factor × concentration is a dose, a dose by an RfD is a quotient, and a dose times a CSF is a risk. By the guidance of 2009 (document
 -- 02, P6) the air is no dose: a share of time × the air's concentration is an exposure concentration, which goes by a reference concentration and a
 -- unit risk.
 use Rattle.pair.specs.declared.Pair.{Pair}
 use Rattle.std.specs.Prelude.{ℕ, cond, eqb}
 use Rattle.pair.specs.Calls.{Outcome, is, refused, answer, mapped, after, product, quotient}
 use Rattle.equations.specs.declared.Pathway.{Pathway}
-use Rattle.equations.specs.declared.Pathway.TheVariants.{Air, SoilSummer, SoilWinter, Skin, AboveGround, BelowGround, Drinking, Bathing}
+use Rattle.equations.specs.declared.Pathway.TheVariants.{Air, SoilSummer, SoilWinter, Skin, AboveGround, BelowGround}
 use Rattle.equations.specs.declared.Effect.{Effect}
 use Rattle.equations.specs.declared.Effect.TheVariants.{Hazard, Cancer}
 use Rattle.equations.specs.declared.Values.{Values}
 use Rattle.equations.specs.Formula.{Formula, pairs}
-use Rattle.equations.specs.Page.{B, exposure, factor, by_medium, by_way, by_route, figure_by, time_share, air_figure_by}
+use Rattle.equations.specs.Page.{B, exposure, factor, by_medium, by_route, figure_by, time_share, air_figure_by}
 use Rattle.equations.specs.Readings.{plain, by_owner, inputs, value_in, no_values}
 use Rattle.equations.specs.Ahead.{of_two, ahead, plain_from}
 use Rattle.slots.specs.declared.Guidance.{Guidance}
@@ -21,10 +20,6 @@ use Rattle.slots.specs.Slots.{Slot, owner_of, place_of}
 use Rattle.media.specs.declared.AirConc.{AirConc}
 use Rattle.media.specs.declared.Conc.{Conc}
 use Rattle.media.specs.declared.Media.{Media}
-use Rattle.water.specs.declared.WaterConc.{WaterConc}
-use Rattle.water.specs.declared.Uptake.{Uptake}
-use Rattle.water.specs.declared.Water.{Water}
-use Rattle.water.specs.Water.{taken_up_by}
 use Rattle.pathway.specs.declared.Factor.{Factor}
 use Rattle.pathway.specs.declared.Dose.{Dose}
 use Rattle.pathway.specs.declared.Medium.{Medium}
@@ -77,27 +72,19 @@ worked_of r f = worked_for no_values no_values r f
 unfoldable pub factor_of : Effect → Pathway → Values → Values → Values → Outcome Factor
 factor_of e p s c r = mapped (λ (q : Pair). record { 0 = q }) (worked_for s c r (factor e p))
 
--- what a factor takes: air, soil and produce, or water; A for 1, the soil for 2 to 4, the produce for 5 and 6, the water for 7. That of 8 stands in
--- its uptake already, and no factor takes it.
+-- what a factor takes: air, or soil and produce; A for 1, the soil for 2 to 4, the produce for 5 and 6
 unfoldable pub breathed_in : AirConc → Medium
 breathed_in a = record { 0 = a.0 }
 
 unfoldable pub eaten : Conc → Medium
 eaten c = record { 0 = c.0 }
 
-unfoldable pub drunk : WaterConc → Medium
-drunk c = record { 0 = c.0 }
-
-unfoldable pub medium_for : Pathway → Media → Water → Medium
-medium_for p m w = by_medium p (breathed_in m.air) (eaten m.soil) (eaten m.above_ground) (eaten m.below_ground) (drunk w.conc)
+unfoldable pub medium_for : Pathway → Media → Medium
+medium_for p m = by_medium p (breathed_in m.air) (eaten m.soil) (eaten m.above_ground) (eaten m.below_ground)
 
 -- the dose: factor × concentration
-unfoldable pub dose_of : Outcome Factor → Medium → Outcome Dose
-dose_of f m = mapped (λ (q : Pair). record { 0 = q }) (after product (mapped (λ (g : Factor). g.0) f) (is m.0))
-
--- and of a bather: uptake / B
-unfoldable pub dose_bathed : Outcome Uptake → Outcome Pair → Outcome Dose
-dose_bathed u base = mapped (λ (q : Pair). record { 0 = q }) (after quotient (mapped (λ (g : Uptake). g.0) u) base)
+unfoldable pub dose_for : Pathway → Outcome Factor → Media → Outcome Dose
+dose_for p f m = mapped (λ (q : Pair). record { 0 = q }) (after product (mapped (λ (g : Factor). g.0) f) (is (medium_for p m).0))
 
 -- the figure of a dose with its reference value, dose / RfD or dose × CSF; none without one, whatever the dose
 unfoldable pub figure_of : Effect → Outcome Dose → Optional Pair → Outcome (Optional Pair)
@@ -219,7 +206,7 @@ taken_in s a r n = by_owner (owner_of n) (value_in s (place_of n)) (share_at a (
 unfoldable pub exposure_from : Outcome Pair → Pathway → Values → Absorbed → Values → Outcome Pair
 exposure_from begun p s a r = plain_from begun pairs (λ n. is (taken_in s a r n)) (exposure p)
 
--- how the air is taken, B of each effect, the soil held on the skin, the produce eaten and the water drunk
+-- how the air is taken, B of each effect, the soil held on the skin and the produce eaten
 pub record Shared : Type 0 where
   pub air : Breathed
   pub hazard : Outcome Pair
@@ -227,7 +214,6 @@ pub record Shared : Type 0 where
   pub skin : Outcome Pair
   pub above_ground : Outcome Pair
   pub below_ground : Outcome Pair
-  pub drinking : Outcome Pair
 
 unfoldable pub shared : Habits → Shared
 shared h =
@@ -238,7 +224,6 @@ shared h =
       skin = answer h.skin;
       above_ground = answer h.above_ground;
       below_ground = answer h.below_ground;
-      drinking = answer h.drinking;
     }
 
 unfoldable pub habits_of : Guidance → Values → Shared
@@ -250,7 +235,6 @@ habits_of guidance r =
       skin = worked_of r (ahead (exposure Skin));
       above_ground = worked_of r (ahead (exposure AboveGround));
       below_ground = worked_of r (ahead (exposure BelowGround));
-      drinking = worked_of r (ahead (exposure Drinking));
     }
 
 unfoldable pub base_in : Shared → Effect → Outcome Pair
@@ -264,8 +248,6 @@ begun_in h r SoilWinter = worked_of r (ahead (exposure SoilWinter))
 begun_in h r Skin = h.skin
 begun_in h r AboveGround = h.above_ground
 begun_in h r BelowGround = h.below_ground
-begun_in h r Drinking = h.drinking
-begun_in h r Bathing = worked_of r (ahead (exposure Bathing))
 
 unfoldable pub exposure_with : Shared → Pathway → Values → Absorbed → Values → Outcome Pair
 exposure_with h p s a r = exposure_from (begun_in h r p) p s a r
@@ -274,17 +256,14 @@ exposure_with h p s a r = exposure_from (begun_in h r p) p s a r
 unfoldable pub factor_with : Outcome Pair → Outcome Pair → Outcome Factor
 factor_with exposure base = mapped (λ (q : Pair). record { 0 = q }) (after quotient exposure base)
 
--- a pathway's dose, from what its receptor's lines share: factor × medium, or of bathing by its own way
-unfoldable pub dose_with : Shared → Effect → Pathway → Values → Absorbed → Values → Media → Water → Outcome Dose
-dose_with h e p s a r m w = by_way p (dose_of (factor_with (exposure_with h p s a r) (base_in h e)) (medium_for p m w)) (dose_bathed (taken_up_by w.flux r) (base_in h e))
-
--- the two figures of a line of an intake: pathway 1 takes RfDi and CSFi, the rest RfDo and CSFo; hazard takes the media of the highest year, cancer
--- those of the mean, and both the same water
-unfoldable pub dose_figures_with : Shared → Pathway → Values → Absorbed → Values → Media → Media → Water → References → Figured
-dose_figures_with h p s a r highest mean w refs =
+-- the two figures of a line of an intake, from what its receptor's lines share: pathway 1 takes RfDi and CSFi, the rest RfDo and CSFo; hazard takes the media of the
+-- highest year, cancer those of the mean
+unfoldable pub dose_figures_with : Shared → Pathway → Values → Absorbed → Values → Media → Media → References → Figured
+dose_figures_with h p s a r highest mean refs =
+    let exposure : Outcome Pair = exposure_with h p s a r in
     record {
-      hazard = figure_of Hazard (dose_with h Hazard p s a r highest w) (rfd_value (by_route p (as_rfd refs.rfd_i) refs.rfd_o));
-      cancer = figure_of Cancer (dose_with h Cancer p s a r mean w) (csf_value (by_route p (as_csf refs.csf_i) refs.csf_o));
+      hazard = figure_of Hazard (dose_for p (factor_with exposure (base_in h Hazard)) highest) (rfd_value (by_route p (as_rfd refs.rfd_i) refs.rfd_o));
+      cancer = figure_of Cancer (dose_for p (factor_with exposure (base_in h Cancer)) mean) (csf_value (by_route p (as_csf refs.csf_i) refs.csf_o));
     }
 
 -- a line's two figures: of an intake, or where the air is taken over a share of time, pathway 1's from that
@@ -292,5 +271,5 @@ unfoldable pub figures_by : Breathed → Pathway → AirConc → References → 
 figures_by by_dose p air refs dosed = dosed
 figures_by (by_time t) p air refs dosed = by_route p (air_figures_with t air refs) dosed
 
-unfoldable pub figures_with : Shared → Pathway → Values → Absorbed → Values → Media → Media → Water → References → Figured
-figures_with h p s a r highest mean w refs = figures_by h.air p highest.air refs (dose_figures_with h p s a r highest mean w refs)
+unfoldable pub figures_with : Shared → Pathway → Values → Absorbed → Values → Media → Media → References → Figured
+figures_with h p s a r highest mean refs = figures_by h.air p highest.air refs (dose_figures_with h p s a r highest mean refs)

@@ -3,13 +3,12 @@
 ghost use Rattle.std.specs.Prelude.{◌≡◌};
 ghost use Rattle.equations.specs.declared.Effect.TheVariants.{Hazard, Cancer};
 ghost use Rattle.pair.specs.Calls.{is, answer, mapped, product};
-ghost use Rattle.pathway.specs.Lines.{figure, some, rfd_value, csf_value, factor_with, breathed_in, eaten, drunk, medium_for, dose_of, figure_of};
+ghost use Rattle.pathway.specs.Lines.{figure, some, rfd_value, csf_value, factor_with, breathed_in, eaten, medium_for, dose_for, figure_of};
 
 use crate::{Csf, Dose, Factor, Figure, GivenCsf, GivenRfd, Medium, Rfd};
 use equations::Pathway;
 use media::{AirConc, Conc, Media};
 use pair::{Answer, Pair};
-use water::{Water, WaterConc};
 
 // Air, as a dose by the guidance of 2005 takes it.
 fn breathed_in(air: AirConc) -> Medium
@@ -25,15 +24,8 @@ fn eaten(medium: Conc) -> Medium
     Medium(medium.pair())
 }
 
-// Water.
-fn drunk(water: WaterConc) -> Medium
-    ensures { result ≡ drunk water }
-{
-    Medium(water.pair())
-}
-
-pub(crate) fn medium_of(pathway: Pathway, media: Media, water: Water) -> Medium
-    ensures { result ≡ medium_for pathway media water }
+fn medium_of(pathway: Pathway, media: Media) -> Medium
+    ensures { result ≡ medium_for pathway media }
 {
     match pathway {
         Pathway::Air => breathed_in(media.air),
@@ -42,8 +34,6 @@ pub(crate) fn medium_of(pathway: Pathway, media: Media, water: Water) -> Medium
         Pathway::Skin => eaten(media.soil),
         Pathway::AboveGround => eaten(media.above_ground),
         Pathway::BelowGround => eaten(media.below_ground),
-        Pathway::Drinking => drunk(water.conc),
-        Pathway::Bathing => drunk(water.conc),
     }
 }
 
@@ -65,22 +55,28 @@ pub(crate) fn worked_figure(a: Answer) -> Figure
 }
 
 // Quotient = dose / RfD.
-pub(crate) fn quotient_of(dose: Dose, rfd: Rfd) -> Figure
+fn quotient_of(dose: Dose, rfd: Rfd) -> Figure
     ensures { figure result ≡ figure_of Hazard (is dose) (some rfd.0) }
 {
     worked_figure(dose.0.answer().over(rfd.0.answer()))
 }
 
 // Risk = dose × CSF.
-pub(crate) fn risk_of(dose: Dose, csf: Csf) -> Figure
+fn risk_of(dose: Dose, csf: Csf) -> Figure
     ensures { figure result ≡ figure_of Cancer (is dose) (some csf.0) }
 {
     worked_figure(dose.0.product(csf.0))
 }
 
-// The quotient of a dose, from exposure / B and its medium; no figure without the reference value, whatever the dose.
-pub(crate) fn hazard_from(exposure: Answer, base: Answer, medium: Medium, rfd: GivenRfd) -> Figure
-    ensures { figure result ≡ figure_of Hazard (dose_of (factor_with (answer exposure) (answer base)) medium) (rfd_value rfd) }
+// The quotient of a pathway's dose, from exposure / B; no figure without the reference value, whatever the dose.
+pub(crate) fn hazard_from(
+    pathway: Pathway,
+    exposure: Answer,
+    base: Answer,
+    media: Media,
+    rfd: GivenRfd,
+) -> Figure
+    ensures { figure result ≡ figure_of Hazard (dose_for pathway (factor_with (answer exposure) (answer base)) media) (rfd_value rfd) }
 {
     let GivenRfd::Is(least) = rfd else {
         return Figure::Absent;
@@ -88,15 +84,21 @@ pub(crate) fn hazard_from(exposure: Answer, base: Answer, medium: Medium, rfd: G
     let Answer::Is(f) = exposure.over(base) else {
         return Figure::Refused;
     };
-    let Answer::Is(d) = dose_of(Factor(f), medium) else {
+    let Answer::Is(d) = dose_of(Factor(f), medium_of(pathway, media)) else {
         return Figure::Refused;
     };
     quotient_of(Dose(d), least)
 }
 
 // The risk, likewise.
-pub(crate) fn cancer_from(exposure: Answer, base: Answer, medium: Medium, csf: GivenCsf) -> Figure
-    ensures { figure result ≡ figure_of Cancer (dose_of (factor_with (answer exposure) (answer base)) medium) (csf_value csf) }
+pub(crate) fn cancer_from(
+    pathway: Pathway,
+    exposure: Answer,
+    base: Answer,
+    media: Media,
+    csf: GivenCsf,
+) -> Figure
+    ensures { figure result ≡ figure_of Cancer (dose_for pathway (factor_with (answer exposure) (answer base)) media) (csf_value csf) }
 {
     let GivenCsf::Is(slope) = csf else {
         return Figure::Absent;
@@ -104,7 +106,7 @@ pub(crate) fn cancer_from(exposure: Answer, base: Answer, medium: Medium, csf: G
     let Answer::Is(f) = exposure.over(base) else {
         return Figure::Refused;
     };
-    let Answer::Is(d) = dose_of(Factor(f), medium) else {
+    let Answer::Is(d) = dose_of(Factor(f), medium_of(pathway, media)) else {
         return Figure::Refused;
     };
     risk_of(Dose(d), slope)

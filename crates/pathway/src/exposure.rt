@@ -1,8 +1,8 @@
-//! What stands above and below the bar of an intake factor (document 01, "Six pathways", and document 02's P12).
-ghost use Rattle.std.specs.Prelude.{◌≡◌, true, false, negsuc};
+//! What stands above and below the bar of an intake factor (document 01, "Six pathways").
+ghost use Rattle.std.specs.Prelude.{◌≡◌, negsuc};
 ghost use Rattle.pair.specs.Calls.{answer, is, after, product, entry};
 ghost use Rattle.equations.specs.Page as page;
-ghost use Rattle.equations.specs.declared.Pathway.TheVariants.{Air, SoilSummer, SoilWinter, Skin, AboveGround, Drinking};
+ghost use Rattle.equations.specs.declared.Pathway.TheVariants.{Air, SoilSummer, SoilWinter, Skin, AboveGround};
 ghost use Rattle.equations.specs.Ahead.{ahead};
 ghost use Rattle.pathway.specs.Inner.{each, Takes};
 ghost use Rattle.pathway.specs.Lines.{worked_of, absorbed_of, shared, begun_in, exposure_from};
@@ -12,8 +12,8 @@ use crate::{Absorbed, Habits};
 use equations::{Effect, Pathway, Values};
 use pair::{Answer, Pair, Step};
 use slots::{
-    AF_DERM, AF_INH, AF_ORAL, BW, ED, EF_D, EF_INH, EF_P, EF_S, EF_W, ET_DERM, ET_INH, ET_SOIL,
-    F_AG, F_BG, F_W, FR_SNOW, IR_AG, IR_BG, IR_INH, IR_SOIL, IR_W, SA_B, SA_H, SAF_B, SAF_H, WP,
+    AF_DERM, AF_INH, AF_ORAL, BW, ED, EF_INH, EF_P, EF_S, EF_W, ET_DERM, ET_INH, ET_SOIL, F_AG,
+    F_BG, FR_SNOW, IR_AG, IR_BG, IR_INH, IR_SOIL, SA_B, SA_H, SAF_B, SAF_H, WP,
 };
 
 // 0.000001, kg/mg.
@@ -41,7 +41,7 @@ pub fn absorbed_of(c: Values) -> Absorbed
     }
 }
 
-// The share absorbed on a pathway. Bathing takes none.
+// The share absorbed on a pathway.
 pub(crate) fn share_of(pathway: Pathway, absorbed: Absorbed) -> Pair
     ensures { Takes pathway absorbed result }
 {
@@ -52,8 +52,6 @@ pub(crate) fn share_of(pathway: Pathway, absorbed: Absorbed) -> Pair
         Pathway::Skin => absorbed.dermal,
         Pathway::AboveGround => absorbed.oral,
         Pathway::BelowGround => absorbed.oral,
-        Pathway::Drinking => absorbed.oral,
-        Pathway::Bathing => absorbed.dermal,
     }
 }
 
@@ -66,7 +64,7 @@ fn held(r: Values) -> Answer
     body.plus(hands)
 }
 
-// What an exposure begins with, before the chemical's letter; 1 for bathing, which begins with the chemical's.
+// What an exposure begins with, before the chemical's letter.
 pub(crate) fn begun_of(r: Values, pathway: Pathway) -> Answer
     ensures { answer result ≡ worked_of r (ahead (page.exposure pathway)) }
 {
@@ -77,8 +75,6 @@ pub(crate) fn begun_of(r: Values, pathway: Pathway) -> Answer
         Pathway::Skin => held(r),
         Pathway::AboveGround => r.at(IR_AG).times(r.at(F_AG)).times(r.at(WP)),
         Pathway::BelowGround => r.at(IR_BG).times(r.at(F_BG)).times(r.at(WP)),
-        Pathway::Drinking => r.at(IR_W).times(r.at(F_W)),
-        Pathway::Bathing => Pair::ONE.answer(),
     }
 }
 
@@ -93,8 +89,6 @@ pub(crate) fn begun_in(habits: Habits, receptor: Values, pathway: Pathway) -> An
         Pathway::Skin => habits.skin,
         Pathway::AboveGround => habits.above_ground,
         Pathway::BelowGround => habits.below_ground,
-        Pathway::Drinking => habits.drinking,
-        Pathway::Bathing => begun_of(receptor, Pathway::Bathing),
     }
 }
 
@@ -138,13 +132,7 @@ fn produce(s: Values, r: Values, share: Pair, begun: Answer) -> Answer
     times_three(begun, share, r.value(EF_P), r.value(ED))
 }
 
-fn drinking(s: Values, r: Values, share: Pair, begun: Answer) -> Answer
-    ensures { answer result ≡ exposure_from (answer begun) Drinking s (each share) r }
-{
-    times_three(begun, share, r.value(EF_D), r.value(ED))
-}
-
-// An exposure from what it begins with and the share that is absorbed, of a pathway that goes by a factor.
+// An exposure from what it begins with and the share that is absorbed.
 pub(crate) fn exposure_from(
     s: Values,
     r: Values,
@@ -152,7 +140,6 @@ pub(crate) fn exposure_from(
     share: Pair,
     begun: Answer,
 ) -> Answer
-    requires { page.by_way pathway true false ≡ true }
     ensures { answer result ≡ exposure_from (answer begun) pathway s (each share) r }
 {
     match pathway {
@@ -162,7 +149,5 @@ pub(crate) fn exposure_from(
         Pathway::Skin => skin(s, r, share, begun),
         Pathway::AboveGround => produce(s, r, share, begun),
         Pathway::BelowGround => produce(s, r, share, begun),
-        Pathway::Drinking => drinking(s, r, share, begun),
-        Pathway::Bathing => begun,
     }
 }

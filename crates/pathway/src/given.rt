@@ -67,8 +67,6 @@ pub(crate) fn is_inhaled(pathway: Pathway) -> bool
         Pathway::Skin => false,
         Pathway::AboveGround => false,
         Pathway::BelowGround => false,
-        Pathway::Drinking => false,
-        Pathway::Bathing => false,
     }
 }
 

@@ -1,6 +1,5 @@
-//! The eight pathways (document 01, and document 02's P12): from a receptor and a medium to intake factors, doses, hazard quotients and cancer risks.
+//! The six pathways (document 01): from a receptor and a medium to intake factors, doses, hazard quotients and cancer risks.
 mod air;
-mod bathing;
 mod doses;
 mod exposure;
 mod given;
@@ -9,8 +8,7 @@ ghost use Rattle.std.specs.Prelude.{◌≡◌};
 ghost use Rattle.pathway.specs.Lines as specs;
 
 use crate::air::{breathing_of, is_timed, timed_figures};
-use crate::bathing::{bathing_figures, is_bathing};
-use crate::doses::{cancer_from, hazard_from, medium_of};
+use crate::doses::{cancer_from, hazard_from};
 pub use crate::exposure::absorbed_of;
 use crate::exposure::{base_of, begun_in, begun_of, exposure_from, share_of};
 pub use crate::given::references_from;
@@ -19,7 +17,6 @@ use equations::{Effect, Pathway, Values};
 use media::Media;
 use pair::{Answer, Pair};
 use slots::Guidance;
-use water::{Water, taken_up};
 
 // An intake factor: what of a medium is taken in, per day and kg of body weight. Only this crate makes one, a dose and a reference value.
 #[derive(Drop)]
@@ -65,7 +62,7 @@ pub struct References {
     csf_i: Printed,
 }
 
-// The concentration of a pathway's own medium, as a factor takes it: of air, of soil or produce, or of water.
+// The concentration of a pathway's own medium, as a factor takes it: of air, or of soil or produce.
 #[derive(Drop)]
 pub struct Medium(Pair);
 
@@ -92,8 +89,7 @@ pub struct Absorbed {
     pub dermal: Pair,
 }
 
-// What a receptor's lines share, whatever the chemical: how the air is taken, B of each effect, the soil held on the skin, the produce eaten and the
-// water drunk.
+// What a receptor's lines share, whatever the chemical: how the air is taken, B of each effect, the soil held on the skin and the produce eaten.
 #[derive(Drop)]
 pub struct Habits {
     pub air: Breathing,
@@ -102,7 +98,6 @@ pub struct Habits {
     pub skin: Answer,
     pub above_ground: Answer,
     pub below_ground: Answer,
-    pub drinking: Answer,
 }
 
 // By the guidance of 2009 (document 02, P6) the air is no dose. The share of the averaging time that is spent in it, and the exposure
@@ -171,7 +166,6 @@ pub fn habits_of(guidance: Guidance, receptor: Values) -> Habits
         skin: begun_of(receptor, Pathway::Skin),
         above_ground: begun_of(receptor, Pathway::AboveGround),
         below_ground: begun_of(receptor, Pathway::BelowGround),
-        drinking: begun_of(receptor, Pathway::Drinking),
     }
 }
 
@@ -186,21 +180,14 @@ pub fn figures_with(
     receptor: Values,
     highest: Media,
     mean: Media,
-    water: Water,
     references: References,
 ) -> Line
-    ensures { specs.figured result ≡ specs.figures_with (specs.shared habits) pathway site absorbed receptor highest mean water references }
+    ensures { specs.figured result ≡ specs.figures_with (specs.shared habits) pathway site absorbed receptor highest mean references }
 {
     let breathing = habits.air;
     if is_timed(breathing, pathway) {
         let air = highest.air;
         return timed_figures(breathing, air, references);
-    }
-    let noncancer = habits.hazard;
-    let lifetime = habits.cancer;
-    if is_bathing(pathway) {
-        let flux = water.flux;
-        return bathing_figures(taken_up(flux, receptor), noncancer, lifetime, references);
     }
     let exposure = exposure_from(
         site,
@@ -209,17 +196,21 @@ pub fn figures_with(
         share_of(pathway, absorbed),
         begun_in(habits, receptor, pathway),
     );
+    let noncancer = habits.hazard;
+    let lifetime = habits.cancer;
     Line {
         hazard: hazard_from(
+            pathway,
             exposure,
             noncancer,
-            medium_of(pathway, highest, water),
+            highest,
             rfd_of(pathway, references),
         ),
         cancer: cancer_from(
+            pathway,
             exposure,
             lifetime,
-            medium_of(pathway, mean, water),
+            mean,
             csf_of(pathway, references),
         ),
     }

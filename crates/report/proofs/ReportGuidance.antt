@@ -2,7 +2,7 @@
 -- has the lines of 2009: of any call.
 -- Assumes nothing.
 use mathlib.Core.Path.{◌≡◌, refl, sym, ◌∙◌, ap, ap₂, subst}
-use mathlib.Core.Bool.{Bool, true, cond}
+use mathlib.Core.Bool.{true, cond}
 use mathlib.Core.List.{List}
 use Prim.Native.Nat.{ℕ, ◌≤◌, ◌*◌}
 use lib.ListN.{length}
@@ -12,14 +12,13 @@ use Rattle.slots.specs.Slots.{guidance_year, unused}
 use Rattle.equations.specs.declared.Effect.{Effect}
 use Rattle.equations.specs.declared.Effect.TheVariants.{Hazard, Cancer}
 use Rattle.equations.specs.declared.Pathway.{Pathway}
-use Rattle.equations.specs.declared.Pathway.TheVariants.{Air}
+use Rattle.equations.specs.declared.Pathway.TheVariants.{Air, SoilSummer, SoilWinter, Skin, AboveGround, BelowGround}
 use Rattle.equations.specs.declared.Stay.{Stay}
-use Rattle.equations.specs.Formula.{Formula}
-use Rattle.equations.proofs.Guided.{by_route_lem}
 use Rattle.equations.specs.Page.{AT, by_medium, by_route, reference_slot, reference, intake_line, time_in_air, time_share, air_figure_by, air_line, by_guidance, line}
 use Rattle.equations.specs.Readings.{worked, paces_of, exactly}
 use Rattle.cases.specs.declared.Case.{Case}
 use Rattle.cases.specs.declared.Status.{Status}
+use Rattle.cases.specs.declared.Status.TheVariants.{Passed, Stopped}
 use Rattle.spelling.specs.declared.Word.TheVariants.{Blank}
 use Rattle.cases.specs.Conditions.{first}
 use Rattle.deck.specs.DeckConditions.{conditions, misspelled, misplaced, out_of_range, field_conditions}
@@ -118,8 +117,13 @@ air_formula Hazard stay = refl
 air_formula Cancer stay = refl
 
 other_formula : (e : Effect) (stay : Stay) (p : Pathway) → (p ≡ Air → ⊥) → line Of2009 e stay p ≡ intake_line e stay p
-unfolding line by_guidance
-other_formula e stay p = by_route_lem (λ q (x : Formula) (t : Bool). (q ≡ Air → ⊥) → x ≡ intake_line e stay p) {i' = true} {o' = true} (λ h. absurd (h refl)) p (λ h. refl)
+unfolding line by_guidance by_route by_medium
+other_formula e stay Air h = absurd (h refl)
+other_formula e stay SoilSummer h = refl
+other_formula e stay SoilWinter h = refl
+other_formula e stay Skin h = refl
+other_formula e stay AboveGround h = refl
+other_formula e stay BelowGround h = refl
 
 pub law_2009_of : (call : Call) → Law2009 call
 unfolding Law2009

@@ -24,7 +24,7 @@ unfoldable pub total_row : Scenario → ℕ → Row
 total_row scenario j =
     record { receptor = (receptor_in scenario j).id; chemical = 0; pathway = 0; hazard = total_at Hazard scenario j; cancer = total_at Cancer scenario j }
 
--- per receptor, per chemical, pathways 1 to 8, then one total line
+-- per receptor, per chemical, pathways 1 to 6, then one total line
 unfoldable pub rows_at : Scenario → ℕ → List Row
 rows_at scenario j = chained (λ i. chained (λ p. row_at scenario j i p ∷ []) pathways_per_chemical) scenario.chemicals.count ++ (total_row scenario j ∷ [])
 

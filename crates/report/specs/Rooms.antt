@@ -15,7 +15,7 @@ deck_room sort = max_length sort + 1
 abbrev pub longest_for : ℕ → ℕ
 longest_for receptors = report_line_width * (receptors * (most_lines + 1))
 
--- 49,020 bytes
+-- 36,860 bytes
 abbrev pub longest_report : ℕ
 longest_report = longest_for most_receptors
 

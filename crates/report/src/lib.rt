@@ -20,7 +20,7 @@ use sizes::{MAX_CHEMICALS, MAX_RECEPTORS, PATHWAYS};
 use slots::Sort;
 use text::LINE_WIDTH;
 
-// The longest report: 516 lines.
+// The longest report: 388 lines.
 pub const MAX_REPORT: usize = LINE_WIDTH * MAX_RECEPTORS * (MAX_CHEMICALS * PATHWAYS + 1);
 
 // A byte more than the longest deck: input that fills it is no deck, whatever is in it.

@@ -4,6 +4,7 @@
 use mathlib.Core.Path.{◌≡◌, refl}
 use mathlib.Core.Bool.{Bool, true, not, ◌&&◌, ◌||◌}
 use Rattle.slots.specs.declared.Guidance.{Guidance}
+use Rattle.slots.specs.declared.Rule.{Rule}
 use Rattle.slots.specs.Slots.{Slot, table, same, is_in, place_in, entry_rule, owner_of, place_of, rule_of}
 use Rattle.equations.specs.declared.Pathway.{Pathway}
 use Rattle.equations.specs.declared.Effect.{Effect}
@@ -34,5 +35,5 @@ loss_read = (refl, refl)
 
 -- every line
 pub line_read : (y : Guidance) (e : Effect) (stay : Stay) (p : Pathway) → only (is_read (reference_slot e p)) (page.line y e stay p) ≡ true
-unfolding passes pathways on_each by_either only is_read is_needed rule_of entry_rule table same is_in place_in owner_of place_of page.line page.by_guidance page.air_line page.air_figure_by page.time_share page.time_in_air page.intake_line page.figure_by page.intake page.by_way page.bathed page.flux page.factor page.medium page.by_medium page.soil page.mean page.gathered page.exposure page.B page.AT page.reference page.reference_slot page.by_route page.A page.C page.D page.above_ground page.below_ground x x' page.k page.u page.kse page.ksr page.ksl
+unfolding passes pathways on_each by_either only is_read is_needed rule_of entry_rule table same is_in place_in owner_of place_of page.line page.by_guidance page.air_line page.air_figure_by page.time_share page.time_in_air page.intake_line page.figure_by page.intake page.factor page.medium page.by_medium page.soil page.mean page.gathered page.exposure page.B page.AT page.reference page.reference_slot page.by_route page.A page.C page.D page.above_ground page.below_ground x x' page.k page.u page.kse page.ksr page.ksl
 line_read = on_guided (λ y e stay p. only (is_read (reference_slot e p)) (page.line y e stay p)) refl

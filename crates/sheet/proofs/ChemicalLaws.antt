@@ -4,6 +4,7 @@ use mathlib.Core.Bool.{Bool, true, false, not, ◌||◌, not-not, false≢true}
 use mathlib.Core.List.{List}
 use Prim.Native.Nat.{ℕ, ◌+◌, ◌-◌, ◌<◌}
 use native.Mathlib.Numerals.{add-one}
+use native.Mathlib.Omega.{arith}
 use lib.ListN.{length, get_or, replicate}
 use Rattle.pair.specs.declared.Pair.{Pair}
 use Rattle.pair.specs.Calls.{Outcome, is, refused}
@@ -17,8 +18,6 @@ use Rattle.media.specs.declared.Grounded.{Grounded}
 use Rattle.media.specs.declared.Grounded.TheVariants as Grounds
 use Rattle.media.specs.Media.{found, grounded, media_inputs, ground_of}
 use Rattle.pathway.specs.declared.Absorbed.{Absorbed}
-use Rattle.water.specs.declared.Water.{Water}
-use Rattle.water.specs.Water.{water_of}
 use Rattle.pathway.specs.declared.References.{References}
 use Rattle.pathway.specs.Lines.{absorbed_of}
 use Rattle.cases.specs.declared.Chemicals.{Chemicals}
@@ -69,13 +68,13 @@ module _ (site' : Values) (receptors' : Receptors) (chemical' : Record) (values'
   -- from its ground
   module _ (ground : Ground) (w : Bool) (list : List Media)
       (worked : w ≡ not (any_of (λ j. is_refused (mean_with site' values' (get_or receptors'.list j no_receptor) ground)) receptors'.count)) (made : w ≡ true → list ≡ means_of site' values' receptors' ground)
-      (a : Absorbed) (a-is : a ≡ absorbed_of values') (water' : Water) (water-is : water' ≡ water_of values') (refs : References) (refs-are : refs ≡ references_of chemical') where
+      (a : Absorbed) (a-is : a ≡ absorbed_of values') (refs : References) (refs-are : refs ≡ references_of chemical') where
     pub from_worked : w ≡ not (any_of (λ j. is_refused (mean_with site' (values_of chemical') (get_or receptors'.list j no_receptor) ground)) receptors'.count)
     from_worked = worked ∙ ap (λ (v : Values). not (any_of (λ j. is_refused (mean_with site' v (get_or receptors'.list j no_receptor) ground)) receptors'.count)) of-chemical
 
-    pub from_made : w ≡ true → record { absorbed = a; media = ground.highest; means = list; water = water'; references = refs } ≡ source_from site' chemical' receptors' (is ground)
+    pub from_made : w ≡ true → record { absorbed = a; media = ground.highest; means = list; references = refs } ≡ source_from site' chemical' receptors' (is ground)
     unfolding source_from source_with
-    from_made e = rw (a-is, water-is, refs-are, made e, of-chemical) refl
+    from_made e = rw (a-is, refs-are, made e, of-chemical) refl
 
   -- a needed value is missing
   pub lacks_worked : lacks Ordinary Chemical chemical' ≡ true → (w : Bool) → w ≡ false → w ≡ not (stops_with site' receptors' chemical')

@@ -1,7 +1,7 @@
--- A receptor's lines: chemical after chemical, each of eight pathways, so that line q is that of chemical q / 8 and pathway q % 8; and 53 and 42 by line.
+-- A receptor's lines: chemical after chemical, each of six pathways, so that line q is that of chemical q / 6 and pathway q % 6; and 53 and 42 by line.
 -- Assumes nothing.
-use mathlib.Core.Path.{◌≡◌, ap, ap₂, ◌∙◌}
-use mathlib.Core.Bool.{Bool}
+use mathlib.Core.Path.{◌≡◌, refl, ap, ap₂, ◌∙◌}
+use mathlib.Core.Bool.{Bool, true, false}
 use mathlib.Core.List.{List}
 use Prim.Native.Nat.{ℕ, ◌+◌, ◌*◌, ◌/◌, ◌%◌, ◌<◌}
 use native.Mathlib.Numerals.{add-one}
@@ -26,17 +26,17 @@ use Rattle.sheet.specs.declared.Sources.{Sources}
 use Rattle.scenario.specs.Scenario.{no_receptor}
 use Rattle.lists.specs.Lists.{chained}
 use Rattle.sheet.specs.Sheet.{pathway_at}
-use Rattle.sheet.specs.Inner.{no_source, source_at, columns_of, mean_at, figures_from, figure_for, figures_worked, source_columns, columns_worked, fault_at, faulty_line, faulty_chemical, faulty_worked, per_receptor, all_faulty}
+use Rattle.sheet.specs.Inner.{no_source, source_at, columns_of, mean_at, figures_from, figure_for, figures_worked, source_columns, columns_worked, is_large, is_broken, fault_at, faulty_line, faulty_chemical, faulty_worked, per_receptor, all_faulty}
 use Rattle.cases.proofs.FirstMet.{goes_on, stops}
 
 -- A chemical's line, as it is worked from what its receptor's lines share.
 module _ (site' : Site) (j : ℕ) (r : Values) (source : Source) (blank : Media) (here : j < length source.means) (h : Shared) (p : ℕ) (w : Pathway) (figured' : Figured) (own : h ≡ habits_of site'.guidance r) (way : w ≡ pathway_at p)
-    (worked : figured' ≡ figures_with h w site'.values source.absorbed r source.media (get_or source.means j blank) source.water source.references) where
+    (worked : figured' ≡ figures_with h w site'.values source.absorbed r source.media (get_or source.means j blank) source.references) where
   figures_are : figured' ≡ figures_from site' j r source (pathway_at p)
   unfolding figures_from mean_at
   figures_are =
       worked
-      ∙ ap₂ (λ (x : Shared) (m : Media). figures_with x w site'.values source.absorbed r source.media m source.water source.references) own (read_any source.means j here blank no_media)
+      ∙ ap₂ (λ (x : Shared) (m : Media). figures_with x w site'.values source.absorbed r source.media m source.references) own (read_any source.means j here blank no_media)
       ∙ ap (figures_from site' j r source) way
 
   pub fault_is : (capped : Bool) (l : ℕ) (s : Status) → s ≡ first (fault_at capped figured' l) → s ≡ first (fault_at capped (figures_from site' j r source (pathway_at p)) l)

@@ -11,17 +11,16 @@ use Rattle.slots.specs.declared.Guidance.{Guidance}
 use Rattle.slots.specs.declared.Guidance.TheVariants.{Of2005, Of2009}
 use Rattle.slots.specs.Slots.{Slot, table, same, is_in, place_in, owner_of, place_of}
 use Rattle.equations.specs.declared.Pathway.{Pathway}
-use Rattle.equations.specs.declared.Pathway.TheVariants.{Air, Bathing}
+use Rattle.equations.specs.declared.Pathway.TheVariants.{Air}
 use Rattle.equations.specs.declared.Effect.{Effect}
 use Rattle.equations.specs.declared.Effect.TheVariants.{Hazard, Cancer}
 use Rattle.equations.specs.declared.Values.{Values}
 use Rattle.equations.specs.declared.Stay.{Stay}
-use Rattle.equations.specs.Formula.{Formula, ◌⊗◌, read, pairs}
-use Rattle.equations.specs.Letters.{Cw}
+use Rattle.equations.specs.Formula.{Formula, read, pairs}
 use Rattle.equations.specs.Page as page
 use Rattle.equations.specs.Page.{by_route, by_medium, figure_by, air_figure_by, reference_slot}
 use Rattle.equations.specs.Ahead.{of_two, only, a_slot}
-use Rattle.equations.proofs.Guided.{by_medium_lem, by_way_lem, by_route_lem, on_route, routed}
+use Rattle.equations.proofs.Guided.{by_medium_lem, by_route_lem, on_route, routed}
 use Rattle.equations.proofs.Pathways.{pathways, passes, on_each, on_line}
 use Rattle.equations.proofs.AheadLaws.{plain_worked}
 use Rattle.equations.specs.Readings.{Inputs, letters, no_growth, plain_with, plain, as_answers, worked, by_owner, inputs}
@@ -30,11 +29,12 @@ use Rattle.media.specs.declared.Media.{Media}
 use Rattle.media.specs.declared.Ground.{Ground}
 use Rattle.media.specs.Media.{media_inputs, media_in, ground_of, mean_media, no_media}
 use Rattle.media.proofs.Means.{Told, four_told, ground_highest, mean_media_lem}
-use Rattle.water.specs.Water.{water_of}
+use Rattle.pathway.specs.declared.Factor.{Factor}
 use Rattle.pathway.specs.declared.Dose.{Dose}
 use Rattle.pathway.specs.declared.References.{References}
-use Rattle.pathway.specs.Lines.{Optional, some, none, Figured, worked_for, worked_of, figure_of, rfd_value, csf_value, as_rfd, as_csf, references_from, rfc_value, unit_risk_value, as_rfc, as_unit_risk, time_share_of, air_exposure_of, in_air_of, air_figure_of, air_figures_with, breathed_by, absorbed_of, habits_of, dose_figures_with, figures_by, figures_with}
-use Rattle.pathway.proofs.HabitLaws.{medium_in, dose_for, own_dose, dose_pair}
+use Rattle.pathway.specs.Lines.{Optional, some, none, Figured, worked_for, worked_of, factor_of, dose_for, figure_of, rfd_value, csf_value, as_rfd, as_csf, references_from, rfc_value, unit_risk_value, as_rfc, as_unit_risk, time_share_of, air_exposure_of, in_air_of, air_figure_of, air_figures_with, breathed_by, absorbed_of, habits_of, dose_figures_with, figures_by, figures_with}
+use Rattle.pathway.proofs.Carried.{pair_back}
+use Rattle.pathway.proofs.HabitLaws.{own_factor, medium_in, dose_pair}
 use Rattle.pathway.proofs.AirLaws.{time_share_alike, air_figure_page}
 use Rattle.cases.specs.declared.Record.{Record}
 use Rattle.cases.specs.declared.Value.{Value}
@@ -110,18 +110,14 @@ module _ (scenario : Scenario) (j i : ℕ) (ground : Ground) (laid : ground_for 
   unfolding media_in
   media_told e = four_told _ _ _ _ (media_by e ground.highest mean) (media_page e)
 
-  water_told : worked (pairs_at scenario j i) Cw ≡ is (water_of C).conc.0
-  unfolding worked read letters as_answers pairs_at water_of inputs by_owner owner_of place_of table same is_in place_in C
-  water_told = refl
-
-  medium_told : (e : Effect) (p : Pathway) → worked (pairs_at scenario j i) (page.medium e (stay_in scenario j) p) ≡ is (medium_in p (media_by e ground.highest mean) C)
+  medium_told : (e : Effect) (p : Pathway) → worked (pairs_at scenario j i) (page.medium e (stay_in scenario j) p) ≡ is (medium_in p (media_by e ground.highest mean))
   unfolding page.medium medium_in
   medium_told e p =
-      by_medium_lem (λ q (f : Formula) (c : Pair). worked (pairs_at scenario j i) f ≡ is c) (media_told e).air p (media_told e).soil (media_told e).above (media_told e).below water_told
+      by_medium_lem (λ q (f : Formula) (c : Pair). worked (pairs_at scenario j i) f ≡ is c) (media_told e).air p (media_told e).soil (media_told e).above (media_told e).below
 
--- ---- the factors, and what a bather's skin takes up, in which neither a series nor a difference stands
+-- ---- the factors, in which neither a series nor a difference stands
 factor_slots : (e : Effect) (stay : Stay) (p : Pathway) → only (a_slot (λ n. true)) (page.factor e p) ≡ true
-unfolding passes pathways on_each only a_slot page.factor page.exposure page.flux page.B page.AT
+unfolding passes pathways on_each only a_slot page.factor page.exposure page.B page.AT
 factor_slots = on_line (λ e stay p. only (a_slot (λ n. true)) (page.factor e p)) refl
 
 factor_read : (e : Effect) (p : Pathway) (scenario : Scenario) (j i : ℕ) →
@@ -129,24 +125,19 @@ factor_read : (e : Effect) (p : Pathway) (scenario : Scenario) (j i : ℕ) →
 unfolding worked_for pairs_at
 factor_read e p scenario j i = plain_worked (pairs_at scenario j i) (page.factor e p) (factor_slots e (stay_in scenario j) p)
 
-bathed_read : (e : Effect) (scenario : Scenario) (j i : ℕ) →
-    worked_for (values_of scenario.site) (values_of (chemical_in scenario i)) (receptor_in scenario j).values (page.bathed e) ≡ worked (pairs_at scenario j i) (page.bathed e)
-unfolding page.factor page.bathed
-bathed_read e scenario j i = factor_read e Bathing scenario j i
-
 -- ---- a dose
 -- the dose as a pair is the page's intake
-module _ (scenario : Scenario) (j i : ℕ) (e : Effect) (p : Pathway) (m : Media) (medium-is : worked (pairs_at scenario j i) (page.medium e (stay_in scenario j) p) ≡ is (medium_in p m (values_of (chemical_in scenario i)))) where
-  factored_is : after product (worked_for (values_of scenario.site) (values_of (chemical_in scenario i)) (receptor_in scenario j).values (page.factor e p)) (is (medium_in p m (values_of (chemical_in scenario i))))
-      ≡ worked (pairs_at scenario j i) (page.factor e p ⊗ page.medium e (stay_in scenario j) p)
-  unfolding worked read pairs
-  factored_is = ap₂ (after product) (factor_read e p scenario j i) (sym medium-is)
+module _ (scenario : Scenario) (j i : ℕ) (e : Effect) (p : Pathway) (m : Media) (medium-is : worked (pairs_at scenario j i) (page.medium e (stay_in scenario j) p) ≡ is (medium_in p m)) where
+  factor : Outcome Factor
+  factor = factor_of e p (values_of scenario.site) (values_of (chemical_in scenario i)) (receptor_in scenario j).values
 
-  dose_is : mapped (λ (g : Dose). g.0) (dose_for e p (values_of scenario.site) (values_of (chemical_in scenario i)) (receptor_in scenario j).values m) ≡ worked (pairs_at scenario j i) (page.intake e (stay_in scenario j) p)
-  unfolding page.intake
+  dose_is : mapped (λ (g : Dose). g.0) (dose_for p factor m) ≡ worked (pairs_at scenario j i) (page.intake e (stay_in scenario j) p)
+  unfolding factor factor_of page.intake worked read pairs
   dose_is =
-      dose_pair e p (values_of scenario.site) (values_of (chemical_in scenario i)) (receptor_in scenario j).values m
-      ∙ by_way_lem (λ q (o : Outcome Pair) (f : Formula). o ≡ worked (pairs_at scenario j i) f) (bathed_read e scenario j i) p (λ f. factored_is)
+      dose_pair p factor m
+      ∙ ap (λ (o : Outcome Pair). after product o (is (medium_in p m)))
+      (pair_back (λ (g : Factor). g.0) (λ (q : Pair). record { 0 = q }) (λ q. refl) (worked_for (values_of scenario.site) (values_of (chemical_in scenario i)) (receptor_in scenario j).values (page.factor e p)) ∙ factor_read e p scenario j i)
+      ∙ ap (λ (o : Outcome Pair). after product (worked (pairs_at scenario j i) (page.factor e p)) o) (sym medium-is)
 
 -- ---- a figure
 line_by : (e : Effect) (stay : Stay) (p : Pathway) (v : Inputs Pair) → worked v (page.intake_line e stay p) ≡ of_two (figure_by e) (worked v (page.intake e stay p)) (is (v.value (reference_slot e p)))
@@ -186,13 +177,13 @@ reference_source Cancer p = on_route (λ (s : Slot). OfSource (owner_of s)) p "C
 
 -- the figure of an intake's line from its dose and what is printed for its reference value
 figure_for_lem : (y : Guidance) (e : Effect) (p : Pathway) (s c r : Values) (m n : Media) (chemical : Record) →
-    figure_for e (dose_figures_with (habits_of y r) p s (absorbed_of c) r m n (water_of c) (references_of chemical)) ≡ figure_of e (dose_for e p s c r (media_by e m n)) (optional (reference_at e p chemical))
+    figure_for e (dose_figures_with (habits_of y r) p s (absorbed_of c) r m n (references_of chemical)) ≡ figure_of e (dose_for p (factor_of e p s c r) (media_by e m n)) (optional (reference_at e p chemical))
 unfolding figure_for dose_figures_with references_of references_from reference_at media_by
 figure_for_lem y Hazard p s c r m n chemical =
-    ap₂ (λ (d : Outcome Dose) (v : Optional Pair). figure_of Hazard d v) (own_dose y Hazard p s c r m)
+    ap₂ (λ (f : Outcome Factor) (v : Optional Pair). figure_of Hazard (dose_for p f m) v) (own_factor y Hazard p s c r)
     (ap rfd_value (sym (routed (λ v. as_rfd (printed_as v)) p (value_at chemical (place_of "RfDi")) (value_at chemical (place_of "RfDo")))) ∙ rfd_optional (reference_at Hazard p chemical))
 figure_for_lem y Cancer p s c r m n chemical =
-    ap₂ (λ (d : Outcome Dose) (v : Optional Pair). figure_of Cancer d v) (own_dose y Cancer p s c r n)
+    ap₂ (λ (f : Outcome Factor) (v : Optional Pair). figure_of Cancer (dose_for p f n) v) (own_factor y Cancer p s c r)
     (ap csf_value (sym (routed (λ v. as_csf (printed_as v)) p (value_at chemical (place_of "CSFi")) (value_at chemical (place_of "CSFo")))) ∙ csf_optional (reference_at Cancer p chemical))
 
 -- its columns and its cap
@@ -275,16 +266,16 @@ module _ (scenario : Scenario) (j i : ℕ) (e : Effect) (ground : Ground) (laid 
   -- of an intake
   module _ (y : Guidance) (p : Pathway) where
     dosed : Figured
-    dosed = dose_figures_with (habits_of y receptor') p site' (absorbed_of chemical') receptor' ground.highest mean (water_of chemical') references'
+    dosed = dose_figures_with (habits_of y receptor') p site' (absorbed_of chemical') receptor' ground.highest mean references'
 
     dose : Outcome Dose
-    dose = dose_for e p site' chemical' receptor' (media_by e ground.highest mean)
+    dose = dose_for p (factor_of e p site' chemical' receptor') (media_by e ground.highest mean)
 
     value : Value
     value = given_in scenario i (reference_slot e p)
 
     intake_is : mapped (λ (g : Dose). g.0) dose ≡ worked (pairs_at scenario j i) (page.intake e (stay_in scenario j) p)
-    unfolding dose site' chemical' receptor' C
+    unfolding dose factor site' chemical' receptor'
     intake_is = dose_is scenario j i e p (media_by e ground.highest mean) (medium_told scenario j i ground laid mean mean_is e p)
 
     figure_is : of_two (figure_by e) (mapped (λ (g : Dose). g.0) dose) (is (pair_of value)) ≡ worked (pairs_at scenario j i) (page.intake_line e (stay_in scenario j) p)
@@ -346,7 +337,7 @@ module _ (scenario : Scenario) (j i : ℕ) (e : Effect) (ground : Ground) (laid 
 
   -- by the year's guidance
   year_agrees : (y : Guidance) (p : Pathway) → Agrees scenario j i e p
-      (figures_with (habits_of y receptor') p site' (absorbed_of chemical') receptor' ground.highest mean (water_of chemical') references') (page.line y e (stay_in scenario j) p)
+      (figures_with (habits_of y receptor') p site' (absorbed_of chemical') receptor' ground.highest mean references') (page.line y e (stay_in scenario j) p)
   unfolding figures_with figures_by habits_of breathed_by page.line page.by_guidance dosed in_air air
   year_agrees Of2005 p = intake_agrees Of2005 p
   year_agrees Of2009 p = by_route_lem (Agrees scenario j i e) air_agrees p (intake_agrees Of2009 p)
@@ -361,22 +352,22 @@ module _ (scenario : Scenario) (j i : ℕ) (p : Pathway) (here : j < scenario.re
   source : Source
   source = source_of (values_of scenario.site) scenario.receptors (chemical_in scenario i)
 
-  source_is : source ≡ source_with (chemical_in scenario i) has.ground.highest (means_of (values_of scenario.site) (values_of (chemical_in scenario i)) scenario.receptors has.ground) (water_of (values_of (chemical_in scenario i)))
+  source_is : source ≡ source_with (chemical_in scenario i) has.ground.highest (means_of (values_of scenario.site) (values_of (chemical_in scenario i)) scenario.receptors has.ground)
   unfolding source source_of source_from ground_with ground_for
   source_is = ap (source_from (values_of scenario.site) (chemical_in scenario i) scenario.receptors) has.laid
 
-  mean_at_lem : mean_at (source_with (chemical_in scenario i) has.ground.highest (means_of (values_of scenario.site) (values_of (chemical_in scenario i)) scenario.receptors has.ground) (water_of (values_of (chemical_in scenario i)))) j ≡ mean
+  mean_at_lem : mean_at (source_with (chemical_in scenario i) has.ground.highest (means_of (values_of scenario.site) (values_of (chemical_in scenario i)) scenario.receptors has.ground)) j ≡ mean
   unfolding mean_at source_with means_of mean mean_for receptor_in
   mean_at_lem =
       filled_at (λ k. media_from (mean_with (values_of scenario.site) (values_of (chemical_in scenario i)) (get_or scenario.receptors.list k no_receptor) has.ground)) no_media
       scenario.receptors.count (replicate (most_receptors - scenario.receptors.count) no_media) j here
 
   figures_are : figures_from (site_of scenario.site) j (receptor_in scenario j).values source p
-      ≡ figures_with (habits_of (guidance_in scenario) (receptor_in scenario j).values) p (values_of scenario.site) (absorbed_of (values_of (chemical_in scenario i))) (receptor_in scenario j).values has.ground.highest mean (water_of (values_of (chemical_in scenario i))) (references_of (chemical_in scenario i))
+      ≡ figures_with (habits_of (guidance_in scenario) (receptor_in scenario j).values) p (values_of scenario.site) (absorbed_of (values_of (chemical_in scenario i))) (receptor_in scenario j).values has.ground.highest mean (references_of (chemical_in scenario i))
   unfolding figures_from site_of guidance_in source_with
   figures_are =
       ap (λ (s : Source). figures_from (site_of scenario.site) j (receptor_in scenario j).values s p) source_is
-      ∙ ap (λ (m : Media). figures_with (habits_of (guidance_in scenario) (receptor_in scenario j).values) p (values_of scenario.site) (absorbed_of (values_of (chemical_in scenario i))) (receptor_in scenario j).values has.ground.highest m (water_of (values_of (chemical_in scenario i))) (references_of (chemical_in scenario i))) mean_at_lem
+      ∙ ap (λ (m : Media). figures_with (habits_of (guidance_in scenario) (receptor_in scenario j).values) p (values_of scenario.site) (absorbed_of (values_of (chemical_in scenario i))) (receptor_in scenario j).values has.ground.highest m (references_of (chemical_in scenario i))) mean_at_lem
 
   line_agrees : Agrees scenario j i e p (figures_from (site_of scenario.site) j (receptor_in scenario j).values source p) (page.line (guidance_in scenario) e (stay_in scenario j) p)
   unfolding site' chemical' receptor' references' mean

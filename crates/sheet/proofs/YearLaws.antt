@@ -40,7 +40,7 @@ abbrev pub year_blank : Scenario → Scenario
 year_blank s = scenario_from (clear_year s.site) s.chemicals s.receptors
 
 -- ---- the year's slot is the only one at its place of the site
-of_site : (a b : Bool) → cond a Site (cond b Receptor Chemical) ≡ Site → a ≡ true
+of_site : (a b : Bool) → cond a Site (cond b Chemical Receptor) ≡ Site → a ≡ true
 of_site true b h = refl
 of_site false true h = cc
 of_site false false h = cc
@@ -48,7 +48,7 @@ of_site false false h = cc
 elsewhere : (s : Slot) → the_year s ≡ false → owner_of s ≡ Site → place_of s ≡ place_of "year" → ⊥
 unfolding the_year owner_of place_of place_in is_in same table name_of
 elsewhere s h o e =
-    let found : is_in (table Site) s ≡ true = of_site (is_in (table Site) s) (is_in (table Receptor) s) o in
+    let found : is_in (table Site) s ≡ true = of_site (is_in (table Site) s) (is_in (table Chemical) s) o in
     let place : place_in (table Site) s ≡ place_of "year" = ap (λ (w : Owner). place_in (table w) s) (sym o) ∙ e in
     false≢true (sym h ∙ subst (λ (k : ℕ). same (get_or (map name_of (table Site)) k "") s ≡ true) place (spelled (table Site) s found))
 

@@ -1,6 +1,6 @@
 -- For the contracts of this crate's inner functions only: the counts as they are worked, each chemical once, then each receptor's lines from
 -- the chemicals' sources. proofs/ shows that they are those of Counts.antt, of which alone the calls speak.
-use Rattle.std.specs.Prelude.{◌≡◌, ℕ, suc, ◌+◌, ◌*◌, ◌-◌, ◌/◌, ◌%◌, ◌<◌, Bool, false, ◌&&◌, ◌||◌, List, [], ◌∷◌, ◌++◌, ◌≢◌, get_or, set, replicate}
+use Rattle.std.specs.Prelude.{◌≡◌, ℕ, suc, ◌+◌, ◌*◌, ◌-◌, ◌/◌, ◌%◌, ◌<◌, Bool, true, false, ◌&&◌, ◌||◌, List, [], ◌∷◌, ◌++◌, ◌≢◌, get_or, set, replicate}
 use Rattle.pair.specs.declared.Pair.{Pair}
 use Rattle.pair.specs.Calls.{Outcome, is, refused}
 use Rattle.slots.specs.Slots.{place_of}
@@ -14,8 +14,6 @@ use Rattle.equations.specs.declared.Values.{Values}
 use Rattle.media.specs.declared.Media.{Media}
 use Rattle.media.specs.declared.Ground.{Ground}
 use Rattle.media.specs.Media.{media_inputs, ground_of, no_media}
-use Rattle.water.specs.declared.Water.{Water}
-use Rattle.water.specs.Water.{water_of, no_water}
 use Rattle.pathway.specs.declared.Printed.{Printed}
 use Rattle.pathway.specs.declared.Printed.TheVariants as Prints
 use Rattle.pathway.specs.declared.References.{References}
@@ -39,7 +37,7 @@ use Rattle.scenario.specs.Scenario.{Scenario, pair_of, values_of, particles_of, 
 use Rattle.sheet.specs.Sheet.{pathway_at, unit_of, cap_of, counted_in, high_above, over_cap, report_line, line_refused, over_lines, refused_lines, large_lines}
 use Rattle.sheet.specs.Counts.{Part, Mark, Low, High, cell_of, side_of, effect_cells, receptor_cells, mean_with, stops_at, unmade}
 
--- for each of 4 receptors at most eight lines for each of 16 chemicals, and a total line: 516
+-- for each of 4 receptors at most six lines for each of 16 chemicals, and a total line: 388
 abbrev pub max_rows : ℕ
 max_rows = most_receptors * (most_lines + 1)
 
@@ -79,19 +77,19 @@ unfoldable pub references_of : Record → References
 references_of r =
     references_from (printed_as (value_at r (place_of "RfDo"))) (printed_as (value_at r (place_of "RfDi"))) (printed_as (value_at r (place_of "CSFo"))) (printed_as (value_at r (place_of "CSFi")))
 
-unfoldable pub source_with : Record → Media → List Media → Water → Source
-source_with chemical' highest means' water' = record { absorbed = absorbed_of (values_of chemical'); media = highest; means = means'; water = water'; references = references_of chemical' }
+unfoldable pub source_with : Record → Media → List Media → Source
+source_with chemical' highest means' = record { absorbed = absorbed_of (values_of chemical'); media = highest; means = means'; references = references_of chemical' }
 
 unfoldable pub source_from : Values → Record → Receptors → Outcome Ground → Source
-source_from site' chemical' receptors' (is ground) = source_with chemical' ground.highest (means_of site' (values_of chemical') receptors' ground) (water_of (values_of chemical'))
-source_from site' chemical' receptors' (refused n) = source_with chemical' no_media no_means no_water
+source_from site' chemical' receptors' (is ground) = source_with chemical' ground.highest (means_of site' (values_of chemical') receptors' ground)
+source_from site' chemical' receptors' (refused n) = source_with chemical' no_media no_means
 
 unfoldable pub source_of : Values → Receptors → Record → Source
 source_of site' receptors' chemical' = source_from site' chemical' receptors' (ground_with site' chemical')
 
 -- what stands where there is no chemical
 unfoldable pub no_source : Source
-no_source = source_with no_record no_media no_means no_water
+no_source = source_with no_record no_media no_means
 
 unfoldable pub sources_of : Values → Receptors → Chemicals → Sources
 sources_of site' receptors' chemicals' =
@@ -116,7 +114,7 @@ unfoldable pub mean_at : Source → ℕ → Media
 mean_at s j = get_or s.means j no_media
 
 unfoldable pub figures_from : Site → ℕ → Values → Source → Pathway → Figured
-figures_from site' j r s p = figures_with (habits_of site'.guidance r) p site'.values s.absorbed r s.media (mean_at s j) s.water s.references
+figures_from site' j r s p = figures_with (habits_of site'.guidance r) p site'.values s.absorbed r s.media (mean_at s j) s.references
 
 unfoldable pub figure_for : Effect → Figured → Outcome (Optional Pair)
 figure_for Hazard f = f.hazard

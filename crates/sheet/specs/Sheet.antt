@@ -7,7 +7,7 @@ use Rattle.pair.specs.declared.Units.{Units}
 use Rattle.pair.specs.Number.{is_pair, one}
 use Rattle.pair.specs.Calls.{Outcome, is, refused, compared, written, in_units}
 use Rattle.equations.specs.declared.Pathway.{Pathway}
-use Rattle.equations.specs.declared.Pathway.TheVariants.{Air, SoilSummer, SoilWinter, Skin, AboveGround, BelowGround, Drinking, Bathing}
+use Rattle.equations.specs.declared.Pathway.TheVariants.{Air, SoilSummer, SoilWinter, Skin, AboveGround, BelowGround}
 use Rattle.equations.specs.declared.Effect.{Effect}
 use Rattle.equations.specs.declared.Effect.TheVariants.{Hazard, Cancer}
 use Rattle.equations.specs.Page.{line, reference_slot}
@@ -28,9 +28,7 @@ pathway_at (suc zero) = SoilSummer
 pathway_at (suc (suc zero)) = SoilWinter
 pathway_at (suc (suc (suc zero))) = Skin
 pathway_at (suc (suc (suc (suc zero)))) = AboveGround
-pathway_at (suc (suc (suc (suc (suc zero))))) = BelowGround
-pathway_at (suc (suc (suc (suc (suc (suc zero)))))) = Drinking
-pathway_at (suc (suc (suc (suc (suc (suc (suc n))))))) = Bathing
+pathway_at (suc (suc (suc (suc (suc n))))) = BelowGround
 
 unfoldable pub is_given : Value → Bool
 is_given Absent = false

@@ -21,7 +21,6 @@ use pathway::{Absorbed, Printed, absorbed_of, references_from};
 use scenario::{Receptor, Receptors, particles_of, values_of};
 use sizes::{MAX_CHEMICALS, MAX_RECEPTORS};
 use slots::{Owner, Sort, T2};
-use water::{Water, water_of};
 
 // The media of each receptor's cancer, or that those of one are refused.
 #[derive(Drop)]
@@ -50,7 +49,6 @@ fn no_source() -> Source
         },
         media: Media::none(),
         means: [Media::none(); MAX_RECEPTORS],
-        water: Water::none(),
         references,
     }
 }
@@ -123,7 +121,6 @@ fn source_from(
             absorbed: absorbed_of(values),
             media: highest,
             means,
-            water: water_of(values),
             references: references_of(chemical),
         },
     }

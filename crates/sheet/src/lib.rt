@@ -23,9 +23,8 @@ use scenario::{Receptors, has_no_guidance, scenario_verdict, site_of, unpaired_i
 use sizes::{MAX_CHEMICALS, MAX_RECEPTORS, MOST_LINES};
 use slots::{Owner, Sort};
 use totals::Columns;
-use water::Water;
 
-// The counts of a scenario's lines stand in cells. An effect has three columns of 128 cells: 1 for each line that has counts, the low and the
+// The counts of a scenario's lines stand in cells. An effect has three columns of 96 cells: 1 for each line that has counts, the low and the
 // high counts; all three are 0 where the line has -, and where there is none. A receptor has hazard's columns, then cancer's.
 pub const EFFECT_CELLS: usize = 3 * MOST_LINES;
 
@@ -34,13 +33,12 @@ pub const RECEPTOR_CELLS: usize = 2 * EFFECT_CELLS;
 pub const CELLS: usize = MAX_RECEPTORS * RECEPTOR_CELLS;
 
 // What a chemical's lines take, for every receptor: the shares absorbed, what it leaves in the media, hazard's and each receptor's for
-// cancer, its water and its reference values.
+// cancer, and its reference values.
 #[derive(Drop)]
 pub struct Source {
     pub absorbed: Absorbed,
     pub media: Media,
     pub means: [Media; MAX_RECEPTORS],
-    pub water: Water,
     pub references: References,
 }
 

@@ -31,9 +31,7 @@ fn pathway_at(p: usize) -> Pathway
         2 => Pathway::SoilWinter,
         3 => Pathway::Skin,
         4 => Pathway::AboveGround,
-        5 => Pathway::BelowGround,
-        6 => Pathway::Drinking,
-        _ => Pathway::Bathing,
+        _ => Pathway::BelowGround,
     }
 }
 
@@ -130,7 +128,6 @@ fn put_chemical(
     while p < PATHWAYS {
         let next = p + 1;
         let references = source.references;
-        let water = source.water;
         let line = figures_with(
             habits,
             pathway_at(p),
@@ -139,7 +136,6 @@ fn put_chemical(
             receptor,
             source.media,
             mean,
-            water,
             references,
         );
         let status = fault_at(capped, line, before + next);

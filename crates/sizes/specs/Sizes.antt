@@ -11,7 +11,7 @@ abbrev pub site_lines : ℕ
 site_lines = 2
 
 abbrev pub record_lines : ℕ
-record_lines = 5
+record_lines = 4
 
 -- slots of a record, filled line by line
 abbrev pub slots_per_record : ℕ
@@ -29,7 +29,7 @@ most_stages = 8
 
 -- pathways of a chemical
 abbrev pub pathways_per_chemical : ℕ
-pathways_per_chemical = 8
+pathways_per_chemical = 6
 
 -- a receptor's lines but its total line, at most: so many numbers a total adds
 abbrev pub most_lines : ℕ

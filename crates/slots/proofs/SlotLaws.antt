@@ -18,7 +18,7 @@ use Rattle.slots.specs.declared.Owner.TheVariants.{Site, Chemical, Receptor}
 use Rattle.slots.specs.declared.Rule.{Rule}
 use Rattle.slots.specs.declared.Sort.{Sort}
 use Rattle.slots.specs.declared.Sort.TheVariants.{Ordinary, Composite}
-use Rattle.slots.specs.Slots.{Entry, ◌is◌, ◌in_ordinary◌, ◌in_composite◌, left_blank, Slot, unused, table, same, is_in, place_in, entry_rule, rule_in, rule_at, line_rules, owner_of, place_of, rule_of, rule_for}
+use Rattle.slots.specs.Slots.{Entry, ◌is◌, ◌in_ordinary◌, ◌in_composite◌, Slot, unused, table, same, is_in, place_in, entry_rule, rule_in, rule_at, line_rules, owner_of, place_of, rule_of, rule_for}
 
 -- past the table's end
 pub later_rule : (sort : Sort) (o : Owner) (k : ℕ) → length (map (rule_in sort) (table o)) ≤ k → rule_at sort o k ≡ unused
@@ -62,7 +62,6 @@ place_most [] s = le_refl 0
 place_most ((name is rule) ∷ es) s = most_of (same name s) (place_in es s) (length es) (place_most es s)
 place_most ((name in_ordinary rule) ∷ es) s = most_of (same name s) (place_in es s) (length es) (place_most es s)
 place_most ((name in_composite rule) ∷ es) s = most_of (same name s) (place_in es s) (length es) (place_most es s)
-place_most (left_blank ∷ es) s = omega (arith, place_most es s)
 
 below_of : (t u : Bool) (p n : ℕ) → (u ≡ true → p < n) → cond t true u ≡ true → cond t 0 (suc p) < suc n
 below_of true u p n l h = omega arith
@@ -74,14 +73,12 @@ place_below [] s h = absurd (false≢true h)
 place_below ((name is rule) ∷ es) s h = below_of (same name s) (is_in es s) (place_in es s) (length es) (place_below es s) h
 place_below ((name in_ordinary rule) ∷ es) s h = below_of (same name s) (is_in es s) (place_in es s) (length es) (place_below es s) h
 place_below ((name in_composite rule) ∷ es) s h = below_of (same name s) (is_in es s) (place_in es s) (length es) (place_below es s) h
-place_below (left_blank ∷ es) s h = omega (arith, place_below es s h)
 
--- the name of an entry; a place that stays blank has none
+-- the name of an entry
 unfoldable pub name_of : Entry → Slot
 name_of (name is rule) = name
 name_of (name in_ordinary rule) = name
 name_of (name in_composite rule) = name
-name_of left_blank = ""
 
 -- a slot that is in a list is spelled as the entry at its place
 spelled_by : (name : Slot) (es : List Entry) (s : Slot) → (is_in es s ≡ true → same (get_or (map name_of es) (place_in es s) "") s ≡ true) →
@@ -95,24 +92,23 @@ spelled [] s h = absurd (false≢true h)
 spelled ((name is rule) ∷ es) s h = spelled_by name es s (spelled es s) (same name s) refl h
 spelled ((name in_ordinary rule) ∷ es) s h = spelled_by name es s (spelled es s) (same name s) refl h
 spelled ((name in_composite rule) ∷ es) s h = spelled_by name es s (spelled es s) (same name s) refl h
-spelled (left_blank ∷ es) s h = spelled es s h
 
--- a site's slot lies in its two lines, any other in its record's
+-- a site's slot lies in its two lines, any other in its four
 unfoldable pub places : Owner → ℕ
 places Site = fields_per_line * site_lines
 places Chemical = slots_per_record
 places Receptor = slots_per_record
 
-inside_from : (s : Slot) (a b : Bool) → is_in (table Site) s ≡ a → is_in (table Receptor) s ≡ b →
-    place_in (table (cond a Site (cond b Receptor Chemical))) s < places (cond a Site (cond b Receptor Chemical))
+inside_from : (s : Slot) (a b : Bool) → is_in (table Site) s ≡ a → is_in (table Chemical) s ≡ b →
+    place_in (table (cond a Site (cond b Chemical Receptor))) s < places (cond a Site (cond b Chemical Receptor))
 unfolding places table
 inside_from s true b p q = omega (arith, place_below (table Site) s p)
-inside_from s false true p q = omega (arith, place_below (table Receptor) s q)
-inside_from s false false p q = omega (arith, place_most (table Chemical) s)
+inside_from s false true p q = omega (arith, place_below (table Chemical) s q)
+inside_from s false false p q = omega (arith, place_most (table Receptor) s)
 
 pub inside : (s : Slot) → place_of s < places (owner_of s)
 unfolding place_of owner_of
-inside s = inside_from s (is_in (table Site) s) (is_in (table Receptor) s) refl refl
+inside s = inside_from s (is_in (table Site) s) (is_in (table Chemical) s) refl refl
 
 -- no rule allows more than 1E+9
 few : List Rule → Bool
@@ -151,7 +147,6 @@ entry_cases Ordinary (name in_ordinary rule) = inl refl
 entry_cases Composite (name in_ordinary rule) = inr refl
 entry_cases Ordinary (name in_composite rule) = inr refl
 entry_cases Composite (name in_composite rule) = inl refl
-entry_cases sort left_blank = inl refl
 
 list_cases : (sort : Sort) (es : List Entry) (k : ℕ) →
     (get_or (map (rule_in sort) es) k unused ≡ get_or (map entry_rule es) k unused) ⊎ (get_or (map (rule_in sort) es) k unused ≡ unused)

@@ -55,8 +55,7 @@ guidance_year = record { used = true; blank = true; dash = false; zero = false; 
 abbrev pub unused : Rule
 unused = record { used = false; blank = true; dash = false; zero = false; most = 0; year = false }
 
--- a slot of every deck; one of an ordinary deck, in a composite's a later slot; one of a composite's deck, in an ordinary one a later slot; and a
--- place between slots that stays blank, as later slots do
+-- a slot of every deck; one of an ordinary deck, in a composite's a later slot; one of a composite's deck, in an ordinary one a later slot
 infix 95 ◌is◌
 infix 95 ◌in_ordinary◌
 infix 95 ◌in_composite◌
@@ -64,7 +63,6 @@ pub data Entry : Type 0 where
   ◌is◌ : Slot → Rule → Entry
   ◌in_ordinary◌ : Slot → Rule → Entry
   ◌in_composite◌ : Slot → Rule → Entry
-  left_blank : Entry
 
 -- the slots of a record, from its first; what follows them are later slots
 unfoldable pub table : Owner → List Entry
@@ -76,15 +74,13 @@ table Chemical =
     "Q" is amount ∷ "HgA" is share ∷ "HgD" is share ∷ "Fv" is share ∷ "Cyv" is amount ∷ "Cyp" is amount
     ∷ "Dydv" is amount ∷ "Dywv" is amount ∷ "Dydp" is amount ∷ "Dywp" is amount ∷ "Kds" is positive ∷ "ksg" is amount
     ∷ "ksv" is amount ∷ "Br" is amount ∷ "RCF" is amount ∷ "AFinh" is share ∷ "AForal" is share ∷ "AFderm" is share
-    ∷ "RfDo" is reference_value ∷ "RfDi" is reference_value ∷ "CSFo" is slope ∷ "CSFi" is slope ∷ left_blank ∷ left_blank
-    ∷ "Cw" is amount ∷ "Kp" is amount
+    ∷ "RfDo" is reference_value ∷ "RfDi" is reference_value ∷ "CSFo" is slope ∷ "CSFi" is slope
     ∷ []
 table Receptor =
     "BW" is positive ∷ "ED" is positive ∷ "ATc" is positive ∷ "IRinh" is amount ∷ "ETinh" is share ∷ "EFinh" is days
     ∷ "IRsoil" is amount ∷ "ETsoil" is share ∷ "EFs" is days ∷ "EFw" is days ∷ "SAb" is amount ∷ "SAFb" is amount
     ∷ "SAh" is amount ∷ "SAFh" is amount ∷ "ETderm" is share ∷ "IRag" is amount ∷ "Fag" is share ∷ "IRbg" is amount
-    ∷ "Fbg" is share ∷ "WP" is share ∷ "EFp" is days ∷ "T2" in_ordinary positive ∷ "years" in_composite positive ∷ "IRw" is amount
-    ∷ "Fw" is share ∷ "EFd" is days ∷ "SAw" is amount ∷ "events" is amount ∷ "EFb" is days ∷ "hours" is amount
+    ∷ "Fbg" is share ∷ "WP" is share ∷ "EFp" is days ∷ "T2" in_ordinary positive ∷ "years" in_composite positive
     ∷ []
 
 -- two names are spelled alike
@@ -100,21 +96,18 @@ is_in [] s = false
 is_in ((name is rule) ∷ rest) s = cond (same name s) true (is_in rest s)
 is_in ((name in_ordinary rule) ∷ rest) s = cond (same name s) true (is_in rest s)
 is_in ((name in_composite rule) ∷ rest) s = cond (same name s) true (is_in rest s)
-is_in (left_blank ∷ rest) s = is_in rest s
 
 unfoldable pub place_in : List Entry → Slot → ℕ
 place_in [] s = 0
 place_in ((name is rule) ∷ rest) s = cond (same name s) 0 (suc (place_in rest s))
 place_in ((name in_ordinary rule) ∷ rest) s = cond (same name s) 0 (suc (place_in rest s))
 place_in ((name in_composite rule) ∷ rest) s = cond (same name s) 0 (suc (place_in rest s))
-place_in (left_blank ∷ rest) s = suc (place_in rest s)
 
 -- an entry's rule as written, and in a deck of this sort
 unfoldable pub entry_rule : Entry → Rule
 entry_rule (name is rule) = rule
 entry_rule (name in_ordinary rule) = rule
 entry_rule (name in_composite rule) = rule
-entry_rule left_blank = unused
 
 unfoldable pub rule_in : Sort → Entry → Rule
 rule_in sort (name is rule) = rule
@@ -122,7 +115,6 @@ rule_in Ordinary (name in_ordinary rule) = rule
 rule_in Composite (name in_ordinary rule) = unused
 rule_in Ordinary (name in_composite rule) = unused
 rule_in Composite (name in_composite rule) = rule
-rule_in sort left_blank = unused
 
 -- the rule of a record's place, from 0
 unfoldable pub rule_at : Sort → Owner → ℕ → Rule
@@ -134,9 +126,9 @@ line_rules sort o n =
     let k : ℕ = fields_per_line * n in
     rule_at sort o k ∷ rule_at sort o (k + 1) ∷ rule_at sort o (k + 2) ∷ rule_at sort o (k + 3) ∷ rule_at sort o (k + 4) ∷ rule_at sort o (k + 5) ∷ []
 
--- whose slot it is, its place in the record, and its rule as written; a name that no slot has stands for a later slot of a chemical
+-- whose slot it is, its place in the record, and its rule as written
 unfoldable pub owner_of : Slot → Owner
-owner_of s = cond (is_in (table Site) s) Site (cond (is_in (table Receptor) s) Receptor Chemical)
+owner_of s = cond (is_in (table Site) s) Site (cond (is_in (table Chemical) s) Chemical Receptor)
 
 unfoldable pub place_of : Slot → ℕ
 place_of s = place_in (table (owner_of s)) s

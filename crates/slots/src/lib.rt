@@ -120,10 +120,6 @@ pub const CSF_O: usize = 20;
 
 pub const CSF_I: usize = 21;
 
-pub const CW: usize = 24;
-
-pub const KP: usize = 25;
-
 // A receptor's.
 pub const BW: usize = 0;
 
@@ -170,20 +166,6 @@ pub const EF_P: usize = 20;
 pub const T2: usize = 21;
 
 pub const YEARS: usize = 22;
-
-pub const IR_W: usize = 23;
-
-pub const F_W: usize = 24;
-
-pub const EF_D: usize = 25;
-
-pub const SA_W: usize = 26;
-
-pub const EVENTS: usize = 27;
-
-pub const EF_B: usize = 28;
-
-pub const HOURS: usize = 29;
 
 const AMOUNT: Rule = Rule {
     used: true,
@@ -277,18 +259,17 @@ fn chemical_rules(line: usize) -> [Rule; FIELDS]
         1 => [AMOUNT, AMOUNT, AMOUNT, AMOUNT, POSITIVE, AMOUNT],
         2 => [AMOUNT, AMOUNT, AMOUNT, SHARE, SHARE, SHARE],
         3 => [REFERENCE, REFERENCE, SLOPE, SLOPE, UNUSED, UNUSED],
-        4 => [AMOUNT, AMOUNT, UNUSED, UNUSED, UNUSED, UNUSED],
         _ => [UNUSED, UNUSED, UNUSED, UNUSED, UNUSED, UNUSED],
     }
 }
 
 // The only line whose rules differ with the sort.
-fn fourth_rules(sort: Sort) -> [Rule; FIELDS]
+fn last_rules(sort: Sort) -> [Rule; FIELDS]
     ensures { result ≡ line_rules sort Owner.Receptor 3 }
 {
     match sort {
-        Sort::Ordinary => [SHARE, SHARE, DAYS, POSITIVE, UNUSED, AMOUNT],
-        Sort::Composite => [SHARE, SHARE, DAYS, UNUSED, POSITIVE, AMOUNT],
+        Sort::Ordinary => [SHARE, SHARE, DAYS, POSITIVE, UNUSED, UNUSED],
+        Sort::Composite => [SHARE, SHARE, DAYS, UNUSED, POSITIVE, UNUSED],
     }
 }
 
@@ -299,8 +280,7 @@ fn receptor_rules(sort: Sort, line: usize) -> [Rule; FIELDS]
         0 => [POSITIVE, POSITIVE, POSITIVE, AMOUNT, SHARE, DAYS],
         1 => [AMOUNT, SHARE, DAYS, DAYS, AMOUNT, AMOUNT],
         2 => [AMOUNT, AMOUNT, SHARE, AMOUNT, SHARE, AMOUNT],
-        3 => fourth_rules(sort),
-        4 => [SHARE, DAYS, AMOUNT, AMOUNT, DAYS, AMOUNT],
+        3 => last_rules(sort),
         _ => [UNUSED, UNUSED, UNUSED, UNUSED, UNUSED, UNUSED],
     }
 }

@@ -34,6 +34,6 @@ unfoldable pub all_at_most : ℕ → List ℕ → Bool
 all_at_most most [] = true
 all_at_most most (n ∷ ns) = leb n most && all_at_most most ns
 
--- the sum; 52 for more numbers than a receptor has lines, 128, or one above 1E+16
+-- the sum; 52 for more numbers than a receptor has lines, 96, or one above 1E+16
 unfoldable pub total_of : List ℕ → Outcome ℕ
 total_of list = cond (leb (length list) most_lines && all_at_most largest_number list) (is (list_sum list)) (refused 52)

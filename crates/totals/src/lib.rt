@@ -20,7 +20,7 @@ pub enum Sum {
 
 pub const LARGEST_NUMBER: u64 = 10_000_000_000_000_000;
 
-// The sum of the list, or a refusal: more than 128 numbers, or one above 1E+16.
+// The sum of the list, or a refusal: more than 96 numbers, or one above 1E+16.
 pub fn total(list: &[u64]) -> Sum
     ensures { totalled result ≡ total_of list.now }
 {

@@ -83,7 +83,7 @@ pub extern "C" fn zilmorga_composite_read(deck: &[u8], line: &mut usize, field: 
     read_alone(deck, Sort::Composite, line, field)
 }
 
-// The sum of a list of units; 52, and sum as it was, for more than 128 numbers or one above 1E+16.
+// The sum of a list of units; 52, and sum as it was, for more than 96 numbers or one above 1E+16.
 #[unsafe(no_mangle)]
 pub extern "C" fn zilmorga_total(list: &[u64], sum: &mut u64) -> u32
     ensures { left result sum.new ≡ leaves (λ n. n) (total_of list.now) sum.old }

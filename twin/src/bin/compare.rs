@@ -11,7 +11,6 @@
 use std::process::ExitCode;
 use twin::calls::{self, Answer, Raw};
 use twin::decks::{trial, Trial};
-use twin::report::LINE;
 use twin::rng::Rng;
 use twin::vectors::{self, Call, NAMES};
 use twin::{ffi, Outcome, Sort, LONGEST_REPORT};
@@ -76,7 +75,7 @@ impl Bench {
         } else {
             let reports = self.library[..all].iter().zip(&self.twin[..all]);
             let at = reports.clone().position(|(l, t)| l != t);
-            at.map(|at| format!("report byte {} (line {})", at - GUARD + 1, (at - GUARD) / LINE + 1))
+            at.map(|at| format!("report byte {} (line {})", at - GUARD + 1, (at - GUARD) / 95 + 1))
         };
         (twin, gone as u64, differs)
     }

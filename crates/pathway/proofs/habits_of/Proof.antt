@@ -23,12 +23,9 @@ begun-of-requires-2 c κs = search rules
 begun-of-requires-3 : tie.Need-begun-of-requires-3
 begun-of-requires-3 c κs = search rules
 
-begun-of-requires-4 : tie.Need-begun-of-requires-4
-begun-of-requires-4 c κs = search rules
-
 returns : tie.Need-returns
 unfolding shared habits_of
-returns c = rw (c.begun-of4.ensures, c.before.begun-of3.ensures, c.before.before.begun-of2.ensures, c.before.before.before.begun-of.ensures, c.before.before.before.before.base-of2.ensures, c.before.before.before.before.before.base-of.ensures, c.before.before.before.before.before.before.breathing-of.ensures)
+returns c = rw (c.begun-of3.ensures, c.before.begun-of2.ensures, c.before.before.begun-of.ensures, c.before.before.before.base-of2.ensures, c.before.before.before.before.base-of.ensures, c.before.before.before.before.before.breathing-of.ensures)
     refl
 
 pub habits-of-spec : {M : Type 1} → statement M
@@ -41,5 +38,4 @@ habits-of-spec =
     begun-of-requires
     begun-of-requires-2
     begun-of-requires-3
-    begun-of-requires-4
     returns)

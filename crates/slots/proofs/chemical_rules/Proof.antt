@@ -24,12 +24,8 @@ unfolding line_rules rule_at rule_in table
 returns-4 c = λ sort. ap (line_rules sort Chemical) (sym c.match.keys4)
 
 returns-5 : tie.Need-returns-5
-unfolding line_rules rule_at rule_in table
-returns-5 c = λ sort. ap (line_rules sort Chemical) (sym c.match.keys5)
-
-returns-6 : tie.Need-returns-6
 unfolding table
-returns-6 c = λ sort. sym (later_line sort Chemical c.before.args.line (omega (arith, c.match.rest)))
+returns-5 c = λ sort. sym (later_line sort Chemical c.before.args.line (omega (arith, c.match.rest)))
 
 pub chemical-rules-spec : {M : Type 1} → statement M
-chemical-rules-spec = tie.close (tie.spec returns returns-2 returns-3 returns-4 returns-5 returns-6)
+chemical-rules-spec = tie.close (tie.spec returns returns-2 returns-3 returns-4 returns-5)

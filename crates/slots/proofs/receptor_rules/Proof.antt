@@ -8,8 +8,8 @@ use Rattle.slots.proofs.SlotLaws.{later_line}
 use Rattle.slots.proofs.receptor_rules.Statement.{statement}
 use Rattle.slots.proofs.receptor_rules.Tie as tie
 
-fourth-rules-requires : tie.Need-fourth-rules-requires
-fourth-rules-requires c κs = search rules
+last-rules-requires : tie.Need-last-rules-requires
+last-rules-requires c κs = search rules
 
 returns : tie.Need-returns
 unfolding line_rules rule_at rule_in table
@@ -24,15 +24,11 @@ unfolding line_rules rule_at rule_in table
 returns-3 c = ap (line_rules c.before.args.sort Receptor) (sym c.match.keys3)
 
 returns-4 : tie.Need-returns-4
-returns-4 c = c.fourth-rules.ensures ∙ ap (line_rules c.before.before.args.sort Receptor) (sym c.before.match.keys4)
+returns-4 c = c.last-rules.ensures ∙ ap (line_rules c.before.before.args.sort Receptor) (sym c.before.match.keys4)
 
 returns-5 : tie.Need-returns-5
-unfolding line_rules rule_at rule_in table
-returns-5 c = ap (line_rules c.before.args.sort Receptor) (sym c.match.keys5)
-
-returns-6 : tie.Need-returns-6
 unfolding table
-returns-6 c = sym (later_line c.before.args.sort Receptor c.before.args.line (omega (arith, c.match.rest)))
+returns-5 c = sym (later_line c.before.args.sort Receptor c.before.args.line (omega (arith, c.match.rest)))
 
 pub receptor-rules-spec : {M : Type 1} → statement M
-receptor-rules-spec = tie.close (tie.spec fourth-rules-requires returns returns-2 returns-3 returns-4 returns-5 returns-6)
+receptor-rules-spec = tie.close (tie.spec last-rules-requires returns returns-2 returns-3 returns-4 returns-5)

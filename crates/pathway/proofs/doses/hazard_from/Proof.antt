@@ -3,7 +3,7 @@ use mathlib.Core.Path.{refl, sym}
 use borrow.Author.Rules.{rules}
 use Rattle.equations.specs.declared.Effect.TheVariants.{Hazard}
 use Rattle.pair.specs.Calls.{answer, after, mapped}
-use Rattle.pathway.specs.Lines.{figure, rfd_value, factor_with, dose_of, figure_of}
+use Rattle.pathway.specs.Lines.{figure, rfd_value, factor_with, dose_for, figure_of}
 use Rattle.pathway.proofs.Carried.{refused_carried}
 use Rattle.pathway.proofs.doses.hazard_from.Statement.{statement}
 use Rattle.pathway.proofs.doses.hazard_from.Tie as tie
@@ -28,8 +28,11 @@ enum-told-2 : tie.Need-enum-told-2
 enum-told-2 c = search rules
 
 returns-2 : tie.Need-returns-2
-unfolding answer figure after mapped dose_of factor_with rfd_value
+unfolding answer figure after mapped dose_for factor_with rfd_value
 returns-2 c = rw (c.before.before.before.before.rfd.given.1, ← c.before.before.over.ensures, c.enum-told2.given.1) (sym (refused_carried Hazard 53 _))
+
+medium-of-requires : tie.Need-medium-of-requires
+medium-of-requires c κs = search rules
 
 dose-of-requires : tie.Need-dose-of-requires
 dose-of-requires c κs = search rules
@@ -41,15 +44,15 @@ enum-told-3 : tie.Need-enum-told-3
 enum-told-3 c = search rules
 
 returns-3 : tie.Need-returns-3
-unfolding answer figure after mapped dose_of factor_with rfd_value
-returns-3 c = rw (c.before.before.before.before.before.before.before.before.rfd.given.1, ← c.before.before.before.before.before.before.over.ensures, c.before.before.before.before.f.given.1, ← c.before.before.dose-of.ensures, c.enum-told3.given.1) (sym (refused_carried Hazard 53 _))
+unfolding answer figure after mapped dose_for factor_with rfd_value
+returns-3 c = rw (c.before.before.before.before.before.before.before.before.before.rfd.given.1, ← c.before.before.before.before.before.before.before.over.ensures, c.before.before.before.before.before.f.given.1, ← c.before.before.before.medium-of.ensures, ← c.before.before.dose-of.ensures, c.enum-told3.given.1) (sym (refused_carried Hazard 53 _))
 
 quotient-of-requires : tie.Need-quotient-of-requires
 quotient-of-requires c κs = search rules
 
 returns-4 : tie.Need-returns-4
-unfolding answer after mapped dose_of factor_with rfd_value
-returns-4 c = rw (c.before.before.before.before.before.before.before.before.before.before.rfd.given.1, ← c.before.before.before.before.before.before.before.before.over.ensures, c.before.before.before.before.before.before.f.given.1, ← c.before.before.before.before.dose-of.ensures, c.before.before.d.given.1) c.quotient-of.ensures
+unfolding answer after mapped dose_for factor_with rfd_value
+returns-4 c = rw (c.before.before.before.before.before.before.before.before.before.before.before.rfd.given.1, ← c.before.before.before.before.before.before.before.before.before.over.ensures, c.before.before.before.before.before.before.before.f.given.1, ← c.before.before.before.before.before.medium-of.ensures, ← c.before.before.before.before.dose-of.ensures, c.before.before.d.given.1) c.quotient-of.ensures
 
 pub hazard-from-spec : {M : Type 1} → statement M
 hazard-from-spec =
@@ -62,6 +65,7 @@ hazard-from-spec =
     enum-known-f
     enum-told-2
     returns-2
+    medium-of-requires
     dose-of-requires
     enum-known-d
     enum-told-3

@@ -42,18 +42,6 @@ enum-told-6 c = search rules
 eaten-requires-5 : tie.Need-eaten-requires-5
 eaten-requires-5 c κs = search rules
 
-enum-told-7 : tie.Need-enum-told-7
-enum-told-7 c = search rules
-
-drunk-requires : tie.Need-drunk-requires
-drunk-requires c κs = search rules
-
-enum-told-8 : tie.Need-enum-told-8
-enum-told-8 c = search rules
-
-drunk-requires-2 : tie.Need-drunk-requires-2
-drunk-requires-2 c κs = search rules
-
 returns : tie.Need-returns
 unfolding medium_for by_medium
 returns c = rw (c.breathed-in.ensures, c.before.enum_told.given.1) refl
@@ -78,14 +66,6 @@ returns-6 : tie.Need-returns-6
 unfolding medium_for by_medium
 returns-6 c = rw (c.eaten5.ensures, c.before.enum-told6.given.1) refl
 
-returns-7 : tie.Need-returns-7
-unfolding medium_for by_medium
-returns-7 c = rw (c.drunk.ensures, c.before.enum-told7.given.1) refl
-
-returns-8 : tie.Need-returns-8
-unfolding medium_for by_medium
-returns-8 c = rw (c.drunk2.ensures, c.before.enum-told8.given.1) refl
-
 pub medium-of-spec : {M : Type 1} → statement M
 medium-of-spec =
     tie.close
@@ -102,15 +82,9 @@ medium-of-spec =
     eaten-requires-4
     enum-told-6
     eaten-requires-5
-    enum-told-7
-    drunk-requires
-    enum-told-8
-    drunk-requires-2
     returns
     returns-2
     returns-3
     returns-4
     returns-5
-    returns-6
-    returns-7
-    returns-8)
+    returns-6)

@@ -32,15 +32,6 @@ enum-told-5 c = search rules
 enum-told-6 : tie.Need-enum-told-6
 enum-told-6 c = search rules
 
-enum-told-7 : tie.Need-enum-told-7
-enum-told-7 c = search rules
-
-enum-told-8 : tie.Need-enum-told-8
-enum-told-8 c = search rules
-
-begun-of-requires-4 : tie.Need-begun-of-requires-4
-begun-of-requires-4 c κs = search rules
-
 returns : tie.Need-returns
 unfolding begun_in
 returns c = rw c.before.enum_told.given.1
@@ -71,16 +62,6 @@ unfolding begun_in shared
 returns-6 c = rw c.enum-told6.given.1
     refl
 
-returns-7 : tie.Need-returns-7
-unfolding begun_in shared
-returns-7 c = rw c.enum-told7.given.1
-    refl
-
-returns-8 : tie.Need-returns-8
-unfolding begun_in
-returns-8 c = rw c.before.enum-told8.given.1
-    c.begun-of4.ensures
-
 pub begun-in-spec : {M : Type 1} → statement M
 begun-in-spec =
     tie.close
@@ -94,14 +75,9 @@ begun-in-spec =
     enum-told-4
     enum-told-5
     enum-told-6
-    enum-told-7
-    enum-told-8
-    begun-of-requires-4
     returns
     returns-2
     returns-3
     returns-4
     returns-5
-    returns-6
-    returns-7
-    returns-8)
+    returns-6)

@@ -2,12 +2,10 @@
 use mathlib.Core.Path.{refl}
 use borrow.Author.Rules.{rules}
 use Rattle.equations.specs.Formula.{read, pairs}
-use Rattle.equations.specs.Page.{flux, exposure}
+use Rattle.equations.specs.Page.{exposure}
 use Rattle.equations.specs.Ahead.{only, a_slot, is_receptors, ahead}
-use Rattle.equations.specs.Readings.{plain, plain_with, letters, inputs, by_owner, value_in, no_values}
+use Rattle.equations.specs.Readings.{plain, plain_with, letters, inputs, by_owner, value_in}
 use Rattle.slots.specs.Slots.{table, same, is_in, place_in, owner_of, place_of}
-use Rattle.pair.specs.Number.{one}
-use Rattle.pair.specs.Calls.{one_pair}
 use Rattle.pathway.specs.Lines.{worked_for, worked_of}
 use Rattle.pathway.proofs.exposure.begun_of.Statement.{statement}
 use Rattle.pathway.proofs.exposure.begun_of.Tie as tie
@@ -72,24 +70,6 @@ at-requires-9 c κs = search rules
 times-requires-4 : tie.Need-times-requires-4
 times-requires-4 c κs = search rules
 
-enum-told-7 : tie.Need-enum-told-7
-enum-told-7 c = search rules
-
-at-requires-10 : tie.Need-at-requires-10
-at-requires-10 c κs = search rules
-
-at-requires-11 : tie.Need-at-requires-11
-at-requires-11 c κs = search rules
-
-times-requires-5 : tie.Need-times-requires-5
-times-requires-5 c κs = search rules
-
-enum-told-8 : tie.Need-enum-told-8
-enum-told-8 c = search rules
-
-answer-requires : tie.Need-answer-requires
-answer-requires c κs = search rules
-
 returns : tie.Need-returns
 unfolding worked_for plain plain_with read letters inputs by_owner value_in owner_of place_of table same is_in place_in pairs worked_of exposure ahead is_receptors only a_slot
 returns c = rw (c.at.ensures, c.before.enum_told.given.1)
@@ -120,16 +100,6 @@ unfolding worked_for plain plain_with read letters inputs by_owner value_in owne
 returns-6 c = rw (c.times4.ensures, c.before.at9.ensures, c.before.before.times3.ensures, c.before.before.before.at8.ensures, c.before.before.before.before.at7.ensures, c.before.before.before.before.before.enum-told6.given.1)
     refl
 
-returns-7 : tie.Need-returns-7
-unfolding worked_for plain plain_with read letters inputs by_owner value_in owner_of place_of table same is_in place_in pairs worked_of exposure ahead is_receptors only a_slot
-returns-7 c = rw (c.times5.ensures, c.before.at11.ensures, c.before.before.at10.ensures, c.before.before.before.enum-told7.given.1)
-    refl
-
-returns-8 : tie.Need-returns-8
-unfolding worked_for plain plain_with read letters inputs by_owner value_in owner_of place_of table same is_in place_in pairs worked_of exposure ahead is_receptors only a_slot flux no_values one_pair one
-returns-8 c = rw (c.answer.ensures, c.before.enum-told8.given.1)
-    refl
-
 pub begun-of-spec : {M : Type 1} → statement M
 begun-of-spec =
     tie.close
@@ -154,17 +124,9 @@ begun-of-spec =
     times-requires-3
     at-requires-9
     times-requires-4
-    enum-told-7
-    at-requires-10
-    at-requires-11
-    times-requires-5
-    enum-told-8
-    answer-requires
     returns
     returns-2
     returns-3
     returns-4
     returns-5
-    returns-6
-    returns-7
-    returns-8)
+    returns-6)

@@ -1,9 +1,8 @@
--- Each pathway by its own function; bathing is none of them. Assumes nothing.
-use mathlib.Core.Bool.{false≢true}
+-- Each pathway by its own function. Assumes nothing.
 use borrow.Author.Rules.{rules}
 use Rattle.slots.specs.Slots.{table, same, is_in, owner_of}
 use Rattle.equations.specs.Formula.{read}
-use Rattle.equations.specs.Page.{exposure, by_way}
+use Rattle.equations.specs.Page.{exposure}
 use Rattle.equations.specs.Readings.{by_owner}
 use Rattle.equations.specs.Ahead.{only, a_slot, is_receptors, read_from, plain_from}
 use Rattle.pathway.specs.Lines.{exposure_from}
@@ -46,15 +45,6 @@ enum-told-6 c = search rules
 produce-requires-2 : tie.Need-produce-requires-2
 produce-requires-2 c κs = search rules
 
-enum-told-7 : tie.Need-enum-told-7
-enum-told-7 c = search rules
-
-drinking-requires : tie.Need-drinking-requires
-drinking-requires c κs = search rules
-
-enum-told-8 : tie.Need-enum-told-8
-enum-told-8 c = search rules
-
 returns : tie.Need-returns
 returns c = rw c.before.enum_told.given.1
     c.air.ensures
@@ -80,14 +70,6 @@ unfolding exposure_from plain_from read_from is_receptors only a_slot read by_ow
 returns-6 c = rw c.before.enum-told6.given.1
     c.produce2.ensures
 
-returns-7 : tie.Need-returns-7
-returns-7 c = rw c.before.enum-told7.given.1
-    c.drinking.ensures
-
-returns-8 : tie.Need-returns-8
-unfolding by_way
-returns-8 c = absurd (false≢true (rw c.enum-told8.given.1 at c.before.before.requires))
-
 pub exposure-from-spec : {M : Type 1} → statement M
 exposure-from-spec =
     tie.close
@@ -104,14 +86,9 @@ exposure-from-spec =
     produce-requires
     enum-told-6
     produce-requires-2
-    enum-told-7
-    drinking-requires
-    enum-told-8
     returns
     returns-2
     returns-3
     returns-4
     returns-5
-    returns-6
-    returns-7
-    returns-8)
+    returns-6)

@@ -3,7 +3,7 @@ use mathlib.Core.Path.{refl}
 use borrow.Author.Rules.{rules}
 use Rattle.slots.specs.Slots.{table, same, is_in, place_in, owner_of, place_of}
 use Rattle.equations.specs.Formula.{read}
-use Rattle.equations.specs.Page.{flux, exposure}
+use Rattle.equations.specs.Page.{exposure}
 use Rattle.equations.specs.Readings.{letters, by_owner}
 use Rattle.equations.specs.Ahead.{only, a_slot, is_receptors, read_from, plain_from}
 use Rattle.pathway.specs.Inner.{each}
@@ -29,12 +29,6 @@ enum-told-5 c = search rules
 enum-told-6 : tie.Need-enum-told-6
 enum-told-6 c = search rules
 
-enum-told-7 : tie.Need-enum-told-7
-enum-told-7 c = search rules
-
-enum-told-8 : tie.Need-enum-told-8
-enum-told-8 c = search rules
-
 returns : tie.Need-returns
 unfolding exposure_from plain_from read_from is_receptors only a_slot read letters taken_in share_at each by_owner owner_of place_of table same is_in place_in exposure
 returns c begun s r = rw c.before.enum_told.given.1 refl
@@ -59,14 +53,6 @@ returns-6 : tie.Need-returns-6
 unfolding exposure_from plain_from read_from is_receptors only a_slot read letters taken_in share_at each by_owner owner_of place_of table same is_in place_in exposure
 returns-6 c begun s r = rw c.before.enum-told6.given.1 refl
 
-returns-7 : tie.Need-returns-7
-unfolding exposure_from plain_from read_from is_receptors only a_slot read letters taken_in share_at each by_owner owner_of place_of table same is_in place_in exposure
-returns-7 c begun s r = rw c.before.enum-told7.given.1 refl
-
-returns-8 : tie.Need-returns-8
-unfolding exposure_from plain_from read_from is_receptors only a_slot read letters taken_in share_at each by_owner owner_of place_of table same is_in place_in exposure flux
-returns-8 c begun s r = rw c.before.enum-told8.given.1 refl
-
 pub share-of-spec : {M : Type 1} → statement M
 share-of-spec =
     tie.close
@@ -77,13 +63,9 @@ share-of-spec =
     enum-told-4
     enum-told-5
     enum-told-6
-    enum-told-7
-    enum-told-8
     returns
     returns-2
     returns-3
     returns-4
     returns-5
-    returns-6
-    returns-7
-    returns-8)
+    returns-6)

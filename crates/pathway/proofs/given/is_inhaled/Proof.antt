@@ -23,12 +23,6 @@ enum-told-5 c = search rules
 enum-told-6 : tie.Need-enum-told-6
 enum-told-6 c = search rules
 
-enum-told-7 : tie.Need-enum-told-7
-enum-told-7 c = search rules
-
-enum-told-8 : tie.Need-enum-told-8
-enum-told-8 c = search rules
-
 returns : tie.Need-returns
 unfolding by_route by_medium
 returns c = rw c.enum_told.given.1 refl
@@ -53,14 +47,6 @@ returns-6 : tie.Need-returns-6
 unfolding by_route by_medium
 returns-6 c = rw c.enum-told6.given.1 refl
 
-returns-7 : tie.Need-returns-7
-unfolding by_route by_medium
-returns-7 c = rw c.enum-told7.given.1 refl
-
-returns-8 : tie.Need-returns-8
-unfolding by_route by_medium
-returns-8 c = rw c.enum-told8.given.1 refl
-
 pub is-inhaled-spec : {M : Type 1} → statement M
 is-inhaled-spec =
     tie.close
@@ -71,13 +57,9 @@ is-inhaled-spec =
     enum-told-4
     enum-told-5
     enum-told-6
-    enum-told-7
-    enum-told-8
     returns
     returns-2
     returns-3
     returns-4
     returns-5
-    returns-6
-    returns-7
-    returns-8)
+    returns-6)

@@ -1,4 +1,4 @@
--- Every value is 1, every medium and the water 0 and every reference value absent. Assumes nothing.
+-- Every value is 1, every medium 0 and every reference value absent. Assumes nothing.
 use mathlib.Core.Path.{refl}
 use borrow.Author.Rules.{rules}
 use Rattle.pair.specs.Number.{one}
@@ -21,12 +21,9 @@ none-requires c κs = search rules
 none-requires-2 : tie.Need-none-requires-2
 none-requires-2 c κs = search rules
 
-none-requires-3 : tie.Need-none-requires-3
-none-requires-3 c κs = search rules
-
 returns : tie.Need-returns
 unfolding one one_pair table same is_in place_in owner_of place_of value_at pair_of values_of printed_as references_of absorbed_of value_in no_means source_with no_source
-returns c = rw (c.none3.ensures, c.before.none2.ensures, c.before.before.none.ensures, c.before.before.before.references-from.ensures) refl
+returns c = rw (c.none2.ensures, c.before.none.ensures, c.before.before.references-from.ensures) refl
 
 pub no-source-spec : {M : Type 1} → statement M
-no-source-spec = tie.close (tie.spec references-from-requires none-requires none-requires-2 none-requires-3 returns)
+no-source-spec = tie.close (tie.spec references-from-requires none-requires none-requires-2 returns)

@@ -10,21 +10,18 @@ means-of-requires c κs = search rules
 absorbed-of-requires : tie.Need-absorbed-of-requires
 absorbed-of-requires c κs = search rules
 
-water-of-requires : tie.Need-water-of-requires
-water-of-requires c κs = search rules
-
 references-of-requires : tie.Need-references-of-requires
 references-of-requires c κs = search rules
 
 returns : tie.Need-returns
 returns c =
-    let s = c.before.before.before.before.before.before in
+    let s = c.before.before.before.before.before in
     let a = s.args in
-    let m = c.before.before.before.before.means-of in (
-      from_worked a.site a.receptors a.chemical a.values s.requires.1 a.ground _ _ m.ensures.0 m.ensures.1 _ c.before.before.absorbed-of.ensures _ c.before.water-of.ensures _ c.references-of.ensures,
-      from_made a.site a.receptors a.chemical a.values s.requires.1 a.ground _ _ m.ensures.0 m.ensures.1 _ c.before.before.absorbed-of.ensures _ c.before.water-of.ensures _ c.references-of.ensures,
+    let m = c.before.before.before.means-of in (
+      from_worked a.site a.receptors a.chemical a.values s.requires.1 a.ground _ _ m.ensures.0 m.ensures.1 _ c.before.absorbed-of.ensures _ c.references-of.ensures,
+      from_made a.site a.receptors a.chemical a.values s.requires.1 a.ground _ _ m.ensures.0 m.ensures.1 _ c.before.absorbed-of.ensures _ c.references-of.ensures,
     )
 
 pub source-from-spec : {M : Type 1} → statement M
 source-from-spec =
-    tie.close (tie.spec means-of-requires absorbed-of-requires water-of-requires references-of-requires returns)
+    tie.close (tie.spec means-of-requires absorbed-of-requires references-of-requires returns)

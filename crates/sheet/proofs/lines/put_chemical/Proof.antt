@@ -64,13 +64,13 @@ enum-told-2 : tie.Need-enum-told-2 invariant-loop decreases-loop
 enum-told-2 c = search rules
 
 same_length : tie.Need-same-length invariant-loop decreases-loop
-same_length c = c.before.before.before.before.before.before.before.before.before.before.loop.invariant.1
+same_length c = c.before.before.before.before.before.before.before.before.before.loop.invariant.1
 
 returns : tie.Need-returns invariant-loop decreases-loop
 returns c =
-    let s = c.before.before.before.before.before.before.before.before.before.before.before.before.before in
-    let l = c.before.before.before.before.before.before.before.before.before.before.loop in
-    let test = c.before.before.before.before.before.before.before.before.before.loop-test.true in
+    let s = c.before.before.before.before.before.before.before.before.before.before.before.before in
+    let l = c.before.before.before.before.before.before.before.before.before.loop in
+    let test = c.before.before.before.before.before.before.before.before.loop-test.true in
     let a = s.args in
     let long : length a.t7.means ≡ most_receptors = sym (length-map a.t7.means _) ∙ s.well-formed.1.1.1.1.1.1.0.1.1.1.1.0.1.0.1 in
     let there : a.place < length a.t7.means = omega (arith, long, s.requires) in
@@ -104,9 +104,9 @@ loop-less c = search rules
 loop-again : tie.Need-loop-preserved invariant-loop decreases-loop
 unfolding figured figure_for
 loop-again c =
-    let s = c.before.before.before.before.before.before.before.before.before.before.before.before.before.before.before.before.before.before.before.before.before.before.before in
-    let l = c.before.before.before.before.before.before.before.before.before.before.before.before.before.before.before.before.before.before.before.before.loop in
-    let test = c.before.before.before.before.before.before.before.before.before.before.before.before.before.before.before.before.before.before.before.loop-test.true in
+    let s = c.before.before.before.before.before.before.before.before.before.before.before.before.before.before.before.before.before.before.before.before.before.before in
+    let l = c.before.before.before.before.before.before.before.before.before.before.before.before.before.before.before.before.before.before.before.loop in
+    let test = c.before.before.before.before.before.before.before.before.before.before.before.before.before.before.before.before.before.before.loop-test.true in
     let a = s.args in
     let long : length a.t7.means ≡ most_receptors = sym (length-map a.t7.means _) ∙ s.well-formed.1.1.1.1.1.1.0.1.1.1.1.0.1.0.1 in
     let there : a.place < length a.t7.means = omega (arith, long, s.requires) in

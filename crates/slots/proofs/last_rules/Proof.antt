@@ -2,8 +2,8 @@
 use borrow.Author.Rules.{rules}
 use mathlib.Core.Path.{refl}
 use Rattle.slots.specs.Slots.{line_rules, rule_at, rule_in, table}
-use Rattle.slots.proofs.fourth_rules.Statement.{statement}
-use Rattle.slots.proofs.fourth_rules.Tie as tie
+use Rattle.slots.proofs.last_rules.Statement.{statement}
+use Rattle.slots.proofs.last_rules.Tie as tie
 
 enum_told : tie.Need-enum-told
 enum_told c = search rules
@@ -19,5 +19,5 @@ returns-2 : tie.Need-returns-2
 unfolding line_rules rule_at rule_in table
 returns-2 c = rw c.enum-told2.given.1 refl
 
-pub fourth-rules-spec : {M : Type 1} → statement M
-fourth-rules-spec = tie.close (tie.spec enum_told enum-told-2 returns returns-2)
+pub last-rules-spec : {M : Type 1} → statement M
+last-rules-spec = tie.close (tie.spec enum_told enum-told-2 returns returns-2)

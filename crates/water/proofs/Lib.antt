@@ -1,2 +1,0 @@
--- The crate's laws; the crates above may count on them. Assumes nothing.
-pub mod WaterLaws

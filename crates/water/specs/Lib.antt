@@ -1,2 +1,0 @@
--- What the crate `water` promises.
-pub mod Water
