@@ -14,7 +14,7 @@ const REFUSAL_WIDTH: usize = 3 * COLUMNS + 1;
 const LINE_FEED: u8 = 10;
 
 // How many bytes were read, to the end of the input or of the room for them; or that a read failed.
-#[derive(Drop)]
+#[derive(Clone, Copy)]
 pub enum Input {
     Read(usize),
     Failed,

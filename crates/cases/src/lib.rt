@@ -18,45 +18,45 @@ pub use zeros::plain;
 
 // A slot's value, read from a deck or given by a caller: digits × 10 ^ power. Absent where a lone - stands, where the year is blank, and in later
 // slots. The power stands first, so that a value takes 16 bytes and not 24.
-#[derive(Drop)]
+#[derive(Clone, Copy)]
 pub enum Value {
     Absent,
     Given { power: i32, digits: u64 },
 }
 
 // What a slot was filled with.
-#[derive(Drop)]
+#[derive(Clone, Copy)]
 pub struct Filled {
     pub value: Value,
 }
 
-#[derive(Drop)]
+#[derive(Clone, Copy)]
 pub struct Record {
     pub id: u32,
     pub slots: [Filled; SLOTS],
 }
 
-#[derive(Drop)]
+#[derive(Clone, Copy)]
 pub struct Chemicals {
     pub count: usize,
     pub records: [Record; MAX_CHEMICALS],
 }
 
 // One shape for both sorts of deck: room for the most that either has.
-#[derive(Drop)]
+#[derive(Clone, Copy)]
 pub struct Receptors {
     pub count: usize,
     pub records: [Record; MAX_STAGES],
 }
 
 // The ids of the first count receptors, however these are held.
-#[derive(Drop)]
+#[derive(Clone, Copy)]
 pub struct Ids {
     pub count: usize,
     pub list: [u32; MAX_STAGES],
 }
 
-#[derive(Drop)]
+#[derive(Clone, Copy)]
 pub struct Case {
     pub site: Record,
     pub chemicals: Chemicals,
@@ -64,14 +64,14 @@ pub struct Case {
 }
 
 // Passed where no condition of a call holds; else the first that does: its number, line and field.
-#[derive(Drop)]
+#[derive(Clone, Copy)]
 pub enum Status {
     Passed,
     Stopped(u32, usize, usize),
 }
 
 // Number, line and field as document 01 tells them; all 0 where no condition holds.
-#[derive(Drop)]
+#[derive(Clone, Copy)]
 pub struct Told {
     pub number: u32,
     pub line: usize,
@@ -79,7 +79,7 @@ pub struct Told {
 }
 
 // What a call that reads no deck tells: a refusal's number alone (document 01).
-#[derive(Drop)]
+#[derive(Clone, Copy)]
 pub enum Verdict {
     Passed,
     Refused(u32),

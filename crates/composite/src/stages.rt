@@ -19,7 +19,7 @@ use slots::{ATC, ED, T2, YEARS};
 use times::Years;
 
 // The years of each stage as pairs, entered once.
-#[derive(Drop)]
+#[derive(Clone, Copy)]
 struct YearPairs {
     list: [Pair; MAX_STAGES],
 }

@@ -42,7 +42,7 @@ pub const MAX_COMPOSITE_LENGTH: usize = LINE_WIDTH
 const MAX_VALUES: usize = FIELDS * (MAX_COMPOSITE_LENGTH / LINE_WIDTH);
 
 // The case is empty where the deck is stopped.
-#[derive(Drop)]
+#[derive(Clone, Copy)]
 pub struct Reading {
     pub status: Status,
     pub case: Case,

@@ -20,7 +20,7 @@ use spelling::{id_in, leading_bytes};
 const AFTER_KIND: usize = COLUMNS - KIND_WIDTH;
 
 // What the lines before tell: the kind and id of the last, and how many chemicals and receptors began.
-#[derive(Drop)]
+#[derive(Clone, Copy)]
 pub(crate) struct Seen {
     pub(crate) kind: Kind,
     pub(crate) id: u32,

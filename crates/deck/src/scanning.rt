@@ -15,7 +15,7 @@ use sizes::FIELDS;
 use slots::Sort;
 
 // The first condition of the lines and the deck's end that holds; where none does, how many chemicals and receptors there are.
-#[derive(Drop)]
+#[derive(Clone, Copy)]
 pub(crate) struct Scan {
     pub(crate) status: Status,
     pub(crate) chemicals: usize,

@@ -8,7 +8,7 @@ use pair::{Answer, Pair};
 use sizes::SLOTS;
 
 // The six pathways, in document 01's order.
-#[derive(Drop)]
+#[derive(Clone, Copy)]
 pub enum Pathway {
     Air,
     SoilSummer,
@@ -19,21 +19,21 @@ pub enum Pathway {
 }
 
 // What a line tells: the hazard quotient, or the cancer risk.
-#[derive(Drop)]
+#[derive(Clone, Copy)]
 pub enum Effect {
     Hazard,
     Cancer,
 }
 
 // How long a receptor is exposed, T2, against the deposition, tD: T2 ≤ tD, or T2 above tD.
-#[derive(Drop)]
+#[derive(Clone, Copy)]
 pub enum Stay {
     Within,
     Beyond,
 }
 
 // The values of a record's slots as pairs, by the places of the crate `slots`.
-#[derive(Drop)]
+#[derive(Clone, Copy)]
 pub struct Values {
     pub list: [Pair; SLOTS],
 }

@@ -6,7 +6,7 @@ use sizes::{RECORD_LINES, SITE_LINES};
 use slots::Owner;
 
 // A line of an owner's record, counted from 0; EN; or no kind. Start stands before line 1.
-#[derive(Drop)]
+#[derive(Clone, Copy)]
 pub enum Kind {
     Start,
     Line { owner: Owner, line: usize },

@@ -12,7 +12,7 @@ use crate::terms::{mean_of_terms, sum_of_terms};
 use pair::{Answer, Order, Pair};
 
 // g and h at one exponent.
-#[derive(Drop)]
+#[derive(Clone, Copy)]
 pub(crate) struct Growth {
     pub(crate) g: Answer,
     pub(crate) h: Answer,

@@ -17,11 +17,11 @@ use equations::{Stay, Values};
 use pair::{Answer, Pair};
 
 // A concentration in soil or produce, mg/kg. Only this crate makes one, and one in air.
-#[derive(Drop)]
+#[derive(Clone, Copy)]
 pub struct Conc(Pair);
 
 // A concentration in air, mg/m³: no other may be breathed.
-#[derive(Drop)]
+#[derive(Clone, Copy)]
 pub struct AirConc(Pair);
 
 // The pair alone: the one way out of the quantity, for those who answer for its unit themselves.
@@ -42,7 +42,7 @@ impl AirConc {
 }
 
 // What a chemical leaves in the media of the pathways.
-#[derive(Drop)]
+#[derive(Clone, Copy)]
 pub struct Media {
     pub air: AirConc,
     pub soil: Conc,
@@ -65,7 +65,7 @@ impl Media {
 }
 
 // The media, or that a pair or an exponent was out of reach (document 01's 53).
-#[derive(Drop)]
+#[derive(Clone, Copy)]
 pub enum Found {
     Is(Media),
     Refused,
@@ -73,7 +73,7 @@ pub enum Found {
 
 // What a chemical's soil is worked from, whatever the receptor: k, what the mean over an exposure beyond the deposition begins with,
 // D × tD × tD × h, and the media of the highest year and of an exposure within the deposition.
-#[derive(Drop)]
+#[derive(Clone, Copy)]
 pub struct Ground {
     pub loss: Pair,
     pub gathered: Pair,
@@ -82,7 +82,7 @@ pub struct Ground {
 }
 
 // The ground, or that there is none, as for the media.
-#[derive(Drop)]
+#[derive(Clone, Copy)]
 pub enum Grounded {
     Is(Ground),
     Refused,

@@ -17,35 +17,35 @@ use crate::exponent::{in_reach, is_zero, less, plus, within};
 use crate::rounding::{figured, long, normal};
 
 // A working number: 0, held as 0 and 0, or significand × 10^exponent with nine figures and an exponent from −99,999 to 99,999.
-#[derive(Drop)]
+#[derive(Clone, Copy)]
 pub struct Number {
     pub significand: u32,
     pub exponent: i32,
 }
 
 // A pair: a low and a high working number, low ≤ high.
-#[derive(Drop)]
+#[derive(Clone, Copy)]
 pub struct Pair {
     pub low: Number,
     pub high: Number,
 }
 
 // What an operation answers. Refused is document 01's 53.
-#[derive(Drop)]
+#[derive(Clone, Copy)]
 pub enum Answer {
     Is(Pair),
     Refused,
 }
 
 // A step of a chain of calls: × or /.
-#[derive(Drop)]
+#[derive(Clone, Copy)]
 pub enum Step {
     Times,
     Over,
 }
 
 // What a comparison answers. Refused is document 01's 53.
-#[derive(Drop)]
+#[derive(Clone, Copy)]
 pub enum Order {
     AtMost,
     Above,
@@ -54,7 +54,7 @@ pub enum Order {
 
 // A term of a series and the sum of the terms up to it. Not worked is document 01's 53; then both are 0. A struct and no enum: the parts
 // of a struct go from step to step as they are, and a series has up to 255 steps.
-#[derive(Drop)]
+#[derive(Clone, Copy)]
 pub struct Partial {
     pub worked: bool,
     pub term: Pair,
@@ -62,14 +62,14 @@ pub struct Partial {
 }
 
 // The two ends of a pair as whole numbers of a unit.
-#[derive(Drop)]
+#[derive(Clone, Copy)]
 pub struct Units {
     pub low: u64,
     pub high: u64,
 }
 
 // What a count answers. Refused is document 01's 53.
-#[derive(Drop)]
+#[derive(Clone, Copy)]
 pub enum Count {
     Is(Units),
     Refused,

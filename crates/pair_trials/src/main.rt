@@ -9,7 +9,7 @@ use libc::STDOUT_FILENO;
 use trials::{Tally, said};
 
 // The tallies of the sixteen operations, at 16 that of what names none of them, and that of all.
-#[derive(Drop)]
+#[derive(Clone, Copy)]
 struct Tallies {
     each: [Tally; 17],
     all: Tally,

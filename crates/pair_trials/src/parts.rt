@@ -6,21 +6,21 @@ use pair::{Number, Pair, Step};
 use trials::{after, read_signed, read_whole};
 
 // Parts that were read: the value, where the text goes on, and whether it and all before it could be read.
-#[derive(Drop)]
+#[derive(Clone, Copy)]
 pub struct Numeral {
     pub value: Number,
     pub at: usize,
     pub good: bool,
 }
 
-#[derive(Drop)]
+#[derive(Clone, Copy)]
 pub struct Ends {
     pub value: Pair,
     pub at: usize,
     pub good: bool,
 }
 
-#[derive(Drop)]
+#[derive(Clone, Copy)]
 pub struct Stepped {
     pub step: Step,
     pub value: Pair,

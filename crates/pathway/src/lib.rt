@@ -19,42 +19,42 @@ use pair::{Answer, Pair};
 use slots::Guidance;
 
 // An intake factor: what of a medium is taken in, per day and kg of body weight. Only this crate makes one, a dose and a reference value.
-#[derive(Drop)]
+#[derive(Clone, Copy)]
 pub struct Factor(Pair);
 
 // A dose, mg/kg-day.
-#[derive(Drop)]
+#[derive(Clone, Copy)]
 pub struct Dose(Pair);
 
 // A reference dose, mg/kg-day, and a cancer slope factor, its inverse.
-#[derive(Drop)]
+#[derive(Clone, Copy)]
 pub struct Rfd(Pair);
 
-#[derive(Drop)]
+#[derive(Clone, Copy)]
 pub struct Csf(Pair);
 
 // Reference values, which a chemical may lack.
-#[derive(Drop)]
+#[derive(Clone, Copy)]
 pub enum GivenRfd {
     Is(Rfd),
     Absent,
 }
 
-#[derive(Drop)]
+#[derive(Clone, Copy)]
 pub enum GivenCsf {
     Is(Csf),
     Absent,
 }
 
 // What a chemical's slot holds for a reference value, or nothing. It is none yet: the slot and, for what is inhaled, the year say of which kind.
-#[derive(Drop)]
+#[derive(Clone, Copy)]
 pub enum Printed {
     Is(Pair),
     Absent,
 }
 
 // A chemical's reference values: o oral, i inhaled. What is inhaled goes by doses or by concentrations, as the year's guidance takes the air.
-#[derive(Drop)]
+#[derive(Clone, Copy)]
 pub struct References {
     rfd_o: GivenRfd,
     rfd_i: Printed,
@@ -63,11 +63,11 @@ pub struct References {
 }
 
 // The concentration of a pathway's own medium, as a factor takes it: of air, or of soil or produce.
-#[derive(Drop)]
+#[derive(Clone, Copy)]
 pub struct Medium(Pair);
 
 // A hazard quotient or a cancer risk: the pair, none without a reference value, or document 01's 53.
-#[derive(Drop)]
+#[derive(Clone, Copy)]
 pub enum Figure {
     Is(Pair),
     Absent,
@@ -75,14 +75,14 @@ pub enum Figure {
 }
 
 // The two figures of a report line.
-#[derive(Drop)]
+#[derive(Clone, Copy)]
 pub struct Line {
     pub hazard: Figure,
     pub cancer: Figure,
 }
 
 // The shares of a chemical that a body takes up from air, from what is eaten and through the skin.
-#[derive(Drop)]
+#[derive(Clone, Copy)]
 pub struct Absorbed {
     pub inhaled: Pair,
     pub oral: Pair,
@@ -90,7 +90,7 @@ pub struct Absorbed {
 }
 
 // What a receptor's lines share, whatever the chemical: how the air is taken, B of each effect, the soil held on the skin and the produce eaten.
-#[derive(Drop)]
+#[derive(Clone, Copy)]
 pub struct Habits {
     pub air: Breathing,
     pub hazard: Answer,
@@ -102,54 +102,54 @@ pub struct Habits {
 
 // By the guidance of 2009 (document 02, P6) the air is no dose. The share of the averaging time that is spent in it, and the exposure
 // concentration, mg/m³: the air's over that share. Only this crate makes one.
-#[derive(Drop)]
+#[derive(Clone, Copy)]
 pub struct TimeShare(Pair);
 
-#[derive(Drop)]
+#[derive(Clone, Copy)]
 pub struct AirExposure(Pair);
 
 // A reference concentration, mg/m³, and a unit risk, per µg/m³: what the slots RfDi and CSFi hold by that guidance.
-#[derive(Drop)]
+#[derive(Clone, Copy)]
 pub struct Rfc(Pair);
 
-#[derive(Drop)]
+#[derive(Clone, Copy)]
 pub struct UnitRisk(Pair);
 
-#[derive(Drop)]
+#[derive(Clone, Copy)]
 pub enum GivenRfc {
     Is(Rfc),
     Absent,
 }
 
-#[derive(Drop)]
+#[derive(Clone, Copy)]
 pub enum GivenUnitRisk {
     Is(UnitRisk),
     Absent,
 }
 
 // A share of time, or document 01's 53.
-#[derive(Drop)]
+#[derive(Clone, Copy)]
 pub enum Timed {
     Is(TimeShare),
     Refused,
 }
 
 // An exposure concentration, or document 01's 53.
-#[derive(Drop)]
+#[derive(Clone, Copy)]
 pub enum Exposed {
     Is(AirExposure),
     Refused,
 }
 
 // The shares of time of a receptor's lines, whatever the chemical.
-#[derive(Drop)]
+#[derive(Clone, Copy)]
 pub struct InAir {
     pub hazard: Timed,
     pub cancer: Timed,
 }
 
 // How the air is taken: as a dose, by the guidance of 2005, or by that of 2009 over a share of time.
-#[derive(Drop)]
+#[derive(Clone, Copy)]
 pub enum Breathing {
     Dose,
     Time(InAir),

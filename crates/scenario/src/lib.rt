@@ -18,7 +18,7 @@ pub use values::{
 
 // A receptor as the equations take it: its id, the values of its slots as pairs, and its exposure T2 against the deposition tD, with
 // T2 − tD where it is above 0. Whether they were printed or made of life stages, nothing after this asks.
-#[derive(Drop)]
+#[derive(Clone, Copy)]
 pub struct Receptor {
     pub id: u32,
     pub values: Values,
@@ -27,14 +27,14 @@ pub struct Receptor {
 }
 
 // The first count receptors of the list, in deck order.
-#[derive(Drop)]
+#[derive(Clone, Copy)]
 pub struct Receptors {
     pub count: usize,
     pub list: [Receptor; MAX_RECEPTORS],
 }
 
 // A site as the lines take it: the guidance that its year names, and its values.
-#[derive(Drop)]
+#[derive(Clone, Copy)]
 pub struct Site {
     pub guidance: Guidance,
     pub values: Values,

@@ -23,14 +23,14 @@ use sizes::{MAX_CHEMICALS, MAX_RECEPTORS};
 use slots::{Owner, Sort, T2};
 
 // The media of each receptor's cancer, or that those of one are refused.
-#[derive(Drop)]
+#[derive(Clone, Copy)]
 struct Means {
     worked: bool,
     list: [Media; MAX_RECEPTORS],
 }
 
 // A chemical's source, or that its media are refused.
-#[derive(Drop)]
+#[derive(Clone, Copy)]
 struct Sourced {
     worked: bool,
     source: Source,

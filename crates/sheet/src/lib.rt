@@ -34,7 +34,7 @@ pub const CELLS: usize = MAX_RECEPTORS * RECEPTOR_CELLS;
 
 // What a chemical's lines take, for every receptor: the shares absorbed, what it leaves in the media, hazard's and each receptor's for
 // cancer, and its reference values.
-#[derive(Drop)]
+#[derive(Clone, Copy)]
 pub struct Source {
     pub absorbed: Absorbed,
     pub media: Media,
@@ -43,14 +43,14 @@ pub struct Source {
 }
 
 // The first count sources of the list, in deck order.
-#[derive(Drop)]
+#[derive(Clone, Copy)]
 pub struct Sources {
     pub count: usize,
     pub list: [Source; MAX_CHEMICALS],
 }
 
 // The sources, or where a chemical stopped.
-#[derive(Drop)]
+#[derive(Clone, Copy)]
 pub struct Prepared {
     pub status: Status,
     pub sources: Sources,

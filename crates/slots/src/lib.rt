@@ -6,14 +6,14 @@ ghost use Rattle.slots.specs.Slots.{rule_at, line_rules, year_of};
 use sizes::FIELDS;
 
 // The sort of a deck: an ordinary one, or a composite receptor's (document 02, P2).
-#[derive(Drop)]
+#[derive(Clone, Copy)]
 pub enum Sort {
     Ordinary,
     Composite,
 }
 
 // Whose record a slot stands in.
-#[derive(Drop)]
+#[derive(Clone, Copy)]
 pub enum Owner {
     Site,
     Chemical,
@@ -21,7 +21,7 @@ pub enum Owner {
 }
 
 // The guidance that a sheet follows, named by its year (document 02, P6): HHRAP of 2005, or for the air RAGS Part F of 2009.
-#[derive(Drop)]
+#[derive(Clone, Copy)]
 pub enum Guidance {
     Of2005,
     Of2009,
@@ -40,7 +40,7 @@ impl Guidance {
 }
 
 // A slot's rule: used, or a later slot; whether blank, - and 0 are allowed; the largest value; whether it is a guidance's year alone.
-#[derive(Drop)]
+#[derive(Clone, Copy)]
 pub struct Rule {
     pub used: bool,
     pub blank: bool,

@@ -19,7 +19,7 @@ pub const ID_WIDTH: usize = 6;
 pub const MAX_DIGITS: usize = FIELD_WIDTH;
 
 // What a field's columns hold.
-#[derive(Drop)]
+#[derive(Clone, Copy)]
 pub enum Word {
     Blank,
     // A lone -.

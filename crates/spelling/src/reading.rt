@@ -7,7 +7,7 @@ ghost use Rattle.spelling.specs.Spelling.{id_in, sign_spelled, exponent_spelled,
 use crate::{ID_WIDTH, MAX_DIGITS, Word};
 
 // Digits that stand together: how many, and the number that they spell.
-#[derive(Drop)]
+#[derive(Clone, Copy)]
 struct Digits {
     count: usize,
     value: u64,

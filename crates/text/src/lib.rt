@@ -9,7 +9,7 @@ use spelling::ID_WIDTH;
 use totals::Columns;
 
 // A report line. A total line has chemical 0 and pathway 0.
-#[derive(Drop)]
+#[derive(Clone, Copy)]
 pub struct Row {
     pub receptor: u32,
     pub chemical: u32,
@@ -19,7 +19,7 @@ pub struct Row {
 }
 
 // What writing a line answers. Short is document 01's 51: a part shorter than a line, of which no byte changes.
-#[derive(Drop)]
+#[derive(Clone, Copy)]
 pub enum Written {
     Whole,
     Short,

@@ -9,14 +9,14 @@ ghost use Rattle.times.specs.Times.{time, amount, is_years, words_of, time_of, l
 use pair::{Answer, Order, Pair};
 
 // A time: a whole number of 1E-27 years in two words, high × 10^18 + low, below 1E+10 years.
-#[derive(Drop)]
+#[derive(Clone, Copy)]
 pub struct Years {
     pub high: u64,
     pub low: u64,
 }
 
 // What a call that makes a time answers. Refused is document 01's 53.
-#[derive(Drop)]
+#[derive(Clone, Copy)]
 pub enum Time {
     Is(Years),
     Refused,

@@ -5,14 +5,14 @@ ghost use Rattle.totals.specs.Totals.{totalled, total_of};
 use sizes::MOST_LINES;
 
 // Two columns of a report line: - in both, or two counts.
-#[derive(Drop)]
+#[derive(Clone, Copy)]
 pub enum Columns {
     Absent,
     Counted { low: u64, high: u64 },
 }
 
 // What the totals call answers. Refused is document 01's 52.
-#[derive(Drop)]
+#[derive(Clone, Copy)]
 pub enum Sum {
     Is(u64),
     Refused,

@@ -8,7 +8,7 @@ use libc::STDOUT_FILENO;
 pub const MOST: usize = 10000;
 
 // Trials run, those of a refusal among them, those answered otherwise than stored, and whether the file has no more.
-#[derive(Drop)]
+#[derive(Clone, Copy)]
 pub struct Tally {
     pub run: u64,
     pub refused: u64,

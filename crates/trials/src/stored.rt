@@ -13,7 +13,7 @@ const HEAD_NUMBERS: usize = 5;
 const HEAD_LENGTH: usize = COLUMNS * HEAD_NUMBERS + 1;
 
 // A head that was read: its numbers, and whether all are numbers.
-#[derive(Drop)]
+#[derive(Clone, Copy)]
 pub struct Head {
     pub numbers: [u64; HEAD_NUMBERS],
     pub good: bool,

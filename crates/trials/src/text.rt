@@ -3,14 +3,14 @@ ghost use Rattle.std.specs.Prelude.{◌≡◌, ◌+◌, ◌-◌, ◌≤◌, Bool
 ghost use Rattle.trials.specs.Text.{leading, no_whole, number_of, whole_of, after_of, spaced_whole, no_signed, signed_of, signed_at, spaced_signed};
 
 // A number that was read: its value, where the text goes on, and whether it and all before it could be read; else all is 0.
-#[derive(Drop)]
+#[derive(Clone, Copy)]
 pub struct Whole {
     pub value: u64,
     pub at: usize,
     pub good: bool,
 }
 
-#[derive(Drop)]
+#[derive(Clone, Copy)]
 pub struct Signed {
     pub value: i32,
     pub at: usize,

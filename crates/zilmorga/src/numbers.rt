@@ -7,7 +7,7 @@ ghost use Rattle.zilmorga.specs.Calls.{left, leaves, as_number};
 use pair::{Answer, Number, Order, Pair};
 
 // A working number as a caller writes it, or none.
-#[derive(Drop)]
+#[derive(Clone, Copy)]
 pub(crate) enum NumberHeld {
     Is(Number),
     Not,
