@@ -1,5 +1,7 @@
 //! What both programs share: a deck from standard input, and what a call on it told to standard output, the report, or number, line and field in 6
 //! columns each. What is printed is proved to be a function of the answer; that it was read and is written no contract can say.
+#![tactic(auto)]
+
 ghost use Rattle.std.specs.Prelude.{◌≡◌};
 ghost use Rattle.answers.specs.Answers.{refusal_text, answer_text};
 

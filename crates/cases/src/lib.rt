@@ -1,5 +1,7 @@
 //! A case in memory (document 01, "Deck"): the values of a site, chemicals and receptors, whether they were read from a deck or made by a
 //! caller; the range of a value; and where a call on a deck or a case stops.
+#![tactic(auto)]
+
 mod guidance;
 mod memory;
 mod ranges;

@@ -1,5 +1,7 @@
 //! The composite receptor (document 02, P2): a deck whose receptors are the life stages of one person, and the report of that person. The
 //! composite is made of pairs here; from there on it takes the road of every receptor.
+#![tactic(auto)]
+
 mod stages;
 
 ghost use Rattle.std.specs.Prelude.{◌≡◌, length, take};

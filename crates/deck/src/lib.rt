@@ -1,5 +1,7 @@
 // A deck, as document 01 calls the input: lines of 80 bytes and a line feed that hold one site, chemicals and receptors.
 // `read` answers the case that a deck spells, or the first condition that stops it.
+#![tactic(auto)]
+
 mod fields;
 mod lines;
 mod packing;

@@ -3,6 +3,8 @@
 //
 // A deck's head: its length; the number, line and field of the refusal, or 0 and how many chemicals and receptors there are; and a checksum of
 // the case. Its bytes follow.
+#![tactic(auto)]
+
 use cases::{Case, Record, Value};
 use deck::{LINE_WIDTH, MAX_COMPOSITE_LENGTH, Reading};
 use sizes::{MAX_CHEMICALS, MAX_RECEPTORS, MAX_STAGES, SLOTS};

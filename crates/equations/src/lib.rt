@@ -1,5 +1,7 @@
 //! The equations of document 01 as formulas, with the names of pathways and effects and the values that they are worked from. Their
 //! definitions and laws are in specs/ and proofs/; the crates above work them.
+#![tactic(auto)]
+
 ghost use Rattle.std.specs.Prelude.{◌≡◌};
 ghost use Rattle.pair.specs.Calls.{answer, is};
 ghost use Rattle.equations.specs.Readings.{value_in};

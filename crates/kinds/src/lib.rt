@@ -1,4 +1,6 @@
 //! The kinds of a deck's lines (document 01, "Deck"): which line of whose record two bytes spell, and which kind may follow which.
+#![tactic(auto)]
+
 ghost use Rattle.std.specs.Prelude.{◌≡◌, cond};
 ghost use Rattle.kinds.specs.Kinds.{letter, owner_lines, numbered, spells_end, kind_in, is_line, is_last, is_start, is_end, begins, letter_of, may_begin, may_follow};
 

@@ -1,4 +1,6 @@
 //! Loss, series and media (document 01): from a site and a chemical to the concentrations in air, soil and produce.
+#![tactic(auto)]
+
 mod compartments;
 mod growth;
 mod loss;

@@ -1,6 +1,8 @@
 //! Arithmetic on pairs of working numbers (document 01, "Pairs"): each written operation works once and rounds once, the low end
 //! down to the nearest working number, the high end up, so that the exact result lies between the ends.
 //! Every call answers for itself: what it cannot work with it refuses, with document 01's number 53.
+#![tactic(auto)]
+
 mod ends;
 mod exponent;
 mod rounding;

@@ -1,4 +1,6 @@
 //! A small calculation with the library `pair`. Each line tells an answer by its low and its high end, or that it is refused.
+#![tactic(auto)]
+
 use libc::STDOUT_FILENO;
 use pair::{Answer, Count, Number, Pair};
 use trials::said;

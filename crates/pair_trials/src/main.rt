@@ -1,5 +1,7 @@
 //! Reads stored vectors, works each by the library `pair` and compares the complete answer. Prints each line that differs, and per
 //! operation how many agree. A line that cannot be read counts as one that differs.
+#![tactic(auto)]
+
 mod parts;
 mod vector;
 

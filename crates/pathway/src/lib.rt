@@ -1,4 +1,6 @@
 //! The six pathways (document 01): from a receptor and a medium to intake factors, doses, hazard quotients and cancer risks.
+#![tactic(auto)]
+
 mod air;
 mod doses;
 mod exposure;

@@ -1,4 +1,6 @@
 //! Powers of ten: looked up in one table, and how far one lies above or below 0.
+#![tactic(auto)]
+
 ghost use Rattle.std.specs.Prelude.{◌≡◌};
 ghost use Rattle.powers.specs.Powers.{ten_to, above, below};
 

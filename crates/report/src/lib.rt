@@ -1,4 +1,6 @@
 //! The report (document 01, "Report"): from a deck, or from a scenario in memory, to its lines and totals, written into a lent buffer.
+#![tactic(auto)]
+
 mod rows;
 
 ghost use Rattle.std.specs.Prelude.{◌≡◌, ◌*◌, ◌≤◌, length, take};

@@ -3,6 +3,8 @@
 //
 // A deck's head: the deck's length, the buffer's, and the number, line and field that the call tells. The deck's bytes follow, then the
 // report's: only where the number is 0; the line is then how many.
+#![tactic(auto)]
+
 use cases::Told;
 use deck::{LINE_WIDTH, MAX_COMPOSITE_LENGTH};
 use slots::Sort;

@@ -1,5 +1,7 @@
 //! A scenario: what a sheet is worked from. The values of a record's slots as pairs, the length of an exposure set against the deposition
 //! (document 02, P4), and the receptors of an ordinary case.
+#![tactic(auto)]
+
 mod exposure;
 mod memory;
 mod ordinary;

@@ -1,4 +1,6 @@
 //! The sheet of a scenario (document 01, "Units and totals"): each line's quotient and risk counted in units, 42, and a receptor's totals.
+#![tactic(auto)]
+
 mod chemicals;
 mod counting;
 mod lines;

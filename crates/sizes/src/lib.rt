@@ -1,4 +1,5 @@
 //! The numbers that document 01 fixes, each once, and what follows from them. specs/Sizes.antt has the same for the definitions.
+#![tactic(auto)]
 
 // Fields of a line.
 pub const FIELDS: usize = 6;

@@ -1,5 +1,7 @@
 //! The slots of a deck's records (document 01, "Deck"): for the code, each slot's place and rule. specs/Slots.antt is the table that both
 //! are held to.
+#![tactic(auto)]
+
 ghost use Rattle.std.specs.Prelude.{◌≡◌};
 ghost use Rattle.slots.specs.Slots.{rule_at, line_rules, year_of};
 

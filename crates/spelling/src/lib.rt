@@ -1,5 +1,7 @@
 //! How numbers and ids are spelled in columns (document 01, "Deck" and "Report"), both ways: what a field's text means, and digits written
 //! right-justified into a lent part.
+#![tactic(auto)]
+
 mod reading;
 mod writing;
 

@@ -1,4 +1,6 @@
 // Reads a deck from standard input and writes its report, or the number, line and field of what stops it.
+#![tactic(auto)]
+
 use answers::Input;
 
 fn main() {

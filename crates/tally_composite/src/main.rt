@@ -1,5 +1,7 @@
 // Reads a composite's deck from standard input and writes the report of the one person that its receptors make, or the number, line and field
 // of what stops it.
+#![tactic(auto)]
+
 use answers::Input;
 
 fn main() {

@@ -1,4 +1,6 @@
 //! The text of report lines (document 01, "Report"), written into a lent part of the report.
+#![tactic(auto)]
+
 mod lines;
 
 ghost use Rattle.std.specs.Prelude.{◌≡◌, length};

@@ -1,5 +1,7 @@
 //! Times to their last printed digit (document 02, P4): whole numbers of 1E-27 years, compared, added and subtracted exactly, and rounded
 //! once, where they become a pair. Every call answers for itself: what it cannot work with it refuses, with document 01's number 53.
+#![tactic(auto)]
+
 ghost use Rattle.std.specs.Prelude.{◌≡◌, true, ◌&&◌, ◌+◌, ◌-◌, ◌*◌, ◌^◌, ◌≤◌, ◌<◌, leb, pos};
 ghost use Rattle.std.specs.Int.Signed.{le_z};
 ghost use Rattle.pair.specs.Calls.{answer, order};

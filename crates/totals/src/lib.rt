@@ -1,4 +1,6 @@
 //! A report line's counts, and totals over a caller's list of units (document 01, "Units and totals").
+#![tactic(auto)]
+
 ghost use Rattle.std.specs.Prelude.{◌≡◌};
 ghost use Rattle.totals.specs.Totals.{totalled, total_of};
 

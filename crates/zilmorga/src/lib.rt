@@ -1,5 +1,7 @@
 //! The library for C and Rust: each function passes on to a proved call, and returns 0 or the number of the refusal.
 //! include/zilmorga.h says the same to a C compiler.
+#![tactic(auto)]
+
 mod numbers;
 
 ghost use Rattle.std.specs.Prelude.{◌≡◌, length};

@@ -1,0 +1,8 @@
+-- Up to 19 the table has the power itself. Assumes nothing.
+use mathlib.Core.Path.{◌∙◌}
+use borrow.Author.Rules.{rules}
+use Rattle.powers.proofs.PowerLaws.{ten_to_is}
+use Rattle.cases.proofs.ranges.ten_to.Goals as goal
+
+pub returns : goal.returns
+returns c = c.ten_to.ensures ∙ ten_to_is c.args.n c.pre

@@ -1,0 +1,19 @@
+-- `cases::ranges::within_bounds` meets its contract: one law for each way out.
+-- Assumes nothing.
+use borrow.Author.Rules.{rules}
+use mathlib.Core.Path.{ap, ◌∙◌}
+use mir.Facts.{to_z-of_z}
+use Rattle.cases.specs.Ranges.{value_at_least, value_at_most}
+use Rattle.cases.proofs.RangeLaws.{range_zero, range_low, range_high}
+use Rattle.cases.proofs.ranges.within_bounds.Goals as goal
+
+pub returns-then-digits-eq0 : goal.returns-then-digits-eq0
+returns-then-digits-eq0 c = range_zero c.args.rule _ _ c.if-digits-eq0.taken
+
+pub returns-then-not-at_least : goal.returns-then-not-at_least
+returns-then-not-at_least c = range_low c.args.rule _ _ c.if-digits-eq0.left _ (c.at_least.ensures ∙ ap (value_at_least c.args.digits) (to_z-of_z c.fits.power)) c.if-not-at_least.taken
+
+pub returns : goal.returns
+returns c =
+    range_high c.args.rule _ _ c.if-digits-eq0.left _ (c.at_least.ensures ∙ ap (value_at_least c.args.digits) (to_z-of_z c.fits.power)) c.if-not-at_least.left _
+    (c.at_most.ensures ∙ ap (value_at_most c.args.rule.most c.args.digits) (to_z-of_z c.fits.power))

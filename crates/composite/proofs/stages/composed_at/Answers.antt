@@ -1,0 +1,28 @@
+-- `composite::stages::composed_at` meets its contract. Assumes nothing.
+use mathlib.Core.Path.{◌∙◌}
+use native.Mathlib.Omega.{arith}
+use Rattle.pair.specs.Calls.{answer}
+use Rattle.composite.specs.Inner.{stage_in}
+use Rattle.composite.proofs.StageLaws.{weights_summed, total_years, total_days, total_exposure, weighted_mean}
+use borrow.Author.Rules.{rules}
+use Rattle.composite.proofs.stages.composed_at.Goals as goal
+
+pub returns-in-1 : goal.returns-in-1
+returns-in-1 c =
+    let s = c in
+    total_years (stage_in s.args.stages.records) (answer s.args.exposure) s.args.last s.args.k s.args.total s.requires.total_value c.in-1.is
+
+pub returns-in-2 : goal.returns-in-2
+returns-in-2 c =
+    let s = c in
+    total_days (stage_in s.args.stages.records) (answer s.args.exposure) s.args.last s.args.k s.args.total s.requires.total_value c.in-2.is c.entry.result c.times.result c.entry.ensures c.times.ensures
+
+pub returns-in-21 : goal.returns-in-21
+returns-in-21 c =
+    let s = c in
+    total_exposure (stage_in s.args.stages.records) (answer s.args.exposure) s.args.last s.args.k s.args.total s.requires.total_value c.in-21.is
+
+pub returns-in_default : goal.returns-in_default
+returns-in_default c =
+    let s = c in
+    weighted_mean (stage_in s.args.stages.records) (answer s.args.exposure) s.args.last s.args.k s.args.total s.requires.total_value (λ z. omega (arith, c.in-1.rest)) (λ z. omega (arith, c.in-1.rest)) (λ z. omega (arith, c.in-1.rest)) c.weighted_sum.result c.over.result (c.weighted_sum.ensures ∙ weights_summed s.args.stages.records s.args.years.list s.requires.last_lt_most_stages.2 s.args.last s.args.k s.requires.last_lt_most_stages.0) c.over.ensures

@@ -1,0 +1,9 @@
+-- `composite::stages::time_in` meets its contract. Assumes nothing.
+use borrow.Author.Rules.{rules}
+use Rattle.slots.specs.Slots.{table, same, is_in, place_in, owner_of, place_of}
+use Rattle.cases.specs.Cases.{value_at}
+use Rattle.composite.proofs.stages.time_in.Goals as goal
+
+pub returns : goal.returns
+unfolding value_at place_of owner_of place_in is_in same table
+returns c = c.time_given.ensures

@@ -1,0 +1,27 @@
+-- By the pace of x, and refused where x is. Assumes nothing.
+use mathlib.Core.Path.{refl, ap}
+use Rattle.pair.specs.Calls.{answer}
+use Rattle.equations.specs.Page.{growth}
+use Rattle.equations.specs.Readings.{pair_growing}
+use Rattle.media.specs.Inner.{paced}
+use Rattle.media.proofs.Growing.{growth_tested, growth_refused}
+use borrow.Author.Rules.{rules}
+use Rattle.media.proofs.growth.g_at.Goals as goal
+
+pub returns-in_default : goal.returns-in_default
+unfolding answer
+returns-in_default c = rw (c.in_default.is, growth_refused) refl
+
+pub returns-then-is_fast : goal.returns-then-is_fast
+unfolding answer paced
+returns-then-is_fast c =
+    let t = c in
+    let p = t.x-1.given in
+    rw (growth_tested p.0.0 (ap answer p.1) t.is_fast.ensures c.if-is_fast.true) c.fast_build_up.ensures
+
+pub returns : goal.returns
+unfolding answer paced growth pair_growing
+returns c =
+    let t = c in
+    let p = t.x-1.given in
+    rw (growth_tested p.0.0 (ap answer p.1) t.is_fast.ensures c.if-is_fast.false, c.slow_build_up.ensures, c.sum_of_terms.ensures) refl

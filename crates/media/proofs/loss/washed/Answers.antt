@@ -1,0 +1,8 @@
+-- Two quotients. Assumes nothing.
+use mathlib.Core.Path.{refl}
+use borrow.Author.Rules.{rules}
+use Rattle.media.proofs.loss.washed.Goals as goal
+
+pub returns : goal.returns
+returns c = rw (c.over-2.ensures, c.over.ensures)
+    refl

@@ -1,0 +1,14 @@
+-- From the shares of time, if there are any. Assumes nothing.
+use mathlib.Core.Path.{refl}
+use borrow.Author.Rules.{rules}
+use Rattle.pathway.specs.Inner.{timed_figures}
+use Rattle.pathway.specs.Lines.{figure, figured, breathed}
+use Rattle.pathway.proofs.air.timed_figures.Goals as goal
+
+pub returns-in_default : goal.returns-in_default
+unfolding timed_figures breathed figured figure
+returns-in_default c = rw c.in_default.is refl
+
+pub returns : goal.returns
+unfolding timed_figures breathed
+returns c = rw c.in-Time.is c.air_figures_with.ensures

@@ -1,0 +1,13 @@
+-- The slot's pair, or none. Assumes nothing.
+use mathlib.Core.Path.{refl}
+use borrow.Author.Rules.{rules}
+use Rattle.pathway.specs.Lines.{as_csf}
+use Rattle.pathway.proofs.given.as_csf.Goals as goal
+
+pub returns-in-Is : goal.returns-in-Is
+unfolding as_csf
+returns-in-Is c = rw c.in-Is.is refl
+
+pub returns-in-Absent : goal.returns-in-Absent
+unfolding as_csf
+returns-in-Absent c = rw c.in-Absent.is refl

@@ -1,0 +1,11 @@
+-- By the test of the route. Assumes nothing.
+use mathlib.Core.Path.{refl}
+use borrow.Author.Rules.{rules}
+use Rattle.equations.proofs.Guided.{route_tested}
+use Rattle.pathway.proofs.given.csf_of.Goals as goal
+
+pub returns-then-is_inhaled : goal.returns-then-is_inhaled
+returns-then-is_inhaled c = rw (c.as_csf.ensures, route_tested, ← c.is_inhaled.ensures, c.if-is_inhaled.true) refl
+
+pub returns : goal.returns
+returns c = rw (route_tested, ← c.is_inhaled.ensures, c.if-is_inhaled.false) refl

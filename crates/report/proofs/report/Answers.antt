@@ -1,0 +1,25 @@
+-- `report::report` meets its contract. Assumes nothing.
+use mathlib.Core.Path.{ap}
+use borrow.Author.Rules.{rules}
+use Rattle.deck.specs.declared.Reading.{Reading}
+use Rattle.deck.specs.DeckCase.{read_of}
+use Rattle.scenario.specs.Scenario.{scenario_with}
+use Rattle.report.specs.Report.{ordinary}
+use Rattle.report.proofs.CallLaws.{deck_stops, deck_read, answers}
+use Rattle.report.proofs.DemandTwo.{ordinary_sounds}
+use Rattle.report.proofs.report.Goals as goal
+
+pub returns-in_default : goal.returns-in_default
+unfolding read_of ordinary
+returns-in_default c =
+    let a = c.args in
+    deck_stops ordinary a.deck.now a.out.now _ _ _ _ _ (ap (λ (r : Reading). r.status) c.read-reading.ensures.value) c.in_default.is c.tell.ensures
+
+pub returns : goal.returns
+unfolding ordinary scenario_with
+returns c =
+    let a = c.args in
+    let reading = c.read-reading.ensures.value in
+    let none = c.in-Passed.is in
+    answers ordinary a.deck.now a.out.now _ reading none (ordinary_sounds.sound a.deck.now (deck_read ordinary a.deck.now a.out.now _ reading none))
+    _ c.entered_from-receptors.ensures _ _ c.write_entered.ensures.value c.write_entered.ensures.out_after

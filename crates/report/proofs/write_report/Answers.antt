@@ -1,0 +1,23 @@
+-- `report::write_report` meets its contract. Assumes nothing.
+use mathlib.Core.Path.{refl}
+use borrow.Author.Rules.{rules}
+use Rattle.scenario.specs.Scenario.{scenario_from}
+use Rattle.report.specs.Report.{rows_of}
+use Rattle.sheet.proofs.CountLaws.{verdict_stops, verdict_passes, room_in_memory}
+use Rattle.report.proofs.CallLaws.{memory_stops, memory_passes}
+use Rattle.report.proofs.write_report.Goals as goal
+
+pub returns-in-Refused : goal.returns-in-Refused
+returns-in-Refused c =
+    let a = c.args in
+    memory_stops rows_of (scenario_from a.site a.chemicals a.receptors) a.out.now _ (verdict_stops (scenario_from a.site a.chemicals a.receptors) _ c.scenario_verdict-verdict.ensures _ c.in-Refused.is) c.refused.result c.refused.ensures
+
+pub write_from-requires : goal.write_from-requires
+write_from-requires c =
+    let a = c.args in
+    room_in_memory (scenario_from a.site a.chemicals a.receptors) _ (verdict_passes (scenario_from a.site a.chemicals a.receptors) _ c.scenario_verdict-verdict.ensures c.in_default.is) refl
+
+pub returns : goal.returns
+returns c =
+    let a = c.args in
+    memory_passes rows_of (scenario_from a.site a.chemicals a.receptors) a.out.now (verdict_passes (scenario_from a.site a.chemicals a.receptors) _ c.scenario_verdict-verdict.ensures c.in_default.is) _ _ c.write_from.ensures

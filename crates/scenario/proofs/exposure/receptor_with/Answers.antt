@@ -1,0 +1,9 @@
+-- The two times are compared once. Assumes nothing.
+use mathlib.Core.Path.{refl, ◌∙◌, ap}
+use Rattle.scenario.specs.Scenario.{stay_if, receptor_with}
+use borrow.Author.Rules.{rules}
+use Rattle.scenario.proofs.exposure.receptor_with.Goals as goal
+
+pub returns : goal.returns
+unfolding receptor_with
+returns c = rw (c.later_if-later.ensures, c.stay_if-stay.ensures, c.compare.ensures) refl

@@ -1,0 +1,14 @@
+-- `scenario::memory::ids_of` meets its contract: the first four places are the receptors'. Assumes nothing.
+use borrow.Author.Rules.{rules}
+use mathlib.Core.Path.{◌≡◌, refl, sym, ◌∙◌}
+use lib.Dec.{lit<}
+use lib.ListN.{length, length-map}
+use Rattle.sizes.specs.Sizes.{most_receptors}
+use Rattle.scenario.proofs.InputLaws.{ids_all}
+use Rattle.scenario.proofs.memory.ids_of.Goals as goal
+
+pub returns : goal.returns
+returns c =
+    let s = c in
+    let long : length s.args.receptors.list ≡ most_receptors = sym (length-map s.args.receptors.list _) ∙ s.well-formed.0.1.1.1.0.1.0.1 in
+    ids_all s.args.receptors _ long

@@ -1,0 +1,26 @@
+-- `sheet::chemicals::means_of` meets its contract. The invariant: the means so far, then none; none of them was refused. Assumes nothing.
+use mathlib.Core.Path.{◌≡◌, refl, sym, ap, ◌∙◌}
+use mathlib.Core.List.{◌++◌}
+use mathlib.Core.Bool.{true, false, not, false≢true}
+use Prim.Native.Nat.{◌+◌, ◌-◌, ◌≤◌, ◌<◌}
+use native.Mathlib.Omega.{arith}
+use borrow.Author.Rules.{rules}
+use lib.ListN.{length, get_or, replicate, length-map}
+use Rattle.sizes.specs.Sizes.{most_receptors}
+use Rattle.lists.specs.Lists.{tabulate, any_of}
+use Rattle.lists.proofs.Tabulated.{filled_start, filled_more}
+use Rattle.media.specs.Media.{found, no_media}
+use Rattle.scenario.specs.Scenario.{is_refused, no_receptor}
+use Rattle.sheet.specs.Counts.{mean_with}
+use Rattle.sheet.specs.Inner.{media_from, means_of}
+use Rattle.sheet.proofs.ChemicalLaws.{mean_at_lem, mean_on, mean_stops}
+use Rattle.sheet.proofs.chemicals.means_of.Given as goal
+
+abbrev pub invariant-loop-j : goal.invariant-loop-j
+invariant-loop-j l =
+    (l.j ≤ l.receptors.count)
+    × (l.list ≡ tabulate l.j (λ k. media_from (mean_with l.site l.chemical (get_or l.receptors.list k no_receptor) l.ground)) ++ replicate (most_receptors - l.j) no_media)
+    × (any_of (λ k. is_refused (mean_with l.site l.chemical (get_or l.receptors.list k no_receptor) l.ground)) l.j ≡ false)
+
+abbrev pub decreases-loop-j : goal.decreases-loop-j
+decreases-loop-j l = l.receptors.count - l.j

@@ -1,0 +1,80 @@
+-- `sheet::lines::put_chemical` meets its contract. The invariant: the cells hold the lines so far, none of which stops, and the cells of other
+-- lines are as they were. Assumes nothing.
+use mathlib.Core.Path.{◌≡◌, refl, sym, ap, subst, ◌∙◌}
+use mathlib.Core.List.{List}
+use Prim.Native.Nat.{ℕ, ◌+◌, ◌-◌, ◌≤◌, ◌<◌, ◌*◌}
+use native.Mathlib.Nat.{not-suc-le-zero}
+use native.Mathlib.Omega.{arith}
+use borrow.Author.Rules.{rules}
+use lib.ListN.{length, length-map}
+use Rattle.sheet.specs.Counts.{effect_cells}
+use Rattle.sizes.specs.Sizes.{most_lines, most_receptors, pathways_per_chemical}
+use Rattle.equations.specs.declared.Effect.TheVariants.{Hazard, Cancer}
+use Rattle.pathway.specs.Lines.{figured}
+use Rattle.cases.specs.declared.Status.TheVariants.{Passed}
+use Rattle.cases.specs.Conditions.{first}
+use Rattle.cases.proofs.FirstMet.{never}
+use Rattle.lists.specs.Lists.{chained}
+use Rattle.sheet.specs.Inner.{figure_for, source_columns, faulty_line, faulty_chemical, with_counts, CellsHold, SameBut}
+use Rattle.sheet.proofs.ReceptorLaws.{fault_is, columns_are, line_fits, line_stops}
+use Rattle.sheet.proofs.CellLaws.{line_length, line_others, line_held}
+use Rattle.sheet.proofs.lines.put_chemical.Goals as goal
+
+pub loop-p-init : goal.loop-p-init
+unfolding chained first
+loop-p-init c = (omega arith, refl, λ e w q h. absurd (not-suc-le-zero h), λ k h. refl, refl)
+
+pub shape_of-cells-in-Stopped : goal.shape_of-cells-in-Stopped
+shape_of-cells-in-Stopped c = c.loop-p.invariant.1
+
+pub returns-in-Stopped : goal.returns-in-Stopped
+returns-in-Stopped c =
+    let s = c in
+    let l = c.loop-p in
+    let test = c.loop-p-test.true in
+    let a = s.args in
+    let long : length a.source.means ≡ most_receptors = sym (length-map a.source.means _) ∙ s.well-formed.1.1.1.1.1.1.0.1.1.1.1.0.1.0.1 in
+    let there : a.place < length a.source.means = omega (arith, long, s.requires) in
+    let told = fault_is a.site a.place a.receptor a.source _ there _ l.p _ _ s.requires.3 c.pathway_at.ensures c.figures_with-line.ensures a.capped _ _ c.fault_at-status.ensures in
+    let stop = c.in-Stopped.is in (
+      line_stops a.capped a.site a.place a.receptor a.source a.before l.p l.invariant.4 _ told test _ _ _ stop,
+      (λ e. absurd (never _ _ _ _ stop e), l.invariant.3),
+    )
+
+pub loop-p-preserved : goal.loop-p-preserved
+unfolding figured figure_for
+loop-p-preserved c =
+    let s = c in
+    let l = c.loop-p in
+    let test = c.loop-p-test.true in
+    let a = s.args in
+    let long : length a.source.means ≡ most_receptors = sym (length-map a.source.means _) ∙ s.well-formed.1.1.1.1.1.1.0.1.1.1.1.0.1.0.1 in
+    let there : a.place < length a.source.means = omega (arith, long, s.requires) in
+    let way = c.pathway_at.ensures in
+    let figures = c.figures_with-line.ensures in
+    let told = fault_is a.site a.place a.receptor a.source _ there _ l.p _ _ s.requires.3 way figures a.capped _ _ c.fault_at-status.ensures in
+    let h = columns_are a.site a.place a.receptor a.source _ there _ l.p _ _ s.requires.3 way figures Hazard _ c.columns_of.ensures in
+    let k = columns_are a.site a.place a.receptor a.source _ there _ l.p _ _ s.requires.3 way figures Cancer _ c.columns_of-in-loop-p.ensures in
+    let at = a.base + l.p in
+    let u = c.columns_of.result in
+    let v = c.columns_of-in-loop-p.result in
+    let stored = sym (c.put_counts-in-loop-p.ensures ∙ ap (λ (x : List ℕ). with_counts x (at + effect_cells) v) c.put_counts.ensures) in
+    let room : at + (effect_cells + 2 * most_lines) < length l.cells = omega (arith, test, l.invariant.1, s.requires.0) in
+    let small : l.p < most_lines = omega (arith, test) in (
+      omega (arith, test),
+      subst (λ (x : List ℕ). length x ≡ length a.cells.now) stored (line_length l.cells a.base l.p u v ∙ l.invariant.1),
+      subst (λ (x : List ℕ). CellsHold (source_columns a.site a.place a.receptor a.source) (l.p + 1) x a.base) stored
+          (line_held l.cells a.base l.p u v small (source_columns a.site a.place a.receptor a.source) room h k l.invariant.2),
+      subst (λ (x : List ℕ). SameBut pathways_per_chemical a.base a.cells.now x) stored (line_others l.cells a.base l.p u v pathways_per_chemical a.cells.now test l.invariant.3),
+      line_fits a.capped a.site a.place a.receptor a.source a.before l.p l.invariant.4 _ told c.in_default.is,
+    )
+
+pub shape_of-cells : goal.shape_of-cells
+shape_of-cells c = c.loop-p.invariant.1
+
+pub returns : goal.returns
+unfolding faulty_chemical
+returns c =
+    let l = c.loop-p in
+    let all : l.p ≡ pathways_per_chemical = omega arith in
+    record { value = sym (rw all at l.invariant.4); cells_hold = λ _. rw all at l.invariant.2; same_but = l.invariant.3 }

@@ -1,0 +1,90 @@
+-- `sheet::lines::put_lines` meets its contract. The invariant: the cells hold the lines of the chemicals so far, none of which stops, the cells
+-- below are as they were, and the others stay 0. Assumes nothing.
+use mathlib.Core.Path.{◌≡◌, refl, sym, ap, ◌∙◌}
+use Prim.Native.Nat.{◌+◌, ◌*◌, ◌-◌, ◌≤◌, ◌<◌}
+use native.Mathlib.Nat.{not-suc-le-zero}
+use native.Mathlib.Omega.{arith}
+use borrow.Author.Rules.{rules}
+use lib.ListN.{length, length-map}
+use Rattle.sizes.specs.Sizes.{max_chemicals, pathways_per_chemical}
+use Rattle.cases.specs.declared.Status.TheVariants.{Passed}
+use Rattle.cases.specs.Conditions.{first}
+use Rattle.cases.proofs.FirstMet.{never}
+use Rattle.lists.specs.Lists.{chained}
+use Rattle.sheet.specs.Counts.{cell_of, receptor_cells}
+use Rattle.sheet.specs.Inner.{source_at, columns_worked, faulty_chemical, faulty_worked, CellsHold, CellsEmpty, SameBelow, ZeroFrom}
+use Rattle.sheet.proofs.ReceptorLaws.{lines_are, chemical_on, chemical_stops}
+use Rattle.sheet.proofs.CellLaws.{chemical_below, chemical_empty, chemical_zero, chemical_held}
+use Rattle.sheet.proofs.lines.put_lines.Goals as goal
+
+pub loop-i-init : goal.loop-i-init
+unfolding chained first
+loop-i-init c = (omega arith, refl, λ e w q h. absurd (not-suc-le-zero h), λ k h. refl, refl, λ z. (λ e w q h l. z _ (omega arith), λ k h. z k (omega arith)))
+
+pub shape_of-cells-in-Stopped : goal.shape_of-cells-in-Stopped
+shape_of-cells-in-Stopped c = c.put_chemical-status.auto.0 ∙ c.loop-i.invariant.1
+
+pub returns-in-Stopped : goal.returns-in-Stopped
+returns-in-Stopped c =
+    let s = c in
+    let a = s.args in
+    let l = c.loop-i in
+    let test = c.loop-i-test.true in
+    let long : length a.sources.list ≡ max_chemicals = sym (length-map a.sources.list _) ∙ s.well-formed.1.1.1.1.1.0.1.1.1.0.1.0.1 in
+    let here : l.i < length a.sources.list = omega (arith, test, s.requires) in
+    let few : l.i < max_chemicals = omega (arith, test, s.requires) in
+    let put = c.put_chemical-status in
+    let same = put.ensures.1.1 in
+    let stop = c.in-Stopped.is in (
+      chemical_stops a.capped a.site a.place a.receptor a.sources _ l.i here a.before put.result put.ensures.0 l.invariant.4 test _ _ _ stop,
+      (
+        λ e. absurd (never _ _ _ _ stop e),
+        (
+          chemical_below a.base l.i l.cells put.new.0 few same a.cells.now l.invariant.3,
+          λ z.
+              let kept = l.invariant.5 z in (
+                chemical_empty a.base l.i l.cells put.new.0 few same (a.sources.count * pathways_per_chemical) (omega (arith, test)) kept.0,
+                chemical_zero a.base l.i l.cells put.new.0 few same kept.1,
+              ),
+        ),
+      ),
+    )
+
+pub loop-i-preserved : goal.loop-i-preserved
+loop-i-preserved c =
+    let s = c in
+    let a = s.args in
+    let l = c.loop-i in
+    let test = c.loop-i-test.true in
+    let long : length a.sources.list ≡ max_chemicals = sym (length-map a.sources.list _) ∙ s.well-formed.1.1.1.1.1.0.1.1.1.0.1.0.1 in
+    let here : l.i < length a.sources.list = omega (arith, test, s.requires) in
+    let few : l.i < max_chemicals = omega (arith, test, s.requires) in
+    let put = c.put_chemical-status in
+    let same = put.ensures.1.1 in
+    let read = c.in_default.is in
+    let columns = columns_worked a.site a.sources a.place a.receptor in
+    let filled : CellsHold (λ p. columns (l.i * pathways_per_chemical + p)) pathways_per_chemical put.new.0 (a.base + l.i * pathways_per_chemical) =
+    λ e w p h. put.ensures.1.0 read e w p h ∙ ap (cell_of w) (lines_are a.capped a.site a.place a.receptor a.sources _ l.i here p h e)
+    in (
+      omega (arith, test),
+      put.auto.0 ∙ l.invariant.1,
+      chemical_held a.base l.i l.cells put.new.0 few same columns l.invariant.2 filled,
+      chemical_below a.base l.i l.cells put.new.0 few same a.cells.now l.invariant.3,
+      chemical_on a.capped a.site a.place a.receptor a.sources _ l.i here a.before put.result put.ensures.0 l.invariant.4 read,
+      λ z.
+          let kept = l.invariant.5 z in (
+            chemical_empty a.base l.i l.cells put.new.0 few same ((l.i + 1) * pathways_per_chemical) (omega arith) kept.0,
+            chemical_zero a.base l.i l.cells put.new.0 few same kept.1,
+          ),
+    )
+
+pub shape_of-cells : goal.shape_of-cells
+shape_of-cells c = c.loop-i.invariant.1
+
+pub returns : goal.returns
+unfolding faulty_worked
+returns c =
+    let s = c in
+    let l = c.loop-i in
+    let all : l.i ≡ s.args.sources.count = omega arith in
+    record { value = sym (rw all at l.invariant.4); cells_hold = λ _. rw all at l.invariant.2; same_below = l.invariant.3; cells_empty = rw all at l.invariant.5 }

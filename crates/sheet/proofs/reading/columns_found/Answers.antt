@@ -1,0 +1,8 @@
+-- The three cells of a line. Assumes nothing.
+use borrow.Author.Rules.{rules}
+use Rattle.sheet.specs.Counts.{columns_found}
+use Rattle.sheet.proofs.reading.columns_found.Goals as goal
+
+pub returns : goal.returns
+unfolding columns_found
+returns c = c.columns_from.ensures

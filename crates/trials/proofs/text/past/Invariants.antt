@@ -1,0 +1,12 @@
+-- What stands from the place on is what was passed and what stands from here on. Assumes nothing.
+use Rattle.std.proofs.Common.{◌≡◌, ℕ, suc, ◌+◌, ◌-◌, ◌<◌, ◌≤◌, true, false, ◌&&◌, List, [], length, get_or, drop, sym, refl, ap, ◌∙◌, add-one, arith, drop_of_length-le, drop-cons, rules, le-leb}
+use borrow.Author.Tests.{lt-leb}
+use Rattle.trials.specs.Text.{leading}
+use Rattle.trials.proofs.text.past.Given as goal
+
+abbrev pub invariant-loop-i : goal.invariant-loop-i
+invariant-loop-i l =
+    (l.at ≤ l.i) × (l.i ≤ l.at + (length l.s - l.at)) × (l.at + leading l.low l.high (drop l.at l.s) ≡ l.i + leading l.low l.high (drop l.i l.s))
+
+abbrev pub decreases-loop-i : goal.decreases-loop-i
+decreases-loop-i l = length l.s - l.i

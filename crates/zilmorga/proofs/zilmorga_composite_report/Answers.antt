@@ -1,0 +1,9 @@
+-- `zilmorga_composite_report` tells what the composite call answers, and leaves the buffer as that call does. Assumes nothing.
+use mathlib.Core.Path.{◌∙◌}
+use borrow.Author.Rules.{rules}
+use Rattle.zilmorga.proofs.zilmorga_composite_report.Goals as goal
+
+pub returns : goal.returns
+returns c =
+    let called = c.report-told in
+    record { field_after = c.put_told.ensures ∙ called.ensures.0; report_after = called.ensures.1 }
