@@ -29,4 +29,4 @@ pub returns : goal.returns
 unfolding written
 returns c =
     let a = c.args in
-    let whole = line_whole a.row a.line.now (omega arith) in record { result_value = sym whole.0; line_after = (ap (λ (x : List ℕ). x ++ drop report_line_width a.line.now) c.put_line.ensures ∙ sym whole.1, ) }
+    let whole = line_whole a.row a.line.now (omega arith) in record { result_value = sym whole.0; line_after = ap (λ (x : List ℕ). x ++ drop report_line_width a.line.now) c.put_line.ensures ∙ sym whole.1 }

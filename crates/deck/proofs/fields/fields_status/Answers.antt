@@ -82,5 +82,8 @@ pub returns : goal.returns
 returns c =
     let a = c.args in
     let l = c.loop-f in
-    let rules = c.rules-rules in record { value = sym (subst (λ (k : ℕ). first (up_to (field_by rules.result a.line.now a.n) k) ≡ Passed) (le_antisymm l.invariant.0 c.loop-f-test.false) l.invariant.1)
-          ∙ fields_by a.sort a.kind a.n a.line.now _ rules.ensures fields_per_line; values_after = (λ q. fields_all a.line.now l.values l.f (l.invariant.2 ∙ c.requires.1) l.invariant.0 c.loop-f-test.false l.invariant.3, ) }
+    let rules = c.rules-rules in record {
+      value = sym (subst (λ (k : ℕ). first (up_to (field_by rules.result a.line.now a.n) k) ≡ Passed) (le_antisymm l.invariant.0 c.loop-f-test.false) l.invariant.1)
+          ∙ fields_by a.sort a.kind a.n a.line.now _ rules.ensures fields_per_line;
+      values_after = λ q. fields_all a.line.now l.values l.f (l.invariant.2 ∙ c.requires.1) l.invariant.0 c.loop-f-test.false l.invariant.3;
+    }

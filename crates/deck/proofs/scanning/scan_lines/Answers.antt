@@ -98,13 +98,4 @@ pub returns : goal.returns
 returns c =
     let a = c.args in
     let l = c.loop-n in
-    let end = c.loop-n-test.false in (
-      scan_end a.sort a.deck.now _ _ l.invariant.0 end _ c.ended.ensures.status_value,
-      (
-        (λ q. scan_counts a.sort a.deck.now _ _ l.invariant.0 end _ _ c.ended.ensures.chemicals_value),
-        (
-          omega (arith, c.ended.ensures.chemicals_value.0, c.ended.ensures.chemicals_value.1, l.invariant.0.few_c, l.invariant.0.few_r, in_room a.sort),
-          (λ q. kept_all a.deck.now l.n _ (omega (arith, l.invariant.0.bound, c.requires.0)) (all a.sort a.deck.now _ _ l.invariant.0 end) l.invariant.1),
-        ),
-      ),
-    )
+    let end = c.loop-n-test.false in record { status_value = scan_end a.sort a.deck.now _ _ l.invariant.0 end _ c.ended.ensures.status_value; chemicals_value = (λ q. scan_counts a.sort a.deck.now _ _ l.invariant.0 end _ _ c.ended.ensures.chemicals_value); chemicals_le_max_chemicals = omega (arith, c.ended.ensures.chemicals_value.0, c.ended.ensures.chemicals_value.1, l.invariant.0.few_c, l.invariant.0.few_r, in_room a.sort); values_after = (λ q. kept_all a.deck.now l.n _ (omega (arith, l.invariant.0.bound, c.requires.0)) (all a.sort a.deck.now _ _ l.invariant.0 end) l.invariant.1) }

@@ -18,11 +18,12 @@ pub shared-requires : goal.shared-requires
 shared-requires c =
     let a = c in
     let v : Nine a.args.a = number_nine a.args.a a.requires.a_value (omega arith) in
-    let w : Nine a.args.b = number_nine a.args.b a.requires.b_value a.requires.significand_nonzero in record { le_m = (v.least, v.most); le_n = (
-        (w.least, w.most),
-        rw (back c.minus-e.type-inv, c.minus-e.ensures, number_back a.args.a a.requires.a_value, number_back a.args.b a.requires.b_value)
-            (omega (arith, mag_minus a.args.a.exponent a.args.b.exponent, v.reach, w.reach)),
-      ); e_bound =  }
+    let w : Nine a.args.b = number_nine a.args.b a.requires.b_value a.requires.significand_nonzero in record {
+      le_m = (v.least, v.most);
+      le_n = (w.least, w.most);
+      e_bound = rw (back c.minus-e.type-inv, c.minus-e.ensures, number_back a.args.a a.requires.a_value, number_back a.args.b a.requires.b_value)
+          (omega (arith, mag_minus a.args.a.exponent a.args.b.exponent, v.reach, w.reach));
+    }
 
 pub returns : goal.returns
 unfolding quotient_end

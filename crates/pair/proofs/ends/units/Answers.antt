@@ -42,7 +42,7 @@ above-requires c =
     let a = c in
     let n : Nine a.args.w = number_nine a.args.w a.requires.w_value (omega arith) in
     let v : Small a.args.u = unit_small a.args.u a.requires.u_value in
-    let t : lt_z a.args.w.exponent a.args.u ≡ true = rw (number_back a.args.w a.requires.w_value, to_z-of_z a.ranges.u) at (sym c.less.ensures ∙ c.if-less.true) in record { sfits = rw (number_back a.args.w a.requires.w_value, to_z-of_z a.ranges.u) (fits_minus a.args.u a.args.w.exponent (omega (arith, n.reach, v.small))); s_value = (rw (number_back a.args.w a.requires.w_value, to_z-of_z a.ranges.u) (less_turned (nine_small n) v t), ) }
+    let t : lt_z a.args.w.exponent a.args.u ≡ true = rw (number_back a.args.w a.requires.w_value, to_z-of_z a.ranges.u) at (sym c.less.ensures ∙ c.if-less.true) in record { sfits = rw (number_back a.args.w a.requires.w_value, to_z-of_z a.ranges.u) (fits_minus a.args.u a.args.w.exponent (omega (arith, n.reach, v.small))); s_value = rw (number_back a.args.w a.requires.w_value, to_z-of_z a.ranges.u) (less_turned (nine_small n) v t) }
 
 pub lowered-requires : goal.lowered-requires
 lowered-requires c =
@@ -65,7 +65,7 @@ above-requires-2 c =
     let a = c in
     let n : Nine a.args.w = number_nine a.args.w a.requires.w_value (omega arith) in
     let v : Small a.args.u = unit_small a.args.u a.requires.u_value in
-    let t : lt_z a.args.w.exponent a.args.u ≡ false = rw (number_back a.args.w a.requires.w_value, to_z-of_z a.ranges.u) at (sym c.less.ensures ∙ c.if-less.false) in record { sfits = rw (number_back a.args.w a.requires.w_value, to_z-of_z a.ranges.u) (fits_minus a.args.w.exponent a.args.u (omega (arith, n.reach, v.small))); s_value = (rw (number_back a.args.w a.requires.w_value, to_z-of_z a.ranges.u) t, ) }
+    let t : lt_z a.args.w.exponent a.args.u ≡ false = rw (number_back a.args.w a.requires.w_value, to_z-of_z a.ranges.u) at (sym c.less.ensures ∙ c.if-less.false) in record { sfits = rw (number_back a.args.w a.requires.w_value, to_z-of_z a.ranges.u) (fits_minus a.args.w.exponent a.args.u (omega (arith, n.reach, v.small))); s_value = rw (number_back a.args.w a.requires.w_value, to_z-of_z a.ranges.u) t }
 
 pub power-requires : goal.power-requires
 power-requires c =

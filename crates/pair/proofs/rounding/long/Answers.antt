@@ -67,7 +67,7 @@ pub figured-requires-2 : goal.figured-requires-2
 figured-requires-2 c =
     let b = c in
     let a = b in
-    let l : b.whole-2.result ≤ 1 = subst (λ (x : ℕ). x ≤ 1) (sym b.whole-2.ensures) (divided_most a.args.up a.args.low 1000000000000000000 1 (lit< tt) a.requires.low_bound) in record { m_bound = omega (arith, l, a.requires.high_bound); e_bound = (rw (back c.plus-2.type-inv, c.plus-2.ensures, to_z-of_z a.ranges.e) (omega (arith, a.requires.e_bound, mag_plus a.args.e (pos 18))), ) }
+    let l : b.whole-2.result ≤ 1 = subst (λ (x : ℕ). x ≤ 1) (sym b.whole-2.ensures) (divided_most a.args.up a.args.low 1000000000000000000 1 (lit< tt) a.requires.low_bound) in record { m_bound = omega (arith, l, a.requires.high_bound); e_bound = rw (back c.plus-2.type-inv, c.plus-2.ensures, to_z-of_z a.ranges.e) (omega (arith, a.requires.e_bound, mag_plus a.args.e (pos 18))) }
 
 pub returns : goal.returns
 returns c =

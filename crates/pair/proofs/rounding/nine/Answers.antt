@@ -11,7 +11,7 @@ use Rattle.pair.proofs.rounding.nine.Goals as goal
 
 pub carry-requires : goal.carry-requires
 carry-requires c =
-    let a = c in record { m_bound = subst (λ (x : ℕ). x ≤ 1000000000) (sym c.whole-m.ensures) (divided_most a.args.up a.args.n a.args.d 1000000000 a.requires.d_nonzero a.requires.d_bound.1); e_bound = (rw (to_z-of_z a.ranges.e) a.requires.e_bound, ) }
+    let a = c in record { m_bound = subst (λ (x : ℕ). x ≤ 1000000000) (sym c.whole-m.ensures) (divided_most a.args.up a.args.n a.args.d 1000000000 a.requires.d_nonzero a.requires.d_bound.1); e_bound = rw (to_z-of_z a.ranges.e) a.requires.e_bound }
 
 pub returns-then-up : goal.returns-then-up
 returns-then-up c = let a = c in rw (c.carry.ensures, c.whole-m.ensures, to_z-of_z a.ranges.e) refl

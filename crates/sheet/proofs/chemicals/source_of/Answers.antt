@@ -35,4 +35,4 @@ returns c =
     let whole = sym c.lacks.ensures ∙ c.if-lacks.false in
     let a = s.args in
     let told = c.ground_of in
-    let is = c.in-Is.is in record { worked_value = told_worked a.site a.receptors a.chemical _ c.values_of-values.ensures _ c.particles_of.ensures told.result told.ensures _ is whole _ c.source_from.ensures.worked_value; source_value = (λ w. told_made a.site a.receptors a.chemical _ c.values_of-values.ensures _ c.particles_of.ensures told.result told.ensures _ is _ (c.source_from.ensures.source_value w), ) }
+    let is = c.in-Is.is in record { worked_value = told_worked a.site a.receptors a.chemical _ c.values_of-values.ensures _ c.particles_of.ensures told.result told.ensures _ is whole _ c.source_from.ensures.worked_value; source_value = λ w. told_made a.site a.receptors a.chemical _ c.values_of-values.ensures _ c.particles_of.ensures told.result told.ensures _ is _ (c.source_from.ensures.source_value w) }

@@ -31,7 +31,7 @@ returns-then-not-at_most c =
 pub less-requires : goal.less-requires
 less-requires c =
     let t = c in
-    let s = t.args in record { a_value = (sym t.is_years.ensures ∙ not-false _ t.if-not-is_years.false-raw, sym t.is_years-2.ensures ∙ not-false _ t.if-not-is_years-2.false-raw); b_bound = (leb-true (amount s.other) (amount s.self) (sym c.at_most.ensures ∙ not-false _ c.if-not-at_most.false-raw), ) }
+    let s = t.args in record { a_value = (sym t.is_years.ensures ∙ not-false _ t.if-not-is_years.false-raw, sym t.is_years-2.ensures ∙ not-false _ t.if-not-is_years-2.false-raw); b_bound = leb-true (amount s.other) (amount s.self) (sym c.at_most.ensures ∙ not-false _ c.if-not-at_most.false-raw) }
 
 pub returns : goal.returns
 returns c =
