@@ -9,7 +9,7 @@ use Rattle.pair.specs.declared.Pair.{Pair}
 use Rattle.pair.specs.Number as numbers
 use Rattle.pair.specs.Number.{is_number, is_pair, value}
 use Rattle.pair.specs.Calls.{Outcome, is, after, after_one, zero_pair, one_pair, entry, written, sum, product, quotient}
-use Rattle.pair.proofs.Promises.{ordered, at_most, compared_answered, zero_pair_lem, one_pair_lem, one_entry, entry_answered, entry_around, entry_above, around_pair, scaled_proper, sum_zero, product_zero, zero_product, zero_quotient, quotient_one, written_entry}
+use Rattle.pair.proofs.Promises.{ordered, at_most_lem, compared_answered, zero_pair_lem, one_pair_lem, one_entry, entry_answered, entry_around, entry_above, around_pair, scaled_proper, sum_zero, product_zero, zero_product, zero_quotient, quotient_one, written_entry}
 use Rattle.equations.specs.Formula.{read, pairs}
 use Rattle.equations.specs.Series.{Series, phi, psi, first, step, terms, from_zero, pair_series}
 use Rattle.equations.specs.Letters.{g, h}
@@ -100,7 +100,7 @@ slow_at_zero : pace_of (is zero_pair) ≡ Slow
 unfolding pace_of pace_if zero_pair
 slow_at_zero =
     let zero_number : is_number numbers.zero ≡ true = (ordered zero_pair zero_pair_lem.0).high in
-    ap pace_if (compared_answered numbers.zero sixty_four zero_number sixty_four_number ∙ ap is ((at_most numbers.zero sixty_four zero_number sixty_four_number).1 (zero_below (value sixty_four))))
+    ap pace_if (compared_answered numbers.zero sixty_four zero_number sixty_four_number ∙ ap is ((at_most_lem numbers.zero sixty_four zero_number sixty_four_number).1 (zero_below (value sixty_four))))
 
 growth_at_zero : growth pair_growing Slow (is zero_pair) ≡ record { g = is one_pair; h = is (first_pair psi) }
 unfolding growth g_with pair_growing pairs first_pair

@@ -20,7 +20,7 @@ use Rattle.pair.proofs.Powers.{ten_above}
 use Rattle.pair.proofs.Fractions.{Usable, Along}
 use Rattle.pair.proofs.Numbers.{both, zero_is, none_is_zero}
 pub use Rattle.pair.proofs.Providing.{provided_is, provided_true}
-use Rattle.pair.proofs.Ordered.{both_from, at_most, value_proper}
+use Rattle.pair.proofs.Ordered.{both_from, at_most_lem, value_proper}
 use Rattle.pair.proofs.ExactEnds.{top, bottom, power, end_of}
 
 abbrev pub pair : Number → Number → Pair
@@ -49,11 +49,11 @@ unfolding is_pair
 ordered p h =
     let s = both (is_number p.low) (is_number p.high && at_most p.low p.high) h in
     let t = both (is_number p.high) (at_most p.low p.high) s.1 in
-    record { low = s.0; high = t.0; rising = (at_most p.low p.high s.0 t.0).0 t.1 }
+    record { low = s.0; high = t.0; rising = (at_most_lem p.low p.high s.0 t.0).0 t.1 }
 
 pub pair_from_lem : (p : Pair) → Ordered p → is_pair p ≡ true
 unfolding is_pair
-pair_from_lem p o = both_from o.low (both_from o.high ((at_most p.low p.high o.low o.high).1 o.rising))
+pair_from_lem p o = both_from o.low (both_from o.high ((at_most_lem p.low p.high o.low o.high).1 o.rising))
 
 -- a quotient's divisor must have a low end above 0
 fits : Operation → Pair → Bool

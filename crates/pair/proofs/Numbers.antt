@@ -124,7 +124,7 @@ too_many m h = rw (lt-leb m 999999999 h) (and-false (leb 100000000 m))
 
 -- an i32 is read back from its bits
 pub back : {z : ℤ} → mag z < 2147483648 → to_z w32 (of_z w32 z) ≡ z
-back h = to_z-of_z (record { sfits = h })
+back {z = z} h = to_z-of_z {w = w32} {z = z} (record { sfits = h })
 
 -- sums and differences of exponents fit an i32
 pub fits_plus : (e f : ℤ) → mag e + mag f < 2000000000 → SFits w32 (e +ℤ f)

@@ -107,9 +107,9 @@ unfolding value
 value_proper w = record { above_zero = ten_above depth }
 
 -- The test `at_most` is the order of the values.
-pub at_most : (a b : Number) → is_number a ≡ true → is_number b ≡ true → (at_most a b ≡ true) ↔ (value a ≤ᶠ value b)
+pub at_most_lem : (a b : Number) → is_number a ≡ true → is_number b ≡ true → (at_most a b ≡ true) ↔ (value a ≤ᶠ value b)
 unfolding at_most value
-at_most a b p q =
+at_most_lem a b p q =
     let l : Aligned (lower a b) a b = aligned a b (working a p) (working b q) in (
       λ t.
           record {

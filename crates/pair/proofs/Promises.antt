@@ -31,7 +31,7 @@ use Rattle.pair.proofs.Numbers.{both, reach_mag, number_reach}
 pub use Rattle.pair.proofs.Numbers.{zero_is}
 use Rattle.pair.proofs.Providing.{by_cases, never}
 use Rattle.pair.proofs.Ordered.{both_from, number, number_from, zero_number, working, not_at_most}
-pub use Rattle.pair.proofs.Ordered.{at_most, value_proper, size_reach}
+pub use Rattle.pair.proofs.Ordered.{at_most_lem, value_proper, size_reach}
 use Rattle.pair.proofs.Nearest.{rounded_nearest, rounded_reach, rounded_narrow, rounded_itself}
 use Rattle.pair.proofs.Rests.{share_from}
 use Rattle.pair.proofs.ExactEnds.{end_of, end_rounds, end_reach, end_itself, one_number, one_value, rest_ratio, rest_sized, entry_ratio, entry_sized, entry_same, entry_zeros, wide, wide_is, units_divided}
@@ -221,7 +221,7 @@ rest_told f r h =
     let e = ends_are (rest_end false f.high) (rest_end true f.low) r t.1 in
     record {
       operand = a.0;
-      most = (at_most f.high one (ordered f a.0).high one_number).0 a.1;
+      most = (at_most_lem f.high one (ordered f a.0).high one_number).0 a.1;
       low_reach = e.0;
       high_reach = e.1;
       ends_is = e.2;
@@ -295,7 +295,7 @@ rest_answered f p h =
     let l : value f.low ≤ᶠ value one = through (value_proper f.high) o.rising m in (
       pair (rest_end false f.high) (rest_end true f.low),
       provided_true (ends (rest_end false f.high) (rest_end true f.low))
-          (both_from p ((at_most f.high one o.high one_number).1 m))
+          (both_from p ((at_most_lem f.high one o.high one_number).1 m))
           ∙ ends_from (rest_end false f.high) (rest_end true f.low)
           (rounded_reach false (rest_ratio f.high (working f.high o.high).reach) 9 (rest_nine f.high o.high m) (lit≤ tt))
           (rounded_reach true (rest_ratio f.low (working f.low o.low).reach) 9 (rest_nine f.low o.low l) (lit≤ tt)),
@@ -652,7 +652,7 @@ compared_right a b t h =
     let n = both (is_number a) (is_number b) s.0 in
     let i : is (at_most a b) ≡ is t = s.1 in
     let e : at_most a b ≡ t = cc in
-    (λ g. (at_most a b n.0 n.1).0 (e ∙ g), λ g. not_at_most a b n.0 n.1 (e ∙ g))
+    (λ g. (at_most_lem a b n.0 n.1).0 (e ∙ g), λ g. not_at_most a b n.0 n.1 (e ∙ g))
 
 -- Two working numbers can always be compared.
 pub compared_answered : (a b : Number) → is_number a ≡ true → is_number b ≡ true → compared a b ≡ is (at_most a b)
@@ -661,7 +661,7 @@ compared_answered a b p q = provided_true (is (at_most a b)) (both_from p q)
 
 -- A working number is at most itself.
 pub compared_itself : (w : Number) → is_number w ≡ true → compared w w ≡ is true
-compared_itself w n = compared_answered w w n n ∙ ap is ((at_most w w n n).1 (below_itself (value w)))
+compared_itself w n = compared_answered w w n n ∙ ap is ((at_most_lem w w n n).1 (below_itself (value w)))
 
 -- n counts p in units of 10^u: the low end down, the high end up, and by less than one unit
 pub record Counted (p : Pair) (u : ℤ) (n : Units) : Type 0 where

@@ -25,7 +25,7 @@ use Rattle.pair.proofs.Numbers.{Nine, both, number_nine, number_reach}
 use Rattle.pair.proofs.Alignment.{nine_small, place_next, order_above}
 use Rattle.pair.proofs.Sums.{sum_rounded, sum_zero_right, nine_kept}
 use Rattle.pair.proofs.Fractions.{◌<ᶠ◌, Usable}
-use Rattle.pair.proofs.Ordered.{number, number_from, power_rise, reach_from, at_most, value_proper, both_from}
+use Rattle.pair.proofs.Ordered.{number, number_from, power_rise, reach_from, at_most_lem, value_proper, both_from}
 use Rattle.pair.proofs.ExactEnds.{place_size}
 use Rattle.pair.proofs.Providing.{first_fails, second_fails, refused_as}
 use Rattle.pair.proofs.Answers.{pair, Ordered, ordered, usable_on, provided_is, provided_true, ends_are}
@@ -307,7 +307,7 @@ module _ (e : ℤ) (s : Pair) (h : Far e s) where
       (λ t.
       absurd
       (true≢false
-      (sym ((at_most s.low s.high order.low order.high).1 order.rising)
+      (sym ((at_most_lem s.low s.high order.low order.high).1 order.rising)
       ∙ order_above s.low s.high (number_nine s.low order.low h.above) (number_nine s.high order.high high_above_lem) (ltb-true (place s.high.exponent) (place s.low.exponent) t))))
       (λ t. omega (arith, h.far, ltb-false (place s.high.exponent) (place s.low.exponent) t))
 

@@ -15,7 +15,7 @@ use Rattle.pair.specs.Number.{in_reach, is_number, is_pair, at_most, value, plac
 use Rattle.pair.specs.Calls.{Outcome, is, one_pair, in_units}
 use Rattle.pair.specs.Promises as promises
 use Rattle.pair.specs.Promises.{scaled}
-use Rattle.pair.proofs.Promises.{through, ordered, one_pair_lem, written_number, written_value, equal_below, scaled_proper, size_reach, at_most, value_proper, compared_answered, Counted, units_right, units_hold, units_answered}
+use Rattle.pair.proofs.Promises.{through, ordered, one_pair_lem, written_number, written_value, equal_below, scaled_proper, size_reach, at_most_lem, value_proper, compared_answered, Counted, units_right, units_hold, units_answered}
 use Rattle.equations.specs.declared.Pathway.{Pathway}
 use Rattle.equations.specs.declared.Stay.{Stay}
 use Rattle.equations.specs.declared.Effect.{Effect}
@@ -39,7 +39,7 @@ high_number p h = (ordered p h).high
 not_above : (b : Number) (p : Pair) → is_number b ≡ true → is_pair p ≡ true → high_above b (is p) ≡ false → value p.high ≤ᶠ value b
 unfolding high_above is_above
 not_above b p n h t =
-    (at_most p.high b (high_number p h) n).0
+    (at_most_lem p.high b (high_number p h) n).0
     (not-false (at_most p.high b) (rw (compared_answered p.high b (high_number p h) n) at t))
 
 -- 10^−(n + 1), and the unit of each effect, by powers of ten

@@ -24,4 +24,4 @@ returns-in-3 c = λ sort. ap (line_rules sort Chemical) (sym c.in-3.is)
 
 pub returns-in_default : goal.returns-in_default
 unfolding table
-returns-in_default c = λ sort. sym (later_line sort Chemical c.args.line (omega (arith, c.in_default.rest)))
+returns-in_default c = λ sort. sym (later_line sort Chemical c.args.line (omega (arith, c.in_default.in_default-own.rest)))

@@ -24,4 +24,4 @@ returns-in-3 c = c.last_rules.ensures ∙ ap (line_rules c.args.sort Receptor) (
 
 pub returns-in_default : goal.returns-in_default
 unfolding table
-returns-in_default c = sym (later_line c.args.sort Receptor c.args.line (omega (arith, c.in_default.rest)))
+returns-in_default c = sym (later_line c.args.sort Receptor c.args.line (omega (arith, c.in_default.in_default-own.rest)))

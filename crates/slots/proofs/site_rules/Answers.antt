@@ -16,4 +16,4 @@ returns-in-1 c = λ sort. ap (line_rules sort Site) (sym c.in-1.is)
 
 pub returns-in_default : goal.returns-in_default
 unfolding table
-returns-in_default c = λ sort. sym (later_line sort Site c.args.line (omega (arith, c.in_default.rest)))
+returns-in_default c = λ sort. sym (later_line sort Site c.args.line (omega (arith, c.in_default.in_default-own.rest)))

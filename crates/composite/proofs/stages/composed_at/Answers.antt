@@ -25,4 +25,4 @@ returns-in-21 c =
 pub returns-in_default : goal.returns-in_default
 returns-in_default c =
     let s = c in
-    weighted_mean (stage_in s.args.stages.records) (answer s.args.exposure) s.args.last s.args.k s.args.total s.requires.total_value (λ z. omega (arith, c.in_default.rest)) (λ z. omega (arith, c.in_default.rest)) (λ z. omega (arith, c.in_default.rest)) c.weighted_sum.result c.over.result (c.weighted_sum.ensures ∙ weights_summed s.args.stages.records s.args.years.list s.requires.last_lt_most_stages.2 s.args.last s.args.k s.requires.last_lt_most_stages.0) c.over.ensures
+    weighted_mean (stage_in s.args.stages.records) (answer s.args.exposure) s.args.last s.args.k s.args.total s.requires.total_value (λ z. omega (arith, c.in_default.in_default-own.rest)) (λ z. omega (arith, c.in_default.in_default-own.rest)) (λ z. omega (arith, c.in_default.in_default-own.rest)) c.weighted_sum.result c.over.result (c.weighted_sum.ensures ∙ weights_summed s.args.stages.records s.args.years.list s.requires.last_lt_most_stages.2 s.args.last s.args.k s.requires.last_lt_most_stages.0) c.over.ensures

@@ -52,5 +52,5 @@ returns-in-11 c = ten_at 11 (omega arith)
 pub returns-in_default : goal.returns-in_default
 returns-in_default c =
     let k = c.args.k in
-    let r = c.in_default.rest in
+    let r = c.in_default.in_default-own.rest in
     ten_at 12 (le_antisymm c.requires (above k 11 (above k 10 (above k 9 (above k 8 (above k 7 (above k 6 (above k 5 (above k 4 (above k 3 (above k 2 (above k 1 (above k 0 (least k) r.0.0.0.0.0.0.0.0.0.0.0.1) r.0.0.0.0.0.0.0.0.0.0.1) r.0.0.0.0.0.0.0.0.0.1) r.0.0.0.0.0.0.0.0.1) r.0.0.0.0.0.0.0.1) r.0.0.0.0.0.0.1) r.0.0.0.0.0.1) r.0.0.0.0.1) r.0.0.0.1) r.0.0.1) r.0.1) r.1))
