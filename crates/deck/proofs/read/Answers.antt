@@ -21,7 +21,7 @@ returns-in_default c =
     (read_stopped a.sort a.deck.now _ c.bad_length.ensures c.if-bad_length.false _ c.scan_lines-scan.ensures.status_value _ _ _ c.in_default.is _ c.stopped-in_default.ensures)
 
 pub case_with-case-requires : goal.case_with-case-requires
-case_with-case-requires c = (c.scan_lines-scan.ensures.values_after c.in-Passed.is, c.scan_lines-scan.ensures.chemicals_le_max_chemicals)
+case_with-case-requires c = record { values_value = c.scan_lines-scan.ensures.values_after c.in-Passed.is; chemical_count_le_max_chemicals = c.scan_lines-scan.ensures.chemicals_le_max_chemicals }
 
 pub returns : goal.returns
 returns c =

@@ -18,12 +18,12 @@ returns-then-not-is_pair c =
 pub sum-least-requires : goal.sum-least-requires
 sum-least-requires c =
     let a = c in
-    (pair_low a.args.total (passed c.is_pair.ensures c.if-not-is_pair.false-raw), pair_low (pair a.args.low a.args.high) a.requires)
+    record { a_value = pair_low a.args.total (passed c.is_pair.ensures c.if-not-is_pair.false-raw); b_value = pair_low (pair a.args.low a.args.high) a.requires }
 
 pub sum-most-requires : goal.sum-most-requires
 sum-most-requires c =
     let a = c in
-    (pair_high a.args.total (passed c.is_pair.ensures c.if-not-is_pair.false-raw), pair_high (pair a.args.low a.args.high) a.requires)
+    record { a_value = pair_high a.args.total (passed c.is_pair.ensures c.if-not-is_pair.false-raw); b_value = pair_high (pair a.args.low a.args.high) a.requires }
 
 pub returns-then-not-both_in_reach : goal.returns-then-not-both_in_reach
 returns-then-not-both_in_reach c =

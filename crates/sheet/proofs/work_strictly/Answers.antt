@@ -16,7 +16,7 @@ pub returns-then-number-ne-TOO_LARGE : goal.returns-then-number-ne-TOO_LARGE
 returns-then-number-ne-TOO_LARGE c =
     let a = c.args in
     let told = strict_stopped (scenario_from a.site a.chemicals a.receptors) _ _ c.work-status.ensures _ _ _ c.in-Stopped.is c.if-number-ne-TOO_LARGE.true in
-    (sym c.in-Stopped.is ∙ told.0, told.1 ∙ ap (λ (t : Status). cells_for t (scenario_from a.site a.chemicals a.receptors)) c.in-Stopped.is)
+    record { value = sym c.in-Stopped.is ∙ told.0; cells_after = told.1 ∙ ap (λ (t : Status). cells_for t (scenario_from a.site a.chemicals a.receptors)) c.in-Stopped.is }
 
 pub work-refused-requires : goal.work-refused-requires
 work-refused-requires c =

@@ -14,10 +14,7 @@ pub returns-then-line-lt-LINE_WIDTH : goal.returns-then-line-lt-LINE_WIDTH
 unfolding written
 returns-then-line-lt-LINE_WIDTH c =
     let a = c.args in
-    let short = line_short a.row a.line.now (omega arith) in (
-      sym short.0,
-      sym short.1,
-    )
+    let short = line_short a.row a.line.now (omega arith) in record { result_value = sym short.0; line_after = sym short.1 }
 
 pub slice_bounds-put_line-end-2 : goal.slice_bounds-put_line-end-2
 slice_bounds-put_line-end-2 c = sym (length-take-le report_line_width c.args.line.now (omega arith))

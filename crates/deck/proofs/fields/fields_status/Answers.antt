@@ -43,11 +43,11 @@ returns-in_default c =
     let l = c.loop-f in
     let rules = c.rules-rules in
     let w = c.number-w.ensures.value ∙ ap word_of c.field_part.ensures in
-    let turn = field_turn a.n l.f a.line.now _ rules.result _ _ (omega arith) w c.field_status-status.ensures in (
-      stops (λ k. field_by rules.result a.line.now a.n (k + 1)) l.f l.invariant.1 _ turn fields_per_line c.loop-f-test.true _ _ _ c.in_default.is
-          ∙ fields_by a.sort a.kind a.n a.line.now _ rules.ensures fields_per_line,
-      λ q. absurd (never _ _ _ _ c.in_default.is q),
-    )
+    let turn = field_turn a.n l.f a.line.now _ rules.result _ _ (omega arith) w c.field_status-status.ensures in record {
+      value = stops (λ k. field_by rules.result a.line.now a.n (k + 1)) l.f l.invariant.1 _ turn fields_per_line c.loop-f-test.true _ _ _ c.in_default.is
+          ∙ fields_by a.sort a.kind a.n a.line.now _ rules.ensures fields_per_line;
+      values_after = λ q. absurd (never _ _ _ _ c.in_default.is q);
+    }
 
 pub packed-requires : goal.packed-requires
 packed-requires c =

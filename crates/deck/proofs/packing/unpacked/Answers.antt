@@ -17,4 +17,4 @@ returns-then-v-eq0 c = simp (eq-eqb _ _ c.if-v-eq0.true)
 pub returns : goal.returns
 unfolding unpacked_of
 returns c =
-    simp (ne_eqb _ _ c.if-v-eq0.false) (ap (λ (z : ℤ). Given z (c.args.v / powers)) (to_z-of_z (record { sfits = c.power_in.type-inv }) ∙ c.power_in.ensures))
+    simp (ne_eqb _ _ c.if-v-eq0.false) (ap (λ (z : ℤ). Given z (c.args.v / powers)) (to_z-of_z (record { sfits = c.power_in.type_inv }) ∙ c.power_in.ensures))

@@ -53,7 +53,7 @@ line_status-status-requires c =
     let all = kept_room c.args.deck.now c.loop-n.n _ (omega (arith, c.loop-n-test.true, c.requires.0)) c.loop-n.invariant.1 in
     let past : fields_per_line * l.n + fields_per_line ≤ length l.values = omega (arith, c.loop-n-test.true, c.requires.0) in
     let cut : fields_per_line * l.n + fields_per_line - fields_per_line * l.n ≡ fields_per_line = omega arith in
-    ((line_whole c.args.deck.now _ c.loop-n-test.true _ c.line-l.ensures, mid_len (fields_per_line * l.n) (fields_per_line * l.n + fields_per_line) l.values past ∙ cut), (c.kind_of-kind.ensures, c.id_of-id.ensures))
+    record { line_len = (line_whole c.args.deck.now _ c.loop-n-test.true _ c.line-l.ensures, mid_len (fields_per_line * l.n) (fields_per_line * l.n + fields_per_line) l.values past ∙ cut); kind_value = (c.kind_of-kind.ensures, c.id_of-id.ensures) }
 
 pub shape_of-values-in_default : goal.shape_of-values-in_default
 shape_of-values-in_default c =
@@ -66,10 +66,7 @@ shape_of-values-in_default c =
 pub returns-in_default : goal.returns-in_default
 returns-in_default c =
     let a = c.args in
-    let l = c.loop-n in (
-      scan_out a.sort a.deck.now _ l.n _ l.invariant.0 c.line-l.ensures _ c.line_status-status.ensures.value c.loop-n-test.true _ _ _ c.in_default.is _,
-      ((λ q. absurd (never _ _ _ _ c.in_default.is q)), ((search rules, search rules), (λ q. absurd (never _ _ _ _ c.in_default.is q)))),
-    )
+    let l = c.loop-n in record { status_value = scan_out a.sort a.deck.now _ l.n _ l.invariant.0 c.line-l.ensures _ c.line_status-status.ensures.value c.loop-n-test.true _ _ _ c.in_default.is _; chemicals_value = (λ q. absurd (never _ _ _ _ c.in_default.is q)); chemicals_le_max_chemicals = (search rules, search rules); values_after = (λ q. absurd (never _ _ _ _ c.in_default.is q)) }
 
 pub after-seen-requires : goal.after-seen-requires
 after-seen-requires c = omega (arith, c.loop-n.invariant.0.few_c, c.loop-n.invariant.0.few_r, in_room c.args.sort)

@@ -39,4 +39,4 @@ returns c =
     let k : is_pair q ≡ true = passed b.is_pair-2.ensures b.if-not-is_pair-2.false-raw in
     let e : c.plus.result ≡ q.high.exponent +ℤ pos 9 = rw (number_back q.high (pair_high q k)) at c.plus.ensures in
     absorbs_far p q c.less.result h k (omega arith) (omega arith)
-    (rw (number_back p.low (pair_low p h), back c.plus.type-inv, e) at c.less.ensures)
+    (rw (number_back p.low (pair_low p h), back c.plus.type_inv, e) at c.less.ensures)

@@ -37,7 +37,7 @@ normal-w-requires c =
     let a = b in
     let e = a.args.exponent in
     let h : in_reach e ≡ true = rw (to_z-of_z a.ranges.exponent) at (passed b.in_reach.ensures b.if-not-in_reach.false-raw) in
-    (omega arith, rw (to_z-of_z a.ranges.exponent) (omega (arith, reach_mag e h)))
+    record { m_bound = omega arith; e_bound = rw (to_z-of_z a.ranges.exponent) (omega (arith, reach_mag e h)) }
 
 pub returns-then-significand-le999999999 : goal.returns-then-significand-le999999999
 unfolding answer entry

@@ -13,10 +13,7 @@ use Rattle.pair.proofs.ends.aligned.Goals as goal
 
 pub above-g-requires : goal.above-g-requires
 above-g-requires c =
-    let a = c in (
-      number_minus a.args.a a.args.b a.requires.a_value.0 a.requires.b_value.0,
-      rw (number_back a.args.a a.requires.a_value.0, number_back a.args.b a.requires.b_value.0) a.requires.exponent_value,
-    )
+    let a = c in record { sfits = number_minus a.args.a a.args.b a.requires.a_value.0 a.requires.b_value.0; s_value = rw (number_back a.args.a a.requires.a_value.0, number_back a.args.b a.requires.b_value.0) a.requires.exponent_value }
 
 pub lowered-requires : goal.lowered-requires
 lowered-requires c =

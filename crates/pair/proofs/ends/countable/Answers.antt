@@ -28,6 +28,6 @@ pub returns : goal.returns
 returns c up =
     let a = c in
     let t : lt_z (pos 10) (a.args.w.exponent -ℤ a.args.u) ≡ c.less.result =
-    sym (rw (back c.minus.type-inv, c.minus.ensures, number_back a.args.w a.requires.w_value, to_z-of_z a.ranges.u) at c.less.ensures) in
+    sym (rw (back c.minus.type_inv, c.minus.ensures, number_back a.args.w a.requires.w_value, to_z-of_z a.ranges.u) at c.less.ensures) in
     count_test up a.args.w a.args.u (number_nine a.args.w a.requires.w_value (omega arith)) (record { small = omega (arith, reach_mag a.args.u a.requires.u_value) })
     c.less.result t

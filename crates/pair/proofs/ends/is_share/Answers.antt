@@ -35,7 +35,7 @@ above-d-requires c =
     let a = c in
     let e = a.args.e in
     let t : lt_z (pos 0) e ≡ false = rw (to_z-of_z a.ranges.e) at (sym c.less.ensures ∙ c.if-less.false) in
-    (rw (to_z-of_z a.ranges.e) (fits_minus (pos 0) e (omega (arith, reach_mag e a.requires.e_value))), rw (to_z-of_z a.ranges.e) t)
+    record { sfits = rw (to_z-of_z a.ranges.e) (fits_minus (pos 0) e (omega (arith, reach_mag e a.requires.e_value))); s_value = rw (to_z-of_z a.ranges.e) t }
 
 pub returns-then-d-gt11 : goal.returns-then-d-gt11
 returns-then-d-gt11 c =

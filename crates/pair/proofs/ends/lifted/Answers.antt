@@ -28,4 +28,4 @@ pub returns : goal.returns
 unfolding lifted
 returns c =
     let a = c in
-    rw (le-ltb (a.args.w.significand + a.args.n) 1000000000 c.if-m-lt1000000000.false, back c.plus.type-inv, c.plus.ensures, number_back a.args.w a.requires.0) refl
+    rw (le-ltb (a.args.w.significand + a.args.n) 1000000000 c.if-m-lt1000000000.false, back c.plus.type_inv, c.plus.ensures, number_back a.args.w a.requires.0) refl

@@ -22,7 +22,7 @@ multiplied-requires c =
     let f = product_figures a.args.a a.args.b a.requires.a_value a.requires.b_value in record {
       le_p = f.0;
       p_bound = f.1;
-      e_bound = rw (back c.plus-e.type-inv, c.plus-e.ensures, number_back a.args.a a.requires.a_value, number_back a.args.b a.requires.b_value)
+      e_bound = rw (back c.plus-e.type_inv, c.plus-e.ensures, number_back a.args.a a.requires.a_value, number_back a.args.b a.requires.b_value)
           (omega (arith, mag_plus a.args.a.exponent a.args.b.exponent, number_mag a.args.a a.requires.a_value, number_mag a.args.b a.requires.b_value));
     }
 
@@ -30,4 +30,4 @@ pub returns : goal.returns
 unfolding product_end
 returns c =
     let a = c in
-    rw (c.multiplied.ensures, back c.plus-e.type-inv, c.plus-e.ensures, number_back a.args.a a.requires.a_value, number_back a.args.b a.requires.b_value) refl
+    rw (c.multiplied.ensures, back c.plus-e.type_inv, c.plus-e.ensures, number_back a.args.a a.requires.a_value, number_back a.args.b a.requires.b_value) refl

@@ -21,7 +21,7 @@ shared-requires c =
     let w : Nine a.args.b = number_nine a.args.b a.requires.b_value a.requires.significand_nonzero in record {
       le_m = (v.least, v.most);
       le_n = (w.least, w.most);
-      e_bound = rw (back c.minus-e.type-inv, c.minus-e.ensures, number_back a.args.a a.requires.a_value, number_back a.args.b a.requires.b_value)
+      e_bound = rw (back c.minus-e.type_inv, c.minus-e.ensures, number_back a.args.a a.requires.a_value, number_back a.args.b a.requires.b_value)
           (omega (arith, mag_minus a.args.a.exponent a.args.b.exponent, v.reach, w.reach));
     }
 
@@ -29,4 +29,4 @@ pub returns : goal.returns
 unfolding quotient_end
 returns c =
     let a = c in
-    rw (c.shared.ensures, back c.minus-e.type-inv, c.minus-e.ensures, number_back a.args.a a.requires.a_value, number_back a.args.b a.requires.b_value) refl
+    rw (c.shared.ensures, back c.minus-e.type_inv, c.minus-e.ensures, number_back a.args.a a.requires.a_value, number_back a.args.b a.requires.b_value) refl

@@ -55,7 +55,7 @@ above-d-requires c =
     let e = a.args.e in
     let s : Small e = size_small (reach_mag e a.requires.e_value) in
     let t : lt_z e (pos 0) ≡ true = rw (to_z-of_z a.ranges.e) at (passed c.less.ensures c.if-not-less.false-raw) in
-    (rw (to_z-of_z a.ranges.e) (fits_minus (pos 0) e (omega (arith, reach_mag e a.requires.e_value))), rw (to_z-of_z a.ranges.e) (less_turned s whole_small t))
+    record { sfits = rw (to_z-of_z a.ranges.e) (fits_minus (pos 0) e (omega (arith, reach_mag e a.requires.e_value))); s_value = rw (to_z-of_z a.ranges.e) (less_turned s whole_small t) }
 
 pub overflow_sub-lowered : goal.overflow_sub-lowered
 overflow_sub-lowered c =

@@ -20,4 +20,4 @@ pub returns : goal.returns
 unfolding carried
 returns c =
     let a = c in
-    rw (le-ltb a.args.m 1000000000 c.if-m-lt1000000000.false, back c.plus.type-inv, c.plus.ensures, to_z-of_z a.ranges.e) refl
+    rw (le-ltb a.args.m 1000000000 c.if-m-lt1000000000.false, back c.plus.type_inv, c.plus.ensures, to_z-of_z a.ranges.e) refl

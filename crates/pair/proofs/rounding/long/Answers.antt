@@ -38,17 +38,14 @@ pub figured-requires-then-high-lt1000000000 : goal.figured-requires-then-high-lt
 figured-requires-then-high-lt1000000000 c =
     let b = c in
     let a = b in
-    let l : b.whole.result ≤ 1000000000 = subst (λ (x : ℕ). x ≤ 1000000000) (sym b.whole.ensures) (divided_most a.args.up a.args.low 1000000000 1000000000 (lit< tt) a.requires.low_bound) in (
-      omega (arith, l, b.if-high-lt1000000000.true),
-      rw (back c.plus.type-inv, c.plus.ensures, to_z-of_z a.ranges.e) (omega (arith, a.requires.e_bound, mag_plus a.args.e (pos 9))),
-    )
+    let l : b.whole.result ≤ 1000000000 = subst (λ (x : ℕ). x ≤ 1000000000) (sym b.whole.ensures) (divided_most a.args.up a.args.low 1000000000 1000000000 (lit< tt) a.requires.low_bound) in record { m_bound = omega (arith, l, b.if-high-lt1000000000.true); e_bound = rw (back c.plus.type_inv, c.plus.ensures, to_z-of_z a.ranges.e) (omega (arith, a.requires.e_bound, mag_plus a.args.e (pos 9))) }
 
 pub returns-then-high-lt1000000000 : goal.returns-then-high-lt1000000000
 returns-then-high-lt1000000000 c =
     let b = c in
     let a = b in
     let high = a.args.high in
-    rw (c.figured-then-high-lt1000000000.ensures, b.whole.ensures, back c.plus.type-inv, c.plus.ensures, to_z-of_z a.ranges.e)
+    rw (c.figured-then-high-lt1000000000.ensures, b.whole.ensures, back c.plus.type_inv, c.plus.ensures, to_z-of_z a.ranges.e)
     (rounded_words a.args.up (high * 1000000000) a.args.low 9 a.args.e (omega (arith, pos_of_ne-zero b.if-high-eq0.false))
     ∙ ap (λ (n : ℕ). rounded a.args.up n 1 a.args.e) (omega arith))
 
@@ -67,11 +64,11 @@ pub figured-requires-2 : goal.figured-requires-2
 figured-requires-2 c =
     let b = c in
     let a = b in
-    let l : b.whole-2.result ≤ 1 = subst (λ (x : ℕ). x ≤ 1) (sym b.whole-2.ensures) (divided_most a.args.up a.args.low 1000000000000000000 1 (lit< tt) a.requires.low_bound) in record { m_bound = omega (arith, l, a.requires.high_bound); e_bound = rw (back c.plus-2.type-inv, c.plus-2.ensures, to_z-of_z a.ranges.e) (omega (arith, a.requires.e_bound, mag_plus a.args.e (pos 18))) }
+    let l : b.whole-2.result ≤ 1 = subst (λ (x : ℕ). x ≤ 1) (sym b.whole-2.ensures) (divided_most a.args.up a.args.low 1000000000000000000 1 (lit< tt) a.requires.low_bound) in record { m_bound = omega (arith, l, a.requires.high_bound); e_bound = rw (back c.plus-2.type_inv, c.plus-2.ensures, to_z-of_z a.ranges.e) (omega (arith, a.requires.e_bound, mag_plus a.args.e (pos 18))) }
 
 pub returns : goal.returns
 returns c =
     let b = c in
     let a = b in
-    rw (c.figured-2.ensures, b.whole-2.ensures, back c.plus-2.type-inv, c.plus-2.ensures, to_z-of_z a.ranges.e)
+    rw (c.figured-2.ensures, b.whole-2.ensures, back c.plus-2.type_inv, c.plus-2.ensures, to_z-of_z a.ranges.e)
     (rounded_words a.args.up a.args.high a.args.low 18 a.args.e (omega (arith, b.if-high-lt1000000000.false)))

@@ -44,12 +44,12 @@ pub minus-requires : goal.minus-requires
 minus-requires c =
     let a = c in
     let k = c.zeros-k.result in
-    rw (to_z-of_z a.ranges.e, back c.figures.type-inv, c.figures.ensures)
+    rw (to_z-of_z a.ranges.e, back c.figures.type_inv, c.figures.ensures)
     (fits_minus a.args.e (pos k) (omega (arith, c.zeros-k.ensures.0)))
 
 pub returns : goal.returns
 returns c up =
     let a = c in
     let z = c.zeros-k in
-    rw (c.power.ensures, back c.minus.type-inv, c.minus.ensures, to_z-of_z a.ranges.e, back c.figures.type-inv, c.figures.ensures)
+    rw (c.power.ensures, back c.minus.type_inv, c.minus.ensures, to_z-of_z a.ranges.e, back c.figures.type_inv, c.figures.ensures)
     (filled up a.args.m z.result a.args.e z.ensures.0 z.ensures.1 z.ensures.2 a.requires.e_bound)

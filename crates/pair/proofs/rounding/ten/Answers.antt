@@ -17,12 +17,12 @@ plus-requires c = let a = c in rw (to_z-of_z a.ranges.e) (fits_plus a.args.e (po
 pub nine-requires : goal.nine-requires
 nine-requires c =
     let a = c in
-    record { d_nonzero = lit< tt; d_bound = (omega arith, omega arith); d_bound_2 = omega arith; e_bound = rw (back c.plus.type-inv, c.plus.ensures, to_z-of_z a.ranges.e) (omega (arith, mag_plus a.args.e (pos 1))) }
+    record { d_nonzero = lit< tt; d_bound = (omega arith, omega arith); d_bound_2 = omega arith; e_bound = rw (back c.plus.type_inv, c.plus.ensures, to_z-of_z a.ranges.e) (omega (arith, mag_plus a.args.e (pos 1))) }
 
 pub returns-then-m-gt999999999 : goal.returns-then-m-gt999999999
 returns-then-m-gt999999999 c =
     let a = c in
-    rw (c.nine.ensures, back c.plus.type-inv, c.plus.ensures, to_z-of_z a.ranges.e)
+    rw (c.nine.ensures, back c.plus.type_inv, c.plus.ensures, to_z-of_z a.ranges.e)
     (rounded_off a.args.up a.args.m 1 a.args.e (a.args.e +ℤ pos 1) (omega arith) (omega arith) refl)
 
 pub returns : goal.returns

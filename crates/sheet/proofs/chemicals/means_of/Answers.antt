@@ -32,10 +32,7 @@ returns-in_default c =
     let here : l.j < length s.args.receptors.list = omega (arith, test, s.requires) in
     let mean = c.mean_with in
     let none : is_refused (found mean.result) ≡ true = rw c.in_default.is refl in
-    let stop = c.no_means.ensures in (
-      stop ∙ sym (ap not (mean_stops s.args.site s.args.chemical s.args.receptors.list s.args.ground _ l.j here mean.result mean.ensures none s.args.receptors.count test)),
-      λ e. absurd (false≢true (sym stop ∙ e)),
-    )
+    let stop = c.no_means.ensures in record { worked_value = stop ∙ sym (ap not (mean_stops s.args.site s.args.chemical s.args.receptors.list s.args.ground _ l.j here mean.result mean.ensures none s.args.receptors.count test)); list_value = λ e. absurd (false≢true (sym stop ∙ e)) }
 
 pub offset_bounds-list-j : goal.offset_bounds-list-j
 offset_bounds-list-j c = record { fits = omega (arith, c.loop-j-test.true, c.requires) }

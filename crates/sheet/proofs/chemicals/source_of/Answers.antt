@@ -11,7 +11,7 @@ pub returns-then-lacks : goal.returns-then-lacks
 returns-then-lacks c =
     let a = c.args in
     let stop = c.not_sourced.ensures in
-    (lacks_worked a.site a.receptors a.chemical _ refl (sym c.lacks.ensures ∙ c.if-lacks.true) _ stop, λ e. absurd (false≢true (sym stop ∙ e)))
+    record { worked_value = lacks_worked a.site a.receptors a.chemical _ refl (sym c.lacks.ensures ∙ c.if-lacks.true) _ stop; source_value = λ e. absurd (false≢true (sym stop ∙ e)) }
 
 pub returns-in_default : goal.returns-in_default
 unfolding grounded is_refused
@@ -21,10 +21,7 @@ returns-in_default c =
     let a = s.args in
     let told = c.ground_of in
     let none : is_refused (grounded told.result) ≡ true = rw c.in_default.is refl in
-    let stop = c.not_sourced-in_default.ensures in (
-      none_worked a.site a.receptors a.chemical _ c.values_of-values.ensures _ c.particles_of.ensures told.result told.ensures whole none _ stop,
-      λ e. absurd (false≢true (sym stop ∙ e)),
-    )
+    let stop = c.not_sourced-in_default.ensures in record { worked_value = none_worked a.site a.receptors a.chemical _ c.values_of-values.ensures _ c.particles_of.ensures told.result told.ensures whole none _ stop; source_value = λ e. absurd (false≢true (sym stop ∙ e)) }
 
 pub source_from-requires : goal.source_from-requires
 source_from-requires c = (c.requires, c.values_of-values.ensures)

@@ -35,10 +35,7 @@ returns-then-not-made c =
     let long : length s.args.chemicals.records ≡ max_chemicals = sym (length-map s.args.chemicals.records _) ∙ s.well-formed.1.0.1.1.1.0.1.0.1 in
     let here : l.i < length s.args.chemicals.records = omega (arith, test, s.requires) in
     let made = c.source_of-made in
-    let stop = c.stopped_at.ensures in (
-      stops s.args.site s.args.receptors s.args.chemicals.records _ l.i here _ _ made.ensures.0 made.ensures.1 l.invariant.2 (not-true _ c.if-not-made.true) s.args.chemicals.count test _ stop,
-      λ e. absurd (never _ 53 _ 0 stop e),
-    )
+    let stop = c.stopped_at.ensures in record { status_value = stops s.args.site s.args.receptors s.args.chemicals.records _ l.i here _ _ made.ensures.0 made.ensures.1 l.invariant.2 (not-true _ c.if-not-made.true) s.args.chemicals.count test _ stop; sources_value = λ e. absurd (never _ 53 _ 0 stop e) }
 
 pub offset_bounds-list-i : goal.offset_bounds-list-i
 offset_bounds-list-i c = record { fits = omega (arith, c.loop-i-test.true, c.requires) }

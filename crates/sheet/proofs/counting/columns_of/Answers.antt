@@ -11,7 +11,7 @@ use Rattle.sheet.proofs.counting.columns_of.Goals as goal
 pub returns-in-Is : goal.returns-in-Is
 unfolding figure columns_of
 returns-in-Is c =
-    let f : SFits w32 c.unit_of.result = record { sfits = c.unit_of.type-inv } in
+    let f : SFits w32 c.unit_of.result = record { sfits = c.unit_of.type_inv } in
     rw (c.in-Is.is, c.counted.ensures, to_z-of_z f, c.unit_of.ensures) refl
 
 pub returns-in-Absent : goal.returns-in-Absent

@@ -36,10 +36,7 @@ returns-in-Stopped c =
     let long : length a.source.means ≡ most_receptors = sym (length-map a.source.means _) ∙ s.well-formed.1.1.1.1.1.1.0.1.1.1.1.0.1.0.1 in
     let there : a.place < length a.source.means = omega (arith, long, s.requires) in
     let told = fault_is a.site a.place a.receptor a.source _ there _ l.p _ _ s.requires.3 c.pathway_at.ensures c.figures_with-line.ensures a.capped _ _ c.fault_at-status.ensures in
-    let stop = c.in-Stopped.is in (
-      line_stops a.capped a.site a.place a.receptor a.source a.before l.p l.invariant.4 _ told test _ _ _ stop,
-      (λ e. absurd (never _ _ _ _ stop e), l.invariant.3),
-    )
+    let stop = c.in-Stopped.is in record { value = line_stops a.capped a.site a.place a.receptor a.source a.before l.p l.invariant.4 _ told test _ _ _ stop; cells_hold = λ e. absurd (never _ _ _ _ stop e); same_but = l.invariant.3 }
 
 pub loop-p-preserved : goal.loop-p-preserved
 unfolding figured figure_for

@@ -35,20 +35,16 @@ returns-in-Stopped c =
     let few : l.i < max_chemicals = omega (arith, test, s.requires) in
     let put = c.put_chemical-status in
     let same = put.ensures.1.1 in
-    let stop = c.in-Stopped.is in (
-      chemical_stops a.capped a.site a.place a.receptor a.sources _ l.i here a.before put.result put.ensures.0 l.invariant.4 test _ _ _ stop,
-      (
-        λ e. absurd (never _ _ _ _ stop e),
-        (
-          chemical_below a.base l.i l.cells put.new.0 few same a.cells.now l.invariant.3,
-          λ z.
-              let kept = l.invariant.5 z in (
-                chemical_empty a.base l.i l.cells put.new.0 few same (a.sources.count * pathways_per_chemical) (omega (arith, test)) kept.0,
-                chemical_zero a.base l.i l.cells put.new.0 few same kept.1,
-              ),
-        ),
-      ),
-    )
+    let stop = c.in-Stopped.is in record {
+      value = chemical_stops a.capped a.site a.place a.receptor a.sources _ l.i here a.before put.result put.ensures.0 l.invariant.4 test _ _ _ stop;
+      cells_hold = λ e. absurd (never _ _ _ _ stop e);
+      same_below = chemical_below a.base l.i l.cells put.new.0 few same a.cells.now l.invariant.3;
+      cells_empty = λ z.
+          let kept = l.invariant.5 z in (
+            chemical_empty a.base l.i l.cells put.new.0 few same (a.sources.count * pathways_per_chemical) (omega (arith, test)) kept.0,
+            chemical_zero a.base l.i l.cells put.new.0 few same kept.1,
+          );
+    }
 
 pub loop-i-preserved : goal.loop-i-preserved
 loop-i-preserved c =

@@ -44,10 +44,7 @@ returns-in-Stopped c =
     let long : length s.args.receptors.list ≡ most_receptors = sym (length-map s.args.receptors.list _) ∙ s.well-formed.1.1.0.1.1.1.0.1.0.1 in
     let test = c.loop-j-test.true in
     let here : l.j < length s.args.receptors.list = omega (arith, test, s.requires) in
-    let stop = c.in-Stopped.is in (
-      fault_stops s.args.capped s.args.site s.args.sources s.args.receptors.list _ l.j here _ refl _ c.put_lines-status.ensures.value l.invariant.2 s.args.receptors.count test _ _ _ stop,
-      λ e. absurd (never _ _ _ _ stop e),
-    )
+    let stop = c.in-Stopped.is in record { value = fault_stops s.args.capped s.args.site s.args.sources s.args.receptors.list _ l.j here _ refl _ c.put_lines-status.ensures.value l.invariant.2 s.args.receptors.count test _ _ _ stop; cells_filled = λ e. absurd (never _ _ _ _ stop e) }
 
 pub loop-j-preserved : goal.loop-j-preserved
 loop-j-preserved c =

@@ -13,4 +13,4 @@ pub power_of-requires : goal.power_of-requires
 power_of-requires c = (ended_spelled c.args.text.now c.args.digits c.args.places c.args.end _ c.exponent_spelled.ensures c.if-not-exponent_spelled.false-raw, c.requires.0)
 
 pub returns : goal.returns
-returns c = ended_number c.args.text.now c.args.digits c.args.places c.args.end _ c.exponent_spelled.ensures c.if-not-exponent_spelled.false-raw _ (to_z-of_z (record { sfits = c.power_of.type-inv }) ∙ c.power_of.ensures)
+returns c = ended_number c.args.text.now c.args.digits c.args.places c.args.end _ c.exponent_spelled.ensures c.if-not-exponent_spelled.false-raw _ (to_z-of_z (record { sfits = c.power_of.type_inv }) ∙ c.power_of.ensures)

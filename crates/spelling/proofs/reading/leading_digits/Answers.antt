@@ -25,7 +25,7 @@ returns-then-b-lt-ZERO c =
     let l = c.loop-i in
     let low : get_or s l.i 0 < 48 = omega (arith, c.wide-b.ensures, c.if-b-lt-ZERO.true) in
     let end = stop 48 57 s l.i c.loop-i-test.true (within_low 48 57 (get_or s l.i 0) low) l.invariant.1 in
-    (end, digits_value_stop s _ _ l.i _ end l.invariant.2)
+    record { count_value = end; value_value = digits_value_stop s _ _ l.i _ end l.invariant.2 }
 
 pub returns-then-b-gt-NINE : goal.returns-then-b-gt-NINE
 returns-then-b-gt-NINE c =
@@ -33,7 +33,7 @@ returns-then-b-gt-NINE c =
     let l = c.loop-i in
     let high : 57 < get_or s l.i 0 = omega (arith, c.wide-b.ensures, c.if-b-gt-NINE.true) in
     let end = stop 48 57 s l.i c.loop-i-test.true (within_high 48 57 (get_or s l.i 0) high) l.invariant.1 in
-    (end, digits_value_stop s _ _ l.i _ end l.invariant.2)
+    record { count_value = end; value_value = digits_value_stop s _ _ l.i _ end l.invariant.2 }
 
 -- the value after this turn, and those that it needs
 next : (c : goal.Else-b-gt-NINE invariant-loop decreases-loop)

@@ -28,13 +28,13 @@ pub returns-then-byte-low : goal.returns-then-byte-low
 returns-then-byte-low c =
     let l = c in
     let z = below l.args.low l.args.high l.args.s.now l.loop-i.i (search rules) (search rules) in
-    (omega (arith, l.loop-i.invariant.2, z), (search rules, search rules))
+    record { value = omega (arith, l.loop-i.invariant.2, z); lower_bound = (search rules, search rules) }
 
 pub returns-then-high-byte : goal.returns-then-high-byte
 returns-then-high-byte c =
     let l = c in
     let z = above l.args.low l.args.high l.args.s.now l.loop-i.i (search rules) (search rules) (search rules) in
-    (omega (arith, l.loop-i.invariant.2, z), (search rules, search rules))
+    record { value = omega (arith, l.loop-i.invariant.2, z); lower_bound = (search rules, search rules) }
 
 pub loop-i-preserved : goal.loop-i-preserved
 loop-i-preserved c =
