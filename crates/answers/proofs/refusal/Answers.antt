@@ -7,16 +7,16 @@ use Rattle.answers.proofs.ThreeNumbers.{second_long, third}
 use Rattle.answers.proofs.refusal.Goals as goal
 
 pub slice_bounds-text-end-2 : goal.slice_bounds-text-end-2
-slice_bounds-text-end-2 c = simp length-append (omega (arith, c.put_number.auto.0))
+slice_bounds-text-end-2 c = simp length-append (omega (arith, c.put_number.auto.part))
 
 pub slice_bounds-text-end-3 : goal.slice_bounds-text-end-3
 slice_bounds-text-end-3 c =
     let b = c in
-    omega (arith, second_long _ _ b.put_number.new.0 c.put_number-2.new.0 b.put_number.ensures c.put_number-2.ensures)
+    omega (arith, second_long _ _ b.put_number.new.part c.put_number-2.new.part b.put_number.ensures c.put_number-2.ensures)
 
 pub returns : goal.returns
 unfolding refusal_text
 returns c =
     let b = c in
-    third _ _ b.put_number.new.0 c.put_number-2.new.0 b.put_number.ensures c.put_number-2.ensures
-    c.put_number-3.new.0 _ c.put_number-3.ensures
+    third _ _ b.put_number.new.part c.put_number-2.new.part b.put_number.ensures c.put_number-2.ensures
+    c.put_number-3.new.part _ c.put_number-3.ensures

@@ -28,4 +28,4 @@ returns c =
     let a = c.args in
     let scan = c.scan_lines-scan.ensures in
     with_told a.sort a.deck.now _
-    (read_case a.sort a.deck.now _ c.bad_length.ensures c.if-bad_length.false _ scan.0 c.in-Passed.is _ _ (scan.1.0 c.in-Passed.is) _ c.case_with-case.ensures)
+    (read_case a.sort a.deck.now _ c.bad_length.ensures c.if-bad_length.false _ scan.status_value c.in-Passed.is _ _ (scan.chemicals_value c.in-Passed.is) _ c.case_with-case.ensures)

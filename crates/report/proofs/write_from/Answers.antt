@@ -41,6 +41,6 @@ returns c =
     let long = length_is scenario _ c.length_of-length.ensures in
     let room = rw long at c.if-out-length.false in
     let worked = c.counts_from-worked in
-    written a.tested rows_of scenario a.out.now room _ worked.ensures.0 c.in-Passed.is _ worked.ensures.1
+    written a.tested rows_of scenario a.out.now room _ worked.ensures.value c.in-Passed.is _ worked.ensures.cells_after
     (λ cells. report_in cells a.chemicals a.receptors.list a.receptors.count)
     (λ e. let none = written_clear a.tested rows_of scenario (length a.out.now) e in sym (rows_held scenario (lines_figured scenario s.requires.0 s.requires.1 none.0) none.1)) _ _ long (past_rows scenario _ _ a.out.now c.write_rows.ensures)

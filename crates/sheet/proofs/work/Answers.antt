@@ -27,7 +27,7 @@ put_all-status-requires c =
     let a = s.args in
     let sources = c.sources_of-prepared in
     let read = c.in-Passed.is in
-    (s.requires.1, sources_few (scenario_from a.site a.chemicals a.receptors) a.capped s.requires.0 (sym c.lacks.ensures ∙ c.if-lacks.false) _ c.site_of-worked.ensures _ (sources.ensures.1 read) (sym sources.ensures.0 ∙ read))
+    (s.requires.1, sources_few (scenario_from a.site a.chemicals a.receptors) a.capped s.requires.0 (sym c.lacks.ensures ∙ c.if-lacks.false) _ c.site_of-worked.ensures _ (sources.ensures.sources_value read) (sym sources.ensures.status_value ∙ read))
 
 pub returns-in_default-status : goal.returns-in_default-status
 returns-in_default-status c =
@@ -35,7 +35,7 @@ returns-in_default-status c =
     let a = s.args in
     let sources = c.sources_of-prepared in
     let read = c.in-Passed.is in
-    line_stops (scenario_from a.site a.chemicals a.receptors) a.capped s.requires.0 (sym c.lacks.ensures ∙ c.if-lacks.false) _ c.site_of-worked.ensures _ (sources.ensures.1 read) (sym sources.ensures.0 ∙ read)
+    line_stops (scenario_from a.site a.chemicals a.receptors) a.capped s.requires.0 (sym c.lacks.ensures ∙ c.if-lacks.false) _ c.site_of-worked.ensures _ (sources.ensures.sources_value read) (sym sources.ensures.status_value ∙ read)
     _ c.put_all-status.ensures.value _ _ _ c.in_default-status.is _ c.clear.ensures
 
 pub returns : goal.returns
@@ -47,5 +47,5 @@ returns c =
     let read = c.in-Passed.is in
     let lines = c.put_all-status in
     let done = c.in-Passed-status.is in
-    all_counted (scenario_from a.site a.chemicals a.receptors) a.capped s.requires.0 (sym c.lacks.ensures ∙ c.if-lacks.false) _ c.site_of-worked.ensures _ (sources.ensures.1 read) (sym sources.ensures.0 ∙ read)
-    _ lines.ensures.0 done lines.new.0 lines.ensures.1.1 (lines.ensures.1.0 done (subst (ZeroFrom 0) (all_alike 0 all_cells ∙ sym s.requires.2) (zeros all_cells)))
+    all_counted (scenario_from a.site a.chemicals a.receptors) a.capped s.requires.0 (sym c.lacks.ensures ∙ c.if-lacks.false) _ c.site_of-worked.ensures _ (sources.ensures.sources_value read) (sym sources.ensures.status_value ∙ read)
+    _ lines.ensures.value done lines.new.cells lines.ensures.cells_len (lines.ensures.cells_filled done (subst (ZeroFrom 0) (all_alike 0 all_cells ∙ sym s.requires.2) (zeros all_cells)))

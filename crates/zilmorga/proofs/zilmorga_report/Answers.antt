@@ -6,4 +6,4 @@ use Rattle.zilmorga.proofs.zilmorga_report.Goals as goal
 pub returns : goal.returns
 returns c =
     let called = c.report-told in
-    record { field_after = c.put_told.ensures ∙ called.ensures.0; report_after = called.ensures.1 }
+    record { field_after = c.put_told.ensures ∙ called.ensures.value; report_after = called.ensures.out_after }

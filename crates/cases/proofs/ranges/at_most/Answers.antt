@@ -14,8 +14,8 @@ use Rattle.cases.proofs.ranges.at_most.Goals as goal
 pub returns-then-up-gt9 : goal.returns-then-up-gt9
 returns-then-up-gt9 c =
     let s = c in
-    let up = c.raised-up.ensures ∙ ap above (to_z-of_z s.fits.power) in
-    above_all s.args.most s.args.digits _ s.pre s.fits.most.fits (omega (arith, up, c.if-up-gt9.taken))
+    let up = c.raised-up.ensures ∙ ap above (to_z-of_z s.ranges.power) in
+    above_all s.args.most s.args.digits _ s.requires s.ranges.most.fits (omega (arith, up, c.if-up-gt9.true))
 
 pub nonzero_div-result : goal.nonzero_div-result
 nonzero_div-result c = omega (arith, ten_some _ _ c.ten_to.ensures)
@@ -23,30 +23,30 @@ nonzero_div-result c = omega (arith, ten_some _ _ c.ten_to.ensures)
 pub returns-then-up-gt0 : goal.returns-then-up-gt0
 returns-then-up-gt0 c =
     let s = c in
-    let up = c.raised-up.ensures ∙ ap above (to_z-of_z s.fits.power) in
-    above_near s.args.most s.args.digits _ s.pre (omega (arith, up, c.if-up-gt0.taken)) _
+    let up = c.raised-up.ensures ∙ ap above (to_z-of_z s.ranges.power) in
+    above_near s.args.most s.args.digits _ s.requires (omega (arith, up, c.if-up-gt0.true)) _
     (c.ten_to.ensures ∙ ap (λ (n : ℕ). 10 ^ n) up)
 
 pub overflow_mul-result : goal.overflow_mul-result
 overflow_mul-result c =
     let s = c in
-    product_fits 4294967296 9 (lit< tt) s.args.most c.lowered-down.result _ (le_of_lt s.fits.most.fits) c.if-down-le9.taken c.ten_to-then-down-le9.ensures
+    product_fits 4294967296 9 (lit< tt) s.args.most c.lowered-down.result _ (le_of_lt s.ranges.most.fits) c.if-down-le9.true c.ten_to-then-down-le9.ensures
 
 pub returns-then-down-le9 : goal.returns-then-down-le9
 returns-then-down-le9 c =
     let s = c in
-    let up = c.raised-up.ensures ∙ ap above (to_z-of_z s.fits.power) in
-    let down = c.lowered-down.ensures ∙ ap below (to_z-of_z s.fits.power) in
-    below_few s.args.most s.args.digits _ s.pre (omega (arith, up, c.if-up-gt0.left)) _
+    let up = c.raised-up.ensures ∙ ap above (to_z-of_z s.ranges.power) in
+    let down = c.lowered-down.ensures ∙ ap below (to_z-of_z s.ranges.power) in
+    below_few s.args.most s.args.digits _ s.requires (omega (arith, up, c.if-up-gt0.false)) _
     (c.ten_to-then-down-le9.ensures ∙ ap (λ (n : ℕ). 10 ^ n) down)
 
 pub returns-then-down-gt19 : goal.returns-then-down-gt19
 returns-then-down-gt19 c =
     let s = c in
-    let up = c.raised-up.ensures ∙ ap above (to_z-of_z s.fits.power) in
-    let down = c.lowered-down.ensures ∙ ap below (to_z-of_z s.fits.power) in
-    below_all s.args.most s.args.digits _ s.pre (omega (arith, up, c.if-up-gt0.left)) s.fits.digits.fits
-    (omega (arith, down, c.if-down-gt19.taken))
+    let up = c.raised-up.ensures ∙ ap above (to_z-of_z s.ranges.power) in
+    let down = c.lowered-down.ensures ∙ ap below (to_z-of_z s.ranges.power) in
+    below_all s.args.most s.args.digits _ s.requires (omega (arith, up, c.if-up-gt0.false)) s.ranges.digits.fits
+    (omega (arith, down, c.if-down-gt19.true))
 
 pub nonzero_div-result-2 : goal.nonzero_div-result-2
 nonzero_div-result-2 c = omega (arith, ten_some _ _ c.ten_to-2.ensures)
@@ -54,7 +54,7 @@ nonzero_div-result-2 c = omega (arith, ten_some _ _ c.ten_to-2.ensures)
 pub returns : goal.returns
 returns c =
     let s = c in
-    let up = c.raised-up.ensures ∙ ap above (to_z-of_z s.fits.power) in
-    let down = c.lowered-down.ensures ∙ ap below (to_z-of_z s.fits.power) in
-    below_near s.args.most s.args.digits _ s.pre (omega (arith, up, c.if-up-gt0.left)) _
+    let up = c.raised-up.ensures ∙ ap above (to_z-of_z s.ranges.power) in
+    let down = c.lowered-down.ensures ∙ ap below (to_z-of_z s.ranges.power) in
+    below_near s.args.most s.args.digits _ s.requires (omega (arith, up, c.if-up-gt0.false)) _
     (c.ten_to-2.ensures ∙ ap (λ (n : ℕ). 10 ^ n) down)

@@ -11,20 +11,20 @@ pub returns-then-not-within_bounds : goal.returns-then-not-within_bounds
 unfolding in_range
 returns-then-not-within_bounds c =
     let s = c in
-    let bounds = c.within_bounds.ensures ∙ ap (within_bounds s.args.rule s.args.digits) (to_z-of_z s.fits.power) in
-    simp (sym bounds ∙ not-true _ c.if-not-within_bounds.taken)
+    let bounds = c.within_bounds.ensures ∙ ap (within_bounds s.args.rule s.args.digits) (to_z-of_z s.ranges.power) in
+    simp (sym bounds ∙ not-true _ c.if-not-within_bounds.true-raw)
 
 pub returns-then-rule : goal.returns-then-rule
 unfolding in_range
 returns-then-rule c =
     let s = c in
-    let bounds = c.within_bounds.ensures ∙ ap (within_bounds s.args.rule s.args.digits) (to_z-of_z s.fits.power) in
-    simp (sym bounds ∙ not-false _ c.if-not-within_bounds.left, c.if-rule.taken)
-    (c.is_year.ensures ∙ ap (is_year s.args.digits) (to_z-of_z s.fits.power))
+    let bounds = c.within_bounds.ensures ∙ ap (within_bounds s.args.rule s.args.digits) (to_z-of_z s.ranges.power) in
+    simp (sym bounds ∙ not-false _ c.if-not-within_bounds.false-raw, c.if-rule.true)
+    (c.is_year.ensures ∙ ap (is_year s.args.digits) (to_z-of_z s.ranges.power))
 
 pub returns : goal.returns
 unfolding in_range
 returns c =
     let s = c in
-    let bounds = c.within_bounds.ensures ∙ ap (within_bounds s.args.rule s.args.digits) (to_z-of_z s.fits.power) in
-    simp (sym bounds ∙ not-false _ c.if-not-within_bounds.left, c.if-rule.left)
+    let bounds = c.within_bounds.ensures ∙ ap (within_bounds s.args.rule s.args.digits) (to_z-of_z s.ranges.power) in
+    simp (sym bounds ∙ not-false _ c.if-not-within_bounds.false-raw, c.if-rule.false)

@@ -11,11 +11,11 @@ pub returns-then-is_year_of : goal.returns-then-is_year_of
 unfolding is_year
 returns-then-is_year_of c =
     let s = c in
-    simp (sym (c.is_year_of.ensures ∙ ap (is_year_of Of2005 s.args.digits) (to_z-of_z s.fits.power)) ∙ c.if-is_year_of.taken)
+    simp (sym (c.is_year_of.ensures ∙ ap (is_year_of Of2005 s.args.digits) (to_z-of_z s.ranges.power)) ∙ c.if-is_year_of.true)
 
 pub returns : goal.returns
 unfolding is_year
 returns c =
     let s = c in
-    simp (sym (c.is_year_of.ensures ∙ ap (is_year_of Of2005 s.args.digits) (to_z-of_z s.fits.power)) ∙ c.if-is_year_of.left)
-    (c.is_year_of-2.ensures ∙ ap (is_year_of Of2009 s.args.digits) (to_z-of_z s.fits.power))
+    simp (sym (c.is_year_of.ensures ∙ ap (is_year_of Of2005 s.args.digits) (to_z-of_z s.ranges.power)) ∙ c.if-is_year_of.false)
+    (c.is_year_of-2.ensures ∙ ap (is_year_of Of2009 s.args.digits) (to_z-of_z s.ranges.power))

@@ -15,7 +15,7 @@ loop-i-init c = (omega arith, printable_none _)
 pub bounds-line-i : goal.bounds-line-i
 bounds-line-i c = omega (arith, c.requires)
 
-next : (c : goal.After-prints-count invariant-loop decreases-loop) → Printable c.args.line.now (c.loop-i.i + 1) (c.loop-i.count + c.prints-count.result)
+next : (c : goal.After-prints-count) → Printable c.args.line.now (c.loop-i.i + 1) (c.loop-i.count + c.prints-count.result)
 next c = printable_more _ _ _ _ (omega (arith, c.loop-i-test.true, c.requires)) c.loop-i.invariant.1 c.prints-count.ensures
 
 pub overflow_add-count : goal.overflow_add-count

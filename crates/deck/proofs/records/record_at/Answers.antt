@@ -54,7 +54,7 @@ loop-k-preserved c =
     let p = c.requires in
     let l = c.loop-k in
     let few : l.k < slots_per_record = omega (arith, c.loop-k-test.true, p) in
-    let slot = slot_kept a.deck.now a.values.now a.n a.lines l.k p.0 p.1.0.0 p.1.0.1 c.loop-k-test.true _ c.unpacked-value.ensures in
+    let slot = slot_kept a.deck.now a.values.now a.n a.lines l.k p.values_value p.le_n.0.0 p.le_n.0.1 c.loop-k-test.true _ c.unpacked-value.ensures in
     (omega arith, filled_more (slot_spelled a.deck.now a.n) no_slot slots_per_record l.k few _ l.invariant.1 _ slot)
 
 pub returns : goal.returns

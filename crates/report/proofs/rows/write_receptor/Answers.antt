@@ -23,15 +23,15 @@ loop-q-preserved c =
     let s = c in
     let l = c.loop-q in
     let test = c.loop-q-test.true in
-    let long : length s.args.chemicals.records ≡ max_chemicals = sym (length-map s.args.chemicals.records _) ∙ s.well-formed.1.1.1.1.0.1.1.1.0.1.0.1 in
+    let long : length s.args.chemicals.records ≡ max_chemicals = sym (length-map s.args.chemicals.records _) ∙ s.well_formed.1.1.1.1.0.1.1.1.0.1.0.1 in
     let here : l.q / pathways_per_chemical < length s.args.chemicals.records = omega (arith, test, s.requires) in
     let past : report_line_width * l.q + report_line_width ≤ length l.part = omega (arith, test, l.invariant.1, s.requires) in
     let cut : report_line_width * l.q + report_line_width - report_line_width * l.q ≡ report_line_width = omega arith in
     let wide = mid_len (report_line_width * l.q) (report_line_width * l.q + report_line_width) l.part past ∙ cut in
     let row = c.put_row in (
       omega (arith, test),
-      same_len_mid (report_line_width * l.q) (report_line_width * l.q + report_line_width - report_line_width * l.q) l.part row.new.0 row.auto.0 ∙ l.invariant.1,
-      line_more s.args.cells.now s.args.receptor s.args.id s.args.chemicals _ s.args.part.now l.part _ row.new.0 l.q _ here c.row_of-row.ensures wide row.ensures.1 l.invariant.2,
+      same_len_mid (report_line_width * l.q) (report_line_width * l.q + report_line_width - report_line_width * l.q) l.part row.new.line row.auto.line ∙ l.invariant.1,
+      line_more s.args.cells.now s.args.receptor s.args.id s.args.chemicals _ s.args.part.now l.part _ row.new.line l.q _ here c.row_of-row.ensures wide row.ensures.line_after l.invariant.2,
     )
 
 pub shape_of-part : goal.shape_of-part
@@ -39,7 +39,7 @@ shape_of-part c =
     let l = c.loop-q in
     let n = c.args.chemicals.count * pathways_per_chemical in
     let row = c.put_row-2 in
-    same_len_mid (report_line_width * n) (report_line_width * n + report_line_width - report_line_width * n) l.part row.new.0 row.auto.0 ∙ l.invariant.1
+    same_len_mid (report_line_width * n) (report_line_width * n + report_line_width - report_line_width * n) l.part row.new.line row.auto.line ∙ l.invariant.1
 
 pub returns : goal.returns
 returns c =
@@ -51,4 +51,4 @@ returns c =
     let past : report_line_width * n + report_line_width ≤ length l.part = omega (arith, l.invariant.1, s.requires) in
     let cut : report_line_width * n + report_line_width - report_line_width * n ≡ report_line_width = omega arith in
     let wide = mid_len (report_line_width * n) (report_line_width * n + report_line_width) l.part past ∙ cut in
-    total_more s.args.cells.now s.args.receptor s.args.id s.args.chemicals s.args.part.now l.part _ row.new.0 n _ refl s.requires.part_len c.total_row-row.ensures wide row.ensures.1 (rw all at l.invariant.2)
+    total_more s.args.cells.now s.args.receptor s.args.id s.args.chemicals s.args.part.now l.part _ row.new.line n _ refl s.requires.part_len c.total_row-row.ensures wide row.ensures.line_after (rw all at l.invariant.2)

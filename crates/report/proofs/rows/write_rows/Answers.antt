@@ -58,12 +58,12 @@ loop-j-preserved c =
     let l = c.loop-j in
     let width = report_line_width * (s.args.chemicals.count * pathways_per_chemical + 1) in
     let past : width * l.j + width ≤ length l.out = omega (arith, l.invariant.1, s.requires, within s.args.receptors.count l.j s.args.chemicals.count c.loop-j-test.true) in
-    let long : length s.args.receptors.list ≡ most_receptors = sym (length-map s.args.receptors.list _) ∙ s.well-formed.1.1.1.0.1.1.1.0.1.0.1 in
+    let long : length s.args.receptors.list ≡ most_receptors = sym (length-map s.args.receptors.list _) ∙ s.well_formed.1.1.1.0.1.1.1.0.1.0.1 in
     let here : l.j < length s.args.receptors.list = omega (arith, c.loop-j-test.true, s.requires) in
     let part = c.write_receptor in (
       omega (arith, c.loop-j-test.true),
-      same_len_mid (width * l.j) (width * l.j + width - width * l.j) l.out part.new.0 part.auto.0 ∙ l.invariant.1,
-      receptor_more s.args.cells.now s.args.chemicals s.args.receptors.list _ s.args.out.now l.out part.new.0 l.j here part.ensures l.invariant.2,
+      same_len_mid (width * l.j) (width * l.j + width - width * l.j) l.out part.new.part part.auto.part ∙ l.invariant.1,
+      receptor_more s.args.cells.now s.args.chemicals s.args.receptors.list _ s.args.out.now l.out part.new.part l.j here part.ensures l.invariant.2,
     )
 
 pub shape_of-out : goal.shape_of-out

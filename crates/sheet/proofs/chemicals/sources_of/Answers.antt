@@ -32,10 +32,10 @@ returns-then-not-made c =
     let s = c in
     let l = c.loop-i in
     let test = c.loop-i-test.true in
-    let long : length s.args.chemicals.records ≡ max_chemicals = sym (length-map s.args.chemicals.records _) ∙ s.well-formed.1.0.1.1.1.0.1.0.1 in
+    let long : length s.args.chemicals.records ≡ max_chemicals = sym (length-map s.args.chemicals.records _) ∙ s.well_formed.1.0.1.1.1.0.1.0.1 in
     let here : l.i < length s.args.chemicals.records = omega (arith, test, s.requires) in
     let made = c.source_of-made in
-    let stop = c.stopped_at.ensures in record { status_value = stops s.args.site s.args.receptors s.args.chemicals.records _ l.i here _ _ made.ensures.0 made.ensures.1 l.invariant.2 (not-true _ c.if-not-made.true) s.args.chemicals.count test _ stop; sources_value = λ e. absurd (never _ 53 _ 0 stop e) }
+    let stop = c.stopped_at.ensures in record { status_value = stops s.args.site s.args.receptors s.args.chemicals.records _ l.i here _ _ made.ensures.worked_value made.ensures.source_value l.invariant.2 (not-true _ c.if-not-made.true) s.args.chemicals.count test _ stop; sources_value = λ e. absurd (never _ 53 _ 0 stop e) }
 
 pub offset_bounds-list-i : goal.offset_bounds-list-i
 offset_bounds-list-i c = record { fits = omega (arith, c.loop-i-test.true, c.requires) }
@@ -48,14 +48,14 @@ loop-i-preserved c =
     let s = c in
     let l = c.loop-i in
     let test = c.loop-i-test.true in
-    let long : length s.args.chemicals.records ≡ max_chemicals = sym (length-map s.args.chemicals.records _) ∙ s.well-formed.1.0.1.1.1.0.1.0.1 in
+    let long : length s.args.chemicals.records ≡ max_chemicals = sym (length-map s.args.chemicals.records _) ∙ s.well_formed.1.0.1.1.1.0.1.0.1 in
     let here : l.i < length s.args.chemicals.records = omega (arith, test, s.requires) in
     let made = c.source_of-made in
     let worked = not-false _ c.if-not-made.false in (
       omega (arith, test),
       filled_more (λ k. source_of s.args.site s.args.receptors (get_or s.args.chemicals.records k no_record)) no_source max_chemicals l.i (omega (arith, test, s.requires)) l.list l.invariant.1 _
-          (source_is s.args.site s.args.receptors s.args.chemicals.records _ l.i here _ _ made.ensures.0 made.ensures.1 worked),
-      goes_on s.args.site s.args.receptors s.args.chemicals.records _ l.i here _ _ made.ensures.0 made.ensures.1 l.invariant.2 worked,
+          (source_is s.args.site s.args.receptors s.args.chemicals.records _ l.i here _ _ made.ensures.worked_value made.ensures.source_value worked),
+      goes_on s.args.site s.args.receptors s.args.chemicals.records _ l.i here _ _ made.ensures.worked_value made.ensures.source_value l.invariant.2 worked,
     )
 
 pub returns : goal.returns

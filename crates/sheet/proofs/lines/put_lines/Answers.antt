@@ -22,7 +22,7 @@ unfolding chained first
 loop-i-init c = (omega arith, refl, λ e w q h. absurd (not-suc-le-zero h), λ k h. refl, refl, λ z. (λ e w q h l. z _ (omega arith), λ k h. z k (omega arith)))
 
 pub shape_of-cells-in-Stopped : goal.shape_of-cells-in-Stopped
-shape_of-cells-in-Stopped c = c.put_chemical-status.auto.0 ∙ c.loop-i.invariant.1
+shape_of-cells-in-Stopped c = c.put_chemical-status.auto.cells ∙ c.loop-i.invariant.1
 
 pub returns-in-Stopped : goal.returns-in-Stopped
 returns-in-Stopped c =
@@ -30,19 +30,19 @@ returns-in-Stopped c =
     let a = s.args in
     let l = c.loop-i in
     let test = c.loop-i-test.true in
-    let long : length a.sources.list ≡ max_chemicals = sym (length-map a.sources.list _) ∙ s.well-formed.1.1.1.1.1.0.1.1.1.0.1.0.1 in
+    let long : length a.sources.list ≡ max_chemicals = sym (length-map a.sources.list _) ∙ s.well_formed.1.1.1.1.1.0.1.1.1.0.1.0.1 in
     let here : l.i < length a.sources.list = omega (arith, test, s.requires) in
     let few : l.i < max_chemicals = omega (arith, test, s.requires) in
     let put = c.put_chemical-status in
-    let same = put.ensures.1.1 in
+    let same = put.ensures.same_but in
     let stop = c.in-Stopped.is in record {
-      value = chemical_stops a.capped a.site a.place a.receptor a.sources _ l.i here a.before put.result put.ensures.0 l.invariant.4 test _ _ _ stop;
+      value = chemical_stops a.capped a.site a.place a.receptor a.sources _ l.i here a put.result put.ensures.value l.invariant.4 test _ _ _ stop;
       cells_hold = λ e. absurd (never _ _ _ _ stop e);
-      same_below = chemical_below a.base l.i l.cells put.new.0 few same a.cells.now l.invariant.3;
+      same_below = chemical_below a.base l.i l.cells put.new.cells few same a.cells.now l.invariant.3;
       cells_empty = λ z.
           let kept = l.invariant.5 z in (
-            chemical_empty a.base l.i l.cells put.new.0 few same (a.sources.count * pathways_per_chemical) (omega (arith, test)) kept.0,
-            chemical_zero a.base l.i l.cells put.new.0 few same kept.1,
+            chemical_empty a.base l.i l.cells put.new.cells few same (a.sources.count * pathways_per_chemical) (omega (arith, test)) kept.0,
+            chemical_zero a.base l.i l.cells put.new.cells few same kept.1,
           );
     }
 
@@ -52,25 +52,25 @@ loop-i-preserved c =
     let a = s.args in
     let l = c.loop-i in
     let test = c.loop-i-test.true in
-    let long : length a.sources.list ≡ max_chemicals = sym (length-map a.sources.list _) ∙ s.well-formed.1.1.1.1.1.0.1.1.1.0.1.0.1 in
+    let long : length a.sources.list ≡ max_chemicals = sym (length-map a.sources.list _) ∙ s.well_formed.1.1.1.1.1.0.1.1.1.0.1.0.1 in
     let here : l.i < length a.sources.list = omega (arith, test, s.requires) in
     let few : l.i < max_chemicals = omega (arith, test, s.requires) in
     let put = c.put_chemical-status in
-    let same = put.ensures.1.1 in
+    let same = put.ensures.same_but in
     let read = c.in_default.is in
     let columns = columns_worked a.site a.sources a.place a.receptor in
-    let filled : CellsHold (λ p. columns (l.i * pathways_per_chemical + p)) pathways_per_chemical put.new.0 (a.base + l.i * pathways_per_chemical) =
-    λ e w p h. put.ensures.1.0 read e w p h ∙ ap (cell_of w) (lines_are a.capped a.site a.place a.receptor a.sources _ l.i here p h e)
+    let filled : CellsHold (λ p. columns (l.i * pathways_per_chemical + p)) pathways_per_chemical put.new.cells (a.base + l.i * pathways_per_chemical) =
+    λ e w p h. put.ensures.cells_hold read e w p h ∙ ap (cell_of w) (lines_are a.capped a.site a.place a.receptor a.sources _ l.i here p h e)
     in (
       omega (arith, test),
-      put.auto.0 ∙ l.invariant.1,
-      chemical_held a.base l.i l.cells put.new.0 few same columns l.invariant.2 filled,
-      chemical_below a.base l.i l.cells put.new.0 few same a.cells.now l.invariant.3,
-      chemical_on a.capped a.site a.place a.receptor a.sources _ l.i here a.before put.result put.ensures.0 l.invariant.4 read,
+      put.auto.cells ∙ l.invariant.1,
+      chemical_held a.base l.i l.cells put.new.cells few same columns l.invariant.2 filled,
+      chemical_below a.base l.i l.cells put.new.cells few same a.cells.now l.invariant.3,
+      chemical_on a.capped a.site a.place a.receptor a.sources _ l.i here a put.result put.ensures.value l.invariant.4 read,
       λ z.
           let kept = l.invariant.5 z in (
-            chemical_empty a.base l.i l.cells put.new.0 few same ((l.i + 1) * pathways_per_chemical) (omega arith) kept.0,
-            chemical_zero a.base l.i l.cells put.new.0 few same kept.1,
+            chemical_empty a.base l.i l.cells put.new.cells few same ((l.i + 1) * pathways_per_chemical) (omega arith) kept.0,
+            chemical_zero a.base l.i l.cells put.new.cells few same kept.1,
           ),
     )
 

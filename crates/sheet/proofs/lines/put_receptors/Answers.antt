@@ -35,13 +35,13 @@ put_lines-status-requires c =
     (omega (arith, l.invariant.1, s.requires.0), s.requires.2, omega (arith, s.requires, mul-le-mul_right (s.args.sources.count * pathways_per_chemical + 1) most), omega arith)
 
 pub shape_of-cells-in-Stopped : goal.shape_of-cells-in-Stopped
-shape_of-cells-in-Stopped c = c.put_lines-status.auto.0 ∙ c.loop-j.invariant.1
+shape_of-cells-in-Stopped c = c.put_lines-status.auto.cells ∙ c.loop-j.invariant.1
 
 pub returns-in-Stopped : goal.returns-in-Stopped
 returns-in-Stopped c =
     let s = c in
     let l = c.loop-j in
-    let long : length s.args.receptors.list ≡ most_receptors = sym (length-map s.args.receptors.list _) ∙ s.well-formed.1.1.0.1.1.1.0.1.0.1 in
+    let long : length s.args.receptors.list ≡ most_receptors = sym (length-map s.args.receptors.list _) ∙ s.well_formed.1.1.0.1.1.1.0.1.0.1 in
     let test = c.loop-j-test.true in
     let here : l.j < length s.args.receptors.list = omega (arith, test, s.requires) in
     let stop = c.in-Stopped.is in record { value = fault_stops s.args.capped s.args.site s.args.sources s.args.receptors.list _ l.j here _ refl _ c.put_lines-status.ensures.value l.invariant.2 s.args.receptors.count test _ _ _ stop; cells_filled = λ e. absurd (never _ _ _ _ stop e) }
@@ -50,19 +50,19 @@ pub loop-j-preserved : goal.loop-j-preserved
 loop-j-preserved c =
     let s = c in
     let l = c.loop-j in
-    let long : length s.args.receptors.list ≡ most_receptors = sym (length-map s.args.receptors.list _) ∙ s.well-formed.1.1.0.1.1.1.0.1.0.1 in
+    let long : length s.args.receptors.list ≡ most_receptors = sym (length-map s.args.receptors.list _) ∙ s.well_formed.1.1.0.1.1.1.0.1.0.1 in
     let test = c.loop-j-test.true in
     let here : l.j < length s.args.receptors.list = omega (arith, test, s.requires) in
     let read = c.in_default.is in
     let lines = c.put_lines-status in (
       omega (arith, test),
-      lines.auto.0 ∙ l.invariant.1,
-      fault_on s.args.capped s.args.site s.args.sources s.args.receptors.list _ l.j here _ refl _ lines.ensures.0 l.invariant.2 read,
+      lines.auto.cells ∙ l.invariant.1,
+      fault_on s.args.capped s.args.site s.args.sources s.args.receptors.list _ l.j here _ refl _ lines.ensures.value l.invariant.2 read,
       λ z.
           let kept = l.invariant.3 z in
-          let left = lines.ensures.1.1.1 kept.1 in (
-            receptor_held s.args.site s.args.sources s.args.receptors.list l.j l.cells lines.new.0 s.requires.2 _
-                (receptor_is s.args.capped s.args.site s.args.sources s.args.receptors.list _ l.j here _ refl) kept.0 lines.ensures.1.1.0 (lines.ensures.1.0 read) left.0,
+          let left = lines.ensures.cells_empty kept.1 in (
+            receptor_held s.args.site s.args.sources s.args.receptors.list l.j l.cells lines.new.cells s.requires.2 _
+                (receptor_is s.args.capped s.args.site s.args.sources s.args.receptors.list _ l.j here _ refl) kept.0 lines.ensures.same_below (lines.ensures.cells_hold read) left.0,
             λ k h. left.1 k (omega arith),
           ),
     )

@@ -36,7 +36,7 @@ returns-then-b-gt-NINE c =
     record { count_value = end; value_value = digits_value_stop s _ _ l.i _ end l.invariant.2 }
 
 -- the value after this turn, and those that it needs
-next : (c : goal.Else-b-gt-NINE invariant-loop decreases-loop)
+next : (c : goal.Else-b-gt-NINE)
     → (c.loop-i.value * 10 + (c.wide-b.result - 48) + 1) * 10 ^ (length c.args.s.now - (c.loop-i.i + 1)) ≤ 10000000000000
 next c = room_loop _ _ _ _ _ (omega (arith, c.if-b-gt-NINE.false)) c.loop-i-test.true c.loop-i.invariant.3
 

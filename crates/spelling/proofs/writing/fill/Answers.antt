@@ -39,7 +39,7 @@ loop-left-preserved c =
     )
 
 pub shape_of-part : goal.shape_of-part
-shape_of-part c = c.put_spaces.auto.0 ∙ simp length-set at c.loop-left.invariant.0
+shape_of-part c = c.put_spaces.auto.part ∙ simp length-set at c.loop-left.invariant.0
 
 pub returns : goal.returns
 returns c =

@@ -14,4 +14,4 @@ unfolding dash_in
 returns c =
     let a = c.args in
     let filled = c.fill in
-    columns_some a.part.now _ filled.new.0 c.if-part-eq0.false (byte_filled filled.new.0 _ _ 45 refl filled.ensures)
+    columns_some a.part.now _ filled.new.part c.if-part-eq0.false (byte_filled filled.new.part _ _ 45 refl filled.ensures)

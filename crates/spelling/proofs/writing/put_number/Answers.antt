@@ -14,5 +14,5 @@ unfolding number_in number
 returns c =
     let a = c.args in
     let filled = c.fill in
-    columns_some a.part.now _ filled.new.0 c.if-part-eq0.false
-    (number_filled filled.new.0 _ _ a.n _ refl c.digit.ensures filled.ensures)
+    columns_some a.part.now _ filled.new.part c.if-part-eq0.false
+    (number_filled filled.new.part _ _ a.n _ refl c.digit.ensures filled.ensures)

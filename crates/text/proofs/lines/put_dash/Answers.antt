@@ -16,6 +16,6 @@ returns c =
     let line = a.line.now in
     let part = c.put_dash in
     let wide : a.at + a.width - a.at ≡ a.width = omega arith in
-    placed_part line part.new.0 _ a.at a.width
-    (dash_in_lem _ part.new.0 a.width (mid_len a.at (a.at + a.width) line s.requires.1 ∙ wide) s.requires.0 part.ensures)
+    placed_part line part.new.part _ a.at a.width
+    (dash_in_lem _ part.new.part a.width (mid_len a.at (a.at + a.width) line s.requires.1 ∙ wide) s.requires.0 part.ensures)
     (length_justified a.width dash s.requires.0)

@@ -8,11 +8,11 @@ use Rattle.text.proofs.lines.put_line.Goals as goal
 pub shape_of-line : goal.shape_of-line
 shape_of-line c =
     simp length-set
-    (c.put_columns-2.auto.0
-    ∙ c.put_columns.auto.0
-    ∙ c.put_number-3.auto.0
-    ∙ c.put_number-2.auto.0
-    ∙ c.put_number.auto.0)
+    (c.put_columns-2.auto.line
+    ∙ c.put_columns.auto.line
+    ∙ c.put_number-3.auto.line
+    ∙ c.put_number-2.auto.line
+    ∙ c.put_number.auto.line)
 
 pub returns : goal.returns
 returns c =

@@ -15,6 +15,6 @@ returns c =
     let line = a.line.now in
     let part = c.put_number in
     let wide : a.at + a.width - a.at ≡ a.width = omega arith in
-    placed_part line part.new.0 _ a.at a.width
-    (number_in_lem _ part.new.0 a.width (mid_len a.at (a.at + a.width) line s.requires.1 ∙ wide) s.requires.0 a.n part.ensures)
+    placed_part line part.new.part _ a.at a.width
+    (number_in_lem _ part.new.part a.width (mid_len a.at (a.at + a.width) line s.requires.1 ∙ wide) s.requires.0 a.n part.ensures)
     (length_number a.width a.n s.requires.0)

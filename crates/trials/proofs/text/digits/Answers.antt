@@ -27,5 +27,5 @@ pub returns : goal.returns
 returns c =
     let p = c.past-end in
     let a = c.args in
-    let n : p.result - a.at ≡ digits_at a.s.now a.at = omega (arith, p.ensures.0) in
-    cc (there a.s.now a.at a.good (not-false _ c.if-not-good.false-raw) (omega (arith, p.ensures.0)), n, c.number.ensures, p.ensures.0)
+    let n : p.result - a.at ≡ digits_at a.s.now a.at = omega (arith, p.ensures.value) in
+    cc (there a.s.now a.at a.good (not-false _ c.if-not-good.false-raw) (omega (arith, p.ensures.value)), n, c.number.ensures, p.ensures.value)

@@ -25,7 +25,7 @@ pub returns : goal.returns
 unfolding answer leaves numbers_of
 returns c =
     let a = c.a-1.given in
-    let p = a.0.0 in
+    let p = c.in-Is.p in
     let l : SFits w32 p.low.exponent = search rules in
     let h : SFits w32 p.high.exponent = search rules in
-    rw (a.1, widened l, widened h, to_z_pos w64 {n = p.low.significand} (omega arith), to_z_pos w64 {n = p.high.significand} (omega arith)) refl
+    rw (c.in-Is.is, widened l, widened h, to_z_pos w64 {n = p.low.significand} (omega arith), to_z_pos w64 {n = p.high.significand} (omega arith)) refl
