@@ -25,7 +25,7 @@ returns-then-id_wrong c =
     let s = c in
     let l = c.loop-i in
     let test = c.loop-i-test.true in
-    let long : length s.args.chemicals.records ≡ max_chemicals = sym (length-map s.args.chemicals.records _) ∙ s.well_formed.0.1.1.1.0.1.0.1 in
+    let long : length s.args.chemicals.records ≡ max_chemicals = s.well_formed.0.1.1.1.0.1.0.1 in
     let here : l.i < length s.args.chemicals.records = omega (arith, test, s.requires) in
     id_stops (chemical_ids s.args.chemicals) l.i _ _ (ap (λ (r : Record). r.id) (read_any s.args.chemicals.records l.i here _ no_record)) l.invariant.1 _ c.id_wrong.ensures c.if-id_wrong.true _ test
 
@@ -35,7 +35,7 @@ loop-i-preserved c =
     let s = c in
     let l = c.loop-i in
     let test = c.loop-i-test.true in
-    let long : length s.args.chemicals.records ≡ max_chemicals = sym (length-map s.args.chemicals.records _) ∙ s.well_formed.0.1.1.1.0.1.0.1 in
+    let long : length s.args.chemicals.records ≡ max_chemicals = s.well_formed.0.1.1.1.0.1.0.1 in
     let here : l.i < length s.args.chemicals.records = omega (arith, test, s.requires) in
     let on = id_on (chemical_ids s.args.chemicals) l.i _ _ (ap (λ (r : Record). r.id) (read_any s.args.chemicals.records l.i here _ no_record)) l.invariant.1 _ c.id_wrong.ensures c.if-id_wrong.false l.invariant.2 in
     (omega (arith, test), on.0, on.1)

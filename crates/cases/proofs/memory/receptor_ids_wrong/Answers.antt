@@ -23,7 +23,7 @@ returns-then-id_wrong c =
     let s = c in
     let l = c.loop-j in
     let test = c.loop-j-test.true in
-    let long : length s.args.ids.list ≡ most_stages = sym (length-map s.args.ids.list _) ∙ s.well_formed.0.1.1.1.0.1.0.1 in
+    let long : length s.args.ids.list ≡ most_stages = s.well_formed.0.1.1.1.0.1.0.1 in
     let here : l.j < length s.args.ids.list = omega (arith, test, s.requires) in
     id_stops (receptor_ids s.args.ids) l.j _ _ (read_any s.args.ids.list l.j here _ 0) l.invariant.1 _ c.id_wrong.ensures c.if-id_wrong.true _ test
 
@@ -33,7 +33,7 @@ loop-j-preserved c =
     let s = c in
     let l = c.loop-j in
     let test = c.loop-j-test.true in
-    let long : length s.args.ids.list ≡ most_stages = sym (length-map s.args.ids.list _) ∙ s.well_formed.0.1.1.1.0.1.0.1 in
+    let long : length s.args.ids.list ≡ most_stages = s.well_formed.0.1.1.1.0.1.0.1 in
     let here : l.j < length s.args.ids.list = omega (arith, test, s.requires) in
     let on = id_on (receptor_ids s.args.ids) l.j _ _ (read_any s.args.ids.list l.j here _ 0) l.invariant.1 _ c.id_wrong.ensures c.if-id_wrong.false l.invariant.2 in
     (omega (arith, test), on.0, on.1)

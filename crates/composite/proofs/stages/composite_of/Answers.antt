@@ -16,6 +16,6 @@ returns c =
     let p = v in
     let e = p in
     let s = e in
-    let long : length s.args.case.receptors.records ≡ most_stages = sym (length-map s.args.case.receptors.records _) ∙ s.well_formed.0.1.1.1.1.0.1.1.1.0.1.0.1 in
+    let long : length s.args.case.receptors.records ≡ most_stages = s.well_formed.0.1.1.1.1.0.1.1.1.0.1.0.1 in
     composite_made s.args.case _ (omega arith) v.composed_values-values.result e.time_exposed-exposure.result (answer p.pair.result) e.time_exposed-exposure.ensures p.pair.ensures v.composed_values-values.ensures
     d.deposition_of-deposition.result r.receptor_with-receptor.result c.no_receptor-none.result d.deposition_of-deposition.ensures r.receptor_with-receptor.ensures c.no_receptor-none.ensures

@@ -16,14 +16,14 @@ pub loop-j-init : goal.loop-j-init
 unfolding summed
 loop-j-init c =
     let s = c in
-    let long : length s.args.years.list ≡ most_stages = sym (length-map s.args.years.list _) ∙ s.well_formed.0.1.1.0.1.0.1 in
+    let long : length s.args.years.list ≡ most_stages = s.well_formed.0.1.1.0.1.0.1 in
     (omega arith, c.answer-sum.ensures ∙ year_is s.args.years.list _ 0 (omega arith))
 
 pub loop-j-preserved : goal.loop-j-preserved
 loop-j-preserved c =
     let s = c in
     let l = c.loop-j in
-    let long : length s.args.years.list ≡ most_stages = sym (length-map s.args.years.list _) ∙ s.well_formed.0.1.1.0.1.0.1 in (
+    let long : length s.args.years.list ≡ most_stages = s.well_formed.0.1.1.0.1.0.1 in (
       omega (arith, c.loop-j-test.true),
       next_sum (year_at s.args.years.list) l.sum c.plus-sum.result (answer c.answer.result) l.j l.invariant.1
           (c.answer.ensures ∙ year_is s.args.years.list _ (l.j + 1) (omega (arith, c.loop-j-test.true, s.requires))) c.plus-sum.ensures,

@@ -14,7 +14,7 @@ pub loop-j-init : goal.loop-j-init
 unfolding years_together
 loop-j-init c =
     let s = c in
-    let many : length s.args.stages.records ≡ most_stages = sym (length-map s.args.stages.records _) ∙ s.well_formed.0.1.1.1.0.1.0.1 in
+    let many : length s.args.stages.records ≡ most_stages = s.well_formed.0.1.1.1.0.1.0.1 in
     (omega arith, c.time_in-sum.ensures ∙ printed_is s.args.stages.records _ 0 (omega arith))
 
 pub loop-j-preserved : goal.loop-j-preserved
@@ -22,7 +22,7 @@ loop-j-preserved c =
     let s = c in
     let l = c.loop-j in
     let more = c.loop-j-test.true in
-    let many : length s.args.stages.records ≡ most_stages = sym (length-map s.args.stages.records _) ∙ s.well_formed.0.1.1.1.0.1.0.1 in (
+    let many : length s.args.stages.records ≡ most_stages = s.well_formed.0.1.1.1.0.1.0.1 in (
       omega (arith, more),
       next_years (time_in s.args.stages.records) l.sum c.added-sum.result c.time_in.result l.j l.invariant.1
           (c.time_in.ensures ∙ printed_is s.args.stages.records _ (l.j + 1) (omega (arith, more, s.requires))) c.added-sum.ensures,

@@ -24,7 +24,7 @@ unfolding place_of owner_of place_in is_in same table
 loop-j-preserved c =
     let s = c in
     let l = c.loop-j in
-    let long : length s.args.stages.records ≡ most_stages = sym (length-map s.args.stages.records _) ∙ s.well_formed.0.1.1.1.0.1.0.1 in (
+    let long : length s.args.stages.records ≡ most_stages = s.well_formed.0.1.1.1.0.1.0.1 in (
       omega (arith, c.loop-j-test.true),
       filled_more (λ i. pair_in s.args.stages.records i (place_of "years")) one_pair most_stages l.j (omega (arith, c.loop-j-test.true)) l.list l.invariant.1 c.value_in.result
           (c.value_in.ensures ∙ value_is s.args.stages.records _ l.j 22 (omega (arith, c.loop-j-test.true))),

@@ -14,12 +14,12 @@ pub returns-then-place-ge-SLOTS : goal.returns-then-place-ge-SLOTS
 unfolding value_in one_pair one
 returns-then-place-ge-SLOTS c =
     let s = c in
-    let long : length s.args.self.list ≡ slots_per_record = sym (length-map s.args.self.list _) ∙ s.well_formed.0.1.1.0.1.0.1 in
+    let long : length s.args.self.list ≡ slots_per_record = s.well_formed.0.1.1.0.1.0.1 in
     sym (get_or-eq_default s.args.self.list one_pair (omega arith))
 
 pub returns : goal.returns
 unfolding value_in
 returns c =
     let s = c in
-    let long : length s.args.self.list ≡ slots_per_record = sym (length-map s.args.self.list _) ∙ s.well_formed.0.1.1.0.1.0.1 in
+    let long : length s.args.self.list ≡ slots_per_record = s.well_formed.0.1.1.0.1.0.1 in
     read_any s.args.self.list s.args.place (omega arith) _ one_pair

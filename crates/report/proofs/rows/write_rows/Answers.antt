@@ -58,7 +58,7 @@ loop-j-preserved c =
     let l = c.loop-j in
     let width = report_line_width * (s.args.chemicals.count * pathways_per_chemical + 1) in
     let past : width * l.j + width ≤ length l.out = omega (arith, l.invariant.1, s.requires, within s.args.receptors.count l.j s.args.chemicals.count c.loop-j-test.true) in
-    let long : length s.args.receptors.list ≡ most_receptors = sym (length-map s.args.receptors.list _) ∙ s.well_formed.1.1.1.0.1.1.1.0.1.0.1 in
+    let long : length s.args.receptors.list ≡ most_receptors = s.well_formed.1.1.1.0.1.1.1.0.1.0.1 in
     let here : l.j < length s.args.receptors.list = omega (arith, c.loop-j-test.true, s.requires) in
     let part = c.write_receptor in (
       omega (arith, c.loop-j-test.true),

@@ -22,7 +22,7 @@ returns-then-unpaired c =
     let s = c in
     let l = c.loop-i in
     let test = c.loop-i-test.true in
-    let long : length s.args.chemicals.records ≡ max_chemicals = sym (length-map s.args.chemicals.records _) ∙ s.well_formed.0.1.1.1.0.1.0.1 in
+    let long : length s.args.chemicals.records ≡ max_chemicals = s.well_formed.0.1.1.1.0.1.0.1 in
     let here : l.i < length s.args.chemicals.records = omega (arith, test, s.requires) in
     let turn = c.unpaired.ensures ∙ ap unpaired (read_any s.args.chemicals.records l.i here _ no_record) in
     any_stops (λ n. unpaired (get_or s.args.chemicals.records n no_record)) l.i _ turn c.if-unpaired.true _ test
@@ -32,7 +32,7 @@ loop-i-preserved c =
     let s = c in
     let l = c.loop-i in
     let test = c.loop-i-test.true in
-    let long : length s.args.chemicals.records ≡ max_chemicals = sym (length-map s.args.chemicals.records _) ∙ s.well_formed.0.1.1.1.0.1.0.1 in
+    let long : length s.args.chemicals.records ≡ max_chemicals = s.well_formed.0.1.1.1.0.1.0.1 in
     let here : l.i < length s.args.chemicals.records = omega (arith, test, s.requires) in
     let turn = c.unpaired.ensures ∙ ap unpaired (read_any s.args.chemicals.records l.i here _ no_record) in
     (omega (arith, test), any_on (λ n. unpaired (get_or s.args.chemicals.records n no_record)) l.i _ turn c.if-unpaired.false l.invariant.1)

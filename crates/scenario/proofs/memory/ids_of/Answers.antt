@@ -10,5 +10,5 @@ use Rattle.scenario.proofs.memory.ids_of.Goals as goal
 pub returns : goal.returns
 returns c =
     let s = c in
-    let long : length s.args.receptors.list ≡ most_receptors = sym (length-map s.args.receptors.list _) ∙ s.well_formed.0.1.1.1.0.1.0.1 in
+    let long : length s.args.receptors.list ≡ most_receptors = s.well_formed.0.1.1.1.0.1.0.1 in
     ids_all s.args.receptors _ long

@@ -14,7 +14,7 @@ use Rattle.scenario.proofs.ordinary.entered_from.Goals as goal
 pub returns : goal.returns
 returns c =
     let s = c in
-    let long : length s.args.case.receptors.records ≡ most_stages = sym (length-map s.args.case.receptors.records _) ∙ s.well_formed.0.1.1.1.1.0.1.1.1.0.1.0.1 in
+    let long : length s.args.case.receptors.records ≡ most_stages = s.well_formed.0.1.1.1.1.0.1.1.1.0.1.0.1 in
     let since = c.deposition_of-deposition.ensures in
     let at : (r : Record) (y : Years) → y ≡ deposition_of s.args.case.site → (p : Receptor) → p ≡ entered y r → p ≡ entered (deposition_of s.args.case.site) r = λ r y e p q. q ∙ ap (λ (z : Years). entered z r) e in
     entered_all s.args.case _ (omega arith) _ _ _ _ (at _ _ since _ c.enter.ensures) (at _ _ since _ c.enter-2.ensures) (at _ _ since _ c.enter-3.ensures) (at _ _ since _ c.enter-4.ensures)

@@ -32,6 +32,6 @@ unfolding values_of
 returns c =
     let s = c in
     let l = c.loop-k in
-    let long : length s.args.r.slots ≡ slots_per_record = sym (length-map s.args.r.slots _) ∙ s.well_formed.0.1.1.1.0.1.0.1 in
+    let long : length s.args.r.slots ≡ slots_per_record = s.well_formed.0.1.1.1.0.1.0.1 in
     let all : l.k ≡ slots_per_record = omega (arith, c.loop-k-test.false) in
     ap (λ x. record { list = x }) (rw all at l.invariant.1 ∙ worked_all (λ (f : Filled). pair_of f.value) s.args.r.slots no_slot slots_per_record one_pair long)

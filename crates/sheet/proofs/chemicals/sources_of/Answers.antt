@@ -32,7 +32,7 @@ returns-then-not-made c =
     let s = c in
     let l = c.loop-i in
     let test = c.loop-i-test.true in
-    let long : length s.args.chemicals.records ≡ max_chemicals = sym (length-map s.args.chemicals.records _) ∙ s.well_formed.1.0.1.1.1.0.1.0.1 in
+    let long : length s.args.chemicals.records ≡ max_chemicals = s.well_formed.1.0.1.1.1.0.1.0.1 in
     let here : l.i < length s.args.chemicals.records = omega (arith, test, s.requires) in
     let made = c.source_of-made in
     let stop = c.stopped_at.ensures in record { status_value = stops s.args.site s.args.receptors s.args.chemicals.records _ l.i here _ _ made.ensures.worked_value made.ensures.source_value l.invariant.2 (not-true _ c.if-not-made.true) s.args.chemicals.count test _ stop; sources_value = λ e. absurd (never _ 53 _ 0 stop e) }
@@ -48,7 +48,7 @@ loop-i-preserved c =
     let s = c in
     let l = c.loop-i in
     let test = c.loop-i-test.true in
-    let long : length s.args.chemicals.records ≡ max_chemicals = sym (length-map s.args.chemicals.records _) ∙ s.well_formed.1.0.1.1.1.0.1.0.1 in
+    let long : length s.args.chemicals.records ≡ max_chemicals = s.well_formed.1.0.1.1.1.0.1.0.1 in
     let here : l.i < length s.args.chemicals.records = omega (arith, test, s.requires) in
     let made = c.source_of-made in
     let worked = not-false _ c.if-not-made.false in (

@@ -33,7 +33,7 @@ returns-in-Stopped c =
     let l = c.loop-p in
     let test = c.loop-p-test.true in
     let a = s.args in
-    let long : length a.source.means ≡ most_receptors = sym (length-map a.source.means _) ∙ s.well_formed.1.1.1.1.1.1.0.1.1.1.1.0.1.0.1 in
+    let long : length a.source.means ≡ most_receptors = s.well_formed.1.1.1.1.1.1.0.1.1.1.1.0.1.0.1 in
     let there : a.place < length a.source.means = omega (arith, long, s.requires) in
     let told = fault_is a.site a.place a.receptor a.source _ there _ l.p _ _ s.requires.3 c.pathway_at.ensures c.figures_with-line.ensures a.capped _ _ c.fault_at-status.ensures in
     let stop = c.in-Stopped.is in record { value = line_stops a.capped a.site a.place a.receptor a.source a l.p l.invariant.4 _ told test _ _ _ stop; cells_hold = λ e. absurd (never _ _ _ _ stop e); same_but = l.invariant.3 }
@@ -45,7 +45,7 @@ loop-p-preserved c =
     let l = c.loop-p in
     let test = c.loop-p-test.true in
     let a = s.args in
-    let long : length a.source.means ≡ most_receptors = sym (length-map a.source.means _) ∙ s.well_formed.1.1.1.1.1.1.0.1.1.1.1.0.1.0.1 in
+    let long : length a.source.means ≡ most_receptors = s.well_formed.1.1.1.1.1.1.0.1.1.1.1.0.1.0.1 in
     let there : a.place < length a.source.means = omega (arith, long, s.requires) in
     let way = c.pathway_at.ensures in
     let figures = c.figures_with-line.ensures in

@@ -41,7 +41,7 @@ pub returns-in-Stopped : goal.returns-in-Stopped
 returns-in-Stopped c =
     let s = c in
     let l = c.loop-j in
-    let long : length s.args.receptors.list ≡ most_receptors = sym (length-map s.args.receptors.list _) ∙ s.well_formed.1.1.0.1.1.1.0.1.0.1 in
+    let long : length s.args.receptors.list ≡ most_receptors = s.well_formed.1.1.0.1.1.1.0.1.0.1 in
     let test = c.loop-j-test.true in
     let here : l.j < length s.args.receptors.list = omega (arith, test, s.requires) in
     let stop = c.in-Stopped.is in record { value = fault_stops s.args.capped s.args.site s.args.sources s.args.receptors.list _ l.j here _ refl _ c.put_lines-status.ensures.value l.invariant.2 s.args.receptors.count test _ _ _ stop; cells_filled = λ e. absurd (never _ _ _ _ stop e) }
@@ -50,7 +50,7 @@ pub loop-j-preserved : goal.loop-j-preserved
 loop-j-preserved c =
     let s = c in
     let l = c.loop-j in
-    let long : length s.args.receptors.list ≡ most_receptors = sym (length-map s.args.receptors.list _) ∙ s.well_formed.1.1.0.1.1.1.0.1.0.1 in
+    let long : length s.args.receptors.list ≡ most_receptors = s.well_formed.1.1.0.1.1.1.0.1.0.1 in
     let test = c.loop-j-test.true in
     let here : l.j < length s.args.receptors.list = omega (arith, test, s.requires) in
     let read = c.in_default.is in
