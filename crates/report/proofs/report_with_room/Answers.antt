@@ -14,4 +14,4 @@ pub returns : goal.returns
 returns c =
     let a = c.args in
     let read = c.front.ensures in
-    let room : length a.out.now ≡ longest_report = search rules in record { input_len = search rules; longest_report_value = omega (arith, c.report.auto.1.0); value = c.report.ensures.value ∙ ap (λ (deck : List ℕ). outcome_of ordinary deck (length a.out.now)) read ∙ ap (outcome_of ordinary (take a.n a.input.now)) room; out_after = c.report.ensures.out_after ∙ ap (λ (deck : List ℕ). buffer_of ordinary deck a.out.now) read }
+    let room : length a.out.now ≡ longest_report = search rules in record { input_len = search rules; longest_report_value = omega (arith, c.report.auto.out); value = c.report.ensures.value ∙ ap (λ (deck : List ℕ). outcome_of ordinary deck (length a.out.now)) read ∙ ap (outcome_of ordinary (take a.n a.input.now)) room; out_after = c.report.ensures.out_after ∙ ap (λ (deck : List ℕ). buffer_of ordinary deck a.out.now) read }

@@ -24,7 +24,7 @@ returns-else-rule-2 c = field_no_dash c.args.rule c.args.w c.args.n c.args.f c.i
 pub returns-then-rule-3 : goal.returns-then-rule-3
 returns-then-rule-3 c =
     field_number c.args.rule c.args.w c.args.n c.args.f _ _ _ c.in-Number.is c.if-rule-3.true
-    (to_z-of_z {w = w32} (record { sfits = c.known_told-1.given.1.0.1 })) _ c.range_status.ensures
+    (to_z-of_z {w = w32} (record { sfits = c.in-Number.known_told-1-own.given.1.0.1 })) _ c.range_status.ensures
 
 pub returns-else-rule-3 : goal.returns-else-rule-3
 returns-else-rule-3 c = field_later c.args.rule c.args.w c.args.n c.args.f _ _ c.in-Number.is c.if-rule-3.false

@@ -8,7 +8,7 @@ use mir.Syntax.{w32}
 use Rattle.deck.proofs.packing.packed.Goals as goal
 
 pub packed_number-requires : goal.packed_number-requires
-packed_number-requires c = rw (to_z-of_z {w = w32} (record { sfits = c.known_told-1.given.1.0.1 })) (subst Small c.in-Number.is c.requires)
+packed_number-requires c = rw (to_z-of_z {w = w32} (record { sfits = c.in-Number.known_told-1-own.given.1.0.1 })) (subst Small c.in-Number.is c.requires)
 
 pub returns-in-Blank : goal.returns-in-Blank
 unfolding packed_of
@@ -21,7 +21,7 @@ returns-in-Dash c = sym (ap packed_of c.in-Dash.is)
 pub returns-in-Number : goal.returns-in-Number
 unfolding packed_of
 returns-in-Number c =
-    c.packed_number.ensures ∙ ap (packed_number _) (to_z-of_z {w = w32} (record { sfits = c.known_told-1.given.1.0.1 })) ∙ sym (ap packed_of c.in-Number.is)
+    c.packed_number.ensures ∙ ap (packed_number _) (to_z-of_z {w = w32} (record { sfits = c.in-Number.known_told-1-own.given.1.0.1 })) ∙ sym (ap packed_of c.in-Number.is)
 
 pub returns-in-Other : goal.returns-in-Other
 unfolding packed_of

@@ -59,7 +59,7 @@ pub shape_of-values-in_default : goal.shape_of-values-in_default
 shape_of-values-in_default c =
     let l = c.loop-n in
     let row = c.line_status-status in
-    same_len_mid (fields_per_line * l.n) (fields_per_line * l.n + fields_per_line - fields_per_line * l.n) l.values row.new.1.1.1.1.1.1.0 row.auto.1.1.1.1.1.1.0
+    same_len_mid (fields_per_line * l.n) (fields_per_line * l.n + fields_per_line - fields_per_line * l.n) l.values row.new.values row.auto.values
     ∙ kept_room c.args.deck.now c.loop-n.n _ (omega (arith, c.loop-n-test.true, c.requires.0)) c.loop-n.invariant.1
     ∙ sym (ap length c.requires.1)
 

@@ -16,12 +16,10 @@ pub returns-then-is_fast : goal.returns-then-is_fast
 unfolding answer paced
 returns-then-is_fast c =
     let t = c in
-    let p = t.x-1.given in
     rw (growth_tested c.in-Is.e (ap answer c.in-Is.is) t.is_fast.ensures c.if-is_fast.true) c.fast_build_up.ensures
 
 pub returns : goal.returns
 unfolding answer paced growth pair_growing
 returns c =
     let t = c in
-    let p = t.x-1.given in
     rw (growth_tested c.in-Is.e (ap answer c.in-Is.is) t.is_fast.ensures c.if-is_fast.false, c.slow_build_up.ensures, c.sum_of_terms.ensures) refl
