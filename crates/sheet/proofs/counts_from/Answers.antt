@@ -12,15 +12,17 @@ pub returns-then-counts_outside : goal.returns-then-counts_outside
 unfolding miscounted conditions_by
 returns-then-counts_outside c =
     let s = c in
-    by_test (scenario_from s.args.site s.args.chemicals s.args.receptors) _ true c.if-tested.true _ _
-    (miscount (scenario_from s.args.site s.args.chemicals s.args.receptors) (sym c.counts_outside.ensures ∙ c.if-counts_outside.true) _ c.clear.ensures)
+    let r = by_test (scenario_from s.args.site s.args.chemicals s.args.receptors) _ true c.if-tested.true _ _
+    (miscount (scenario_from s.args.site s.args.chemicals s.args.receptors) (sym c.counts_outside.ensures ∙ c.if-counts_outside.true) _ c.clear.ensures) in
+    record { value = r.0; cells_after = r.1 }
 
 pub returns-then-has_no_guidance : goal.returns-then-has_no_guidance
 unfolding miscounted no_guidance conditions_by
 returns-then-has_no_guidance c =
     let s = c in
-    by_test (scenario_from s.args.site s.args.chemicals s.args.receptors) _ true c.if-tested.true _ _
-    (other_year (scenario_from s.args.site s.args.chemicals s.args.receptors) (sym c.counts_outside.ensures ∙ c.if-counts_outside.false) (sym c.has_no_guidance.ensures ∙ c.if-has_no_guidance.true) _ c.clear.ensures)
+    let r = by_test (scenario_from s.args.site s.args.chemicals s.args.receptors) _ true c.if-tested.true _ _
+    (other_year (scenario_from s.args.site s.args.chemicals s.args.receptors) (sym c.counts_outside.ensures ∙ c.if-counts_outside.false) (sym c.has_no_guidance.ensures ∙ c.if-has_no_guidance.true) _ c.clear.ensures) in
+    record { value = r.0; cells_after = r.1 }
 
 pub work-requires : goal.work-requires
 unfolding miscounted
@@ -33,22 +35,25 @@ pub returns-then-tested : goal.returns-then-tested
 unfolding miscounted no_guidance conditions_by
 returns-then-tested c =
     let s = c in
-    by_test (scenario_from s.args.site s.args.chemicals s.args.receptors) _ true c.if-tested.true _ _
-    (counted_entered (scenario_from s.args.site s.args.chemicals s.args.receptors) (sym c.counts_outside.ensures ∙ c.if-counts_outside.false) (sym c.has_no_guidance.ensures ∙ c.if-has_no_guidance.false) _ _ c.work.ensures)
+    let r = by_test (scenario_from s.args.site s.args.chemicals s.args.receptors) _ true c.if-tested.true _ _
+    (counted_entered (scenario_from s.args.site s.args.chemicals s.args.receptors) (sym c.counts_outside.ensures ∙ c.if-counts_outside.false) (sym c.has_no_guidance.ensures ∙ c.if-has_no_guidance.false) _ _ (c.work.ensures.value, c.work.ensures.cells_after)) in
+    record { value = r.0; cells_after = r.1 }
 
 pub returns-in-Refused : goal.returns-in-Refused
 unfolding conditions_by
 returns-in-Refused c =
     let s = c in
-    by_test (scenario_from s.args.site s.args.chemicals s.args.receptors) _ false c.if-tested.false _ _
-    (memory_stops (scenario_from s.args.site s.args.chemicals s.args.receptors) _ (verdict_stops (scenario_from s.args.site s.args.chemicals s.args.receptors) _ c.scenario_verdict-verdict.ensures _ c.in-Refused.is) _ _ _ refl _ c.clear.ensures)
+    let r = by_test (scenario_from s.args.site s.args.chemicals s.args.receptors) _ false c.if-tested.false _ _
+    (memory_stops (scenario_from s.args.site s.args.chemicals s.args.receptors) _ (verdict_stops (scenario_from s.args.site s.args.chemicals s.args.receptors) _ c.scenario_verdict-verdict.ensures _ c.in-Refused.is) _ _ _ refl _ c.clear.ensures) in
+    record { value = r.0; cells_after = r.1 }
 
 pub returns-then-unpaired_in : goal.returns-then-unpaired_in
 unfolding conditions_by
 returns-then-unpaired_in c =
     let s = c in
-    by_test (scenario_from s.args.site s.args.chemicals s.args.receptors) _ false c.if-tested.false _ _
-    (unpaired_stops (scenario_from s.args.site s.args.chemicals s.args.receptors) _ (verdict_passes (scenario_from s.args.site s.args.chemicals s.args.receptors) _ c.scenario_verdict-verdict.ensures c.in_default.is) refl (sym c.unpaired_in.ensures ∙ c.if-unpaired_in.true) _ c.clear.ensures)
+    let r = by_test (scenario_from s.args.site s.args.chemicals s.args.receptors) _ false c.if-tested.false _ _
+    (unpaired_stops (scenario_from s.args.site s.args.chemicals s.args.receptors) _ (verdict_passes (scenario_from s.args.site s.args.chemicals s.args.receptors) _ c.scenario_verdict-verdict.ensures c.in_default.is) refl (sym c.unpaired_in.ensures ∙ c.if-unpaired_in.true) _ c.clear.ensures) in
+    record { value = r.0; cells_after = r.1 }
 
 pub work_strictly-requires : goal.work_strictly-requires
 work_strictly-requires c =
@@ -60,5 +65,6 @@ pub returns : goal.returns
 unfolding conditions_by
 returns c =
     let s = c in
-    by_test (scenario_from s.args.site s.args.chemicals s.args.receptors) _ false c.if-tested.false _ _
-    (counted_strictly (scenario_from s.args.site s.args.chemicals s.args.receptors) _ (verdict_passes (scenario_from s.args.site s.args.chemicals s.args.receptors) _ c.scenario_verdict-verdict.ensures c.in_default.is) refl (sym c.unpaired_in.ensures ∙ c.if-unpaired_in.false) _ _ c.work_strictly.ensures)
+    let r = by_test (scenario_from s.args.site s.args.chemicals s.args.receptors) _ false c.if-tested.false _ _
+    (counted_strictly (scenario_from s.args.site s.args.chemicals s.args.receptors) _ (verdict_passes (scenario_from s.args.site s.args.chemicals s.args.receptors) _ c.scenario_verdict-verdict.ensures c.in_default.is) refl (sym c.unpaired_in.ensures ∙ c.if-unpaired_in.false) _ _ (c.work_strictly.ensures.value, c.work_strictly.ensures.cells_after)) in
+    record { value = r.0; cells_after = r.1 }

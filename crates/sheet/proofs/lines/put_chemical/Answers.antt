@@ -36,7 +36,7 @@ returns-in-Stopped c =
     let long : length a.source.means ≡ most_receptors = s.well_formed.1.1.1.1.1.1.0.1.1.1.1.0.1.0.1 in
     let there : a.place < length a.source.means = omega (arith, long, s.requires) in
     let told = fault_is a.site a.place a.receptor a.source _ there _ l.p _ _ s.requires.3 c.pathway_at.ensures c.figures_with-line.ensures a.capped _ _ c.fault_at-status.ensures in
-    let stop = c.in-Stopped.is in record { value = line_stops a.capped a.site a.place a.receptor a.source a l.p l.invariant.4 _ told test _ _ _ stop; cells_hold = λ e. absurd (never _ _ _ _ stop e); same_but = l.invariant.3 }
+    let stop = c.in-Stopped.is in record { value = line_stops a.capped a.site a.place a.receptor a.source a.before l.p l.invariant.4 _ told test _ _ _ stop; cells_hold = λ e. absurd (never _ _ _ _ stop e); same_but = l.invariant.3 }
 
 pub loop-p-preserved : goal.loop-p-preserved
 unfolding figured figure_for
@@ -63,7 +63,7 @@ loop-p-preserved c =
       subst (λ (x : List ℕ). CellsHold (source_columns a.site a.place a.receptor a.source) (l.p + 1) x a.base) stored
           (line_held l.cells a.base l.p u v small (source_columns a.site a.place a.receptor a.source) room h k l.invariant.2),
       subst (λ (x : List ℕ). SameBut pathways_per_chemical a.base a.cells.now x) stored (line_others l.cells a.base l.p u v pathways_per_chemical a.cells.now test l.invariant.3),
-      line_fits a.capped a.site a.place a.receptor a.source a l.p l.invariant.4 _ told c.in_default.is,
+      line_fits a.capped a.site a.place a.receptor a.source a.before l.p l.invariant.4 _ told c.in_default.is,
     )
 
 pub shape_of-cells : goal.shape_of-cells

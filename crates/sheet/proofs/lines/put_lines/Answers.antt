@@ -36,7 +36,7 @@ returns-in-Stopped c =
     let put = c.put_chemical-status in
     let same = put.ensures.same_but in
     let stop = c.in-Stopped.is in record {
-      value = chemical_stops a.capped a.site a.place a.receptor a.sources _ l.i here a put.result put.ensures.value l.invariant.4 test _ _ _ stop;
+      value = chemical_stops a.capped a.site a.place a.receptor a.sources _ l.i here a.before put.result put.ensures.value l.invariant.4 test _ _ _ stop;
       cells_hold = λ e. absurd (never _ _ _ _ stop e);
       same_below = chemical_below a.base l.i l.cells put.new.cells few same a.cells.now l.invariant.3;
       cells_empty = λ z.
@@ -66,7 +66,7 @@ loop-i-preserved c =
       put.auto.cells ∙ l.invariant.1,
       chemical_held a.base l.i l.cells put.new.cells few same columns l.invariant.2 filled,
       chemical_below a.base l.i l.cells put.new.cells few same a.cells.now l.invariant.3,
-      chemical_on a.capped a.site a.place a.receptor a.sources _ l.i here a put.result put.ensures.value l.invariant.4 read,
+      chemical_on a.capped a.site a.place a.receptor a.sources _ l.i here a.before put.result put.ensures.value l.invariant.4 read,
       λ z.
           let kept = l.invariant.5 z in (
             chemical_empty a.base l.i l.cells put.new.cells few same ((l.i + 1) * pathways_per_chemical) (omega arith) kept.0,
