@@ -13,7 +13,8 @@ pub returns-in_default : goal.returns-in_default
 unfolding read_of composite
 returns-in_default c =
     let a = c.args in
-    deck_stops composite a.deck.now a.out.now _ _ _ _ _ (ap (λ (r : Reading). r.status) c.read-reading.ensures.value) c.in_default.is c.tell.ensures
+    let r = deck_stops composite a.deck.now a.out.now _ _ _ _ _ (ap (λ (r : Reading). r.status) c.read-reading.ensures.value) c.in_default.is c.tell.ensures in
+    record { value = r.0; out_after = r.1 }
 
 pub composite_of-receptors-requires : goal.composite_of-receptors-requires
 unfolding composite
@@ -27,5 +28,6 @@ returns c =
     let a = c.args in
     let reading = c.read-reading.ensures.value in
     let none = c.in-Passed.is in
-    answers composite a.deck.now a.out.now _ reading none (composite_sounds.sound a.deck.now (deck_read composite a.deck.now a.out.now _ reading none))
-    _ c.composite_of-receptors.ensures _ _ c.write_entered.ensures.value c.write_entered.ensures.out_after
+    let r = answers composite a.deck.now a.out.now _ reading none (composite_sounds.sound a.deck.now (deck_read composite a.deck.now a.out.now _ reading none))
+      _ c.composite_of-receptors.ensures _ _ c.write_entered.ensures.value c.write_entered.ensures.out_after in
+    record { value = r.0; out_after = r.1 }

@@ -12,7 +12,8 @@ pub returns-then-counts_outside : goal.returns-then-counts_outside
 unfolding miscounted
 returns-then-counts_outside c =
     let a = c.args in
-    miscount rows_of (scenario_from a.site a.chemicals a.receptors) a.out.now (sym c.counts_outside.ensures ∙ c.if-counts_outside.true) c.refused.result c.refused.ensures
+    let r = miscount rows_of (scenario_from a.site a.chemicals a.receptors) a.out.now (sym c.counts_outside.ensures ∙ c.if-counts_outside.true) c.refused.result c.refused.ensures in
+    record { value = r.0; out_after = r.1 }
 
 pub write_from-requires : goal.write_from-requires
 unfolding miscounted
@@ -24,4 +25,5 @@ pub returns : goal.returns
 unfolding miscounted
 returns c =
     let a = c.args in
-    counted rows_of (scenario_from a.site a.chemicals a.receptors) a.out.now (sym c.counts_outside.ensures ∙ c.if-counts_outside.false) _ _ c.write_from.ensures
+    let r = counted rows_of (scenario_from a.site a.chemicals a.receptors) a.out.now (sym c.counts_outside.ensures ∙ c.if-counts_outside.false) _ _ (c.write_from.ensures.value, c.write_from.ensures.out_after) in
+    record { value = r.0; out_after = r.1 }

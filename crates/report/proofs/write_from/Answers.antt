@@ -17,13 +17,15 @@ length_of-length-requires c = c.requires
 pub returns-then-out-length : goal.returns-then-out-length
 returns-then-out-length c =
     let a = c.args in
-    too_short_lem a.tested rows_of (scenario_from a.site a.chemicals a.receptors) a.out.now (rw (length_is (scenario_from a.site a.chemicals a.receptors) _ c.length_of-length.ensures) at c.if-out-length.true) c.refused.result c.refused.ensures
+    let r = too_short_lem a.tested rows_of (scenario_from a.site a.chemicals a.receptors) a.out.now (rw (length_is (scenario_from a.site a.chemicals a.receptors) _ c.length_of-length.ensures) at c.if-out-length.true) c.refused.result c.refused.ensures in
+    record { value = r.0; out_after = r.1 }
 
 pub returns-in_default : goal.returns-in_default
 returns-in_default c =
     let a = c.args in
     let room = rw (length_is (scenario_from a.site a.chemicals a.receptors) _ c.length_of-length.ensures) at c.if-out-length.false in
-    sheet_stops a.tested rows_of (scenario_from a.site a.chemicals a.receptors) a.out.now room _ c.counts_from-worked.ensures.value _ _ _ _ c.in_default.is c.tell.ensures
+    let r = sheet_stops a.tested rows_of (scenario_from a.site a.chemicals a.receptors) a.out.now room _ c.counts_from-worked.ensures.value _ _ _ _ c.in_default.is c.tell.ensures in
+    record { value = r.0; out_after = r.1 }
 
 pub slice_bounds-write_rows-end : goal.slice_bounds-write_rows-end
 slice_bounds-write_rows-end c =
@@ -41,6 +43,7 @@ returns c =
     let long = length_is scenario _ c.length_of-length.ensures in
     let room = rw long at c.if-out-length.false in
     let worked = c.counts_from-worked in
-    written a.tested rows_of scenario a.out.now room _ worked.ensures.value c.in-Passed.is _ worked.ensures.cells_after
+    let r = written a.tested rows_of scenario a.out.now room _ worked.ensures.value c.in-Passed.is _ worked.ensures.cells_after
     (λ cells. report_in cells a.chemicals a.receptors.list a.receptors.count)
-    (λ e. let none = written_clear a.tested rows_of scenario (length a.out.now) e in sym (rows_held scenario (lines_figured scenario s.requires.0 s.requires.1 none.0) none.1)) _ _ long (past_rows scenario _ _ a.out.now c.write_rows.ensures)
+    (λ e. let none = written_clear a.tested rows_of scenario (length a.out.now) e in sym (rows_held scenario (lines_figured scenario s.requires.0 s.requires.1 none.0) none.1)) _ _ long (past_rows scenario _ _ a.out.now c.write_rows.ensures) in
+    record { value = r.0; out_after = r.1 }

@@ -10,7 +10,8 @@ use Rattle.report.proofs.write_report.Goals as goal
 pub returns-in-Refused : goal.returns-in-Refused
 returns-in-Refused c =
     let a = c.args in
-    memory_stops rows_of (scenario_from a.site a.chemicals a.receptors) a.out.now _ (verdict_stops (scenario_from a.site a.chemicals a.receptors) _ c.scenario_verdict-verdict.ensures _ c.in-Refused.is) c.refused.result c.refused.ensures
+    let r = memory_stops rows_of (scenario_from a.site a.chemicals a.receptors) a.out.now _ (verdict_stops (scenario_from a.site a.chemicals a.receptors) _ c.scenario_verdict-verdict.ensures _ c.in-Refused.is) c.refused.result c.refused.ensures in
+    record { value = r.0; out_after = r.1 }
 
 pub write_from-requires : goal.write_from-requires
 write_from-requires c =
@@ -20,4 +21,5 @@ write_from-requires c =
 pub returns : goal.returns
 returns c =
     let a = c.args in
-    memory_passes rows_of (scenario_from a.site a.chemicals a.receptors) a.out.now (verdict_passes (scenario_from a.site a.chemicals a.receptors) _ c.scenario_verdict-verdict.ensures c.in_default.is) _ _ c.write_from.ensures
+    let r = memory_passes rows_of (scenario_from a.site a.chemicals a.receptors) a.out.now (verdict_passes (scenario_from a.site a.chemicals a.receptors) _ c.scenario_verdict-verdict.ensures c.in_default.is) _ _ (c.write_from.ensures.value, c.write_from.ensures.out_after) in
+    record { value = r.0; out_after = r.1 }
