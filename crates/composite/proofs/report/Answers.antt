@@ -29,5 +29,5 @@ returns c =
     let reading = c.read-reading.ensures.value in
     let none = c.in-Passed.is in
     let r = answers composite a.deck.now a.out.now _ reading none (composite_sounds.sound a.deck.now (deck_read composite a.deck.now a.out.now _ reading none))
-      _ c.composite_of-receptors.ensures _ _ c.write_entered.ensures.value c.write_entered.ensures.out_after in
+    _ c.composite_of-receptors.ensures _ _ c.write_entered.ensures.value c.write_entered.ensures.out_after in
     record { value = r.0; out_after = r.1 }
