@@ -24,7 +24,6 @@ overflow_cast-high c = let f : SFits w32 c.in-Is.p.high.exponent = search rules 
 pub returns : goal.returns
 unfolding answer leaves numbers_of
 returns c =
-    let a = c.a-1.given in
     let p = c.in-Is.p in
     let l : SFits w32 p.low.exponent = search rules in
     let h : SFits w32 p.high.exponent = search rules in
