@@ -1,17 +1,17 @@
 -- What a value that fits its slot's rule gives the equations.
 -- Assumes nothing.
-use Prim.Native.Nat.{ℕ, zero, ◌+◌, ◌*◌, ◌-◌, ◌^◌, ◌≤◌, ◌<◌}
+use Prim.Native.Nat.{ℕ, ◌+◌, ◌*◌, ◌-◌, ◌^◌, ◌≤◌, ◌<◌}
 use native.Mathlib.Nat.{le_trans, lt_of_not-le, le_of_suc-le-suc, mul-le-mul_right, eq-zero-or-pos}
 use native.Mathlib.Omega.{arith}
 use mathlib.Core.Path.{◌≡◌, refl, sym, ap, ◌∙◌}
-use mathlib.Core.Logic.{◌⊎◌, ⊎_elim}
+use mathlib.Core.Logic.{⊎_elim}
 use mathlib.Core.Bool.{Bool, true, false, cond, not, ◌&&◌, ◌||◌, true≢false, false≢true}
 use borrow.Author.Tests.{eqb-false, eqb-true, leb-true}
 use lib.Dec.{eqb}
 use lib.IntN.{ℤ}
 use Rattle.powers.specs.Powers.{above, below}
 use Rattle.cases.specs.Ranges.{value_at_least, value_at_most, within_bounds, is_year, in_range}
-use Rattle.cases.specs.Cases.{given, is_other_year}
+use Rattle.cases.specs.Cases.{is_other_year}
 use Rattle.cases.specs.Ranged.{Spelled, Fits}
 use Rattle.slots.specs.declared.Rule.{Rule}
 use Rattle.cases.specs.declared.Value.{Value}

@@ -16,12 +16,11 @@ use Rattle.slots.specs.declared.Owner.TheVariants.{Site, Chemical, Receptor}
 use Rattle.slots.specs.declared.Sort.{Sort}
 use Rattle.kinds.specs.declared.Kind.{Kind}
 use Rattle.kinds.specs.declared.Kind.TheVariants.{Start, Line, End, Other}
-use Rattle.deck.specs.declared.lines.Seen.{Seen}
 use Rattle.deck.specs.Parts.{lines_of, line_of, kind_of}
 use Rattle.kinds.specs.Kinds.{owner_lines, is_line, is_last, is_end, may_begin, may_follow}
 use Rattle.cases.specs.Cases.{max_receptors}
 use Rattle.cases.specs.Conditions.{at, first, up_to}
-use Rattle.deck.specs.DeckConditions.{bad_length, no_end, line_conditions_after, begun_with, seen_with, seen_in, line_conditions, conditions}
+use Rattle.deck.specs.DeckConditions.{bad_length, no_end, begun_with, seen_with, seen_in, line_conditions, conditions}
 use Rattle.deck.specs.DeckCase.{chemicals_start}
 use Rattle.cases.specs.declared.Status.TheVariants.{Passed}
 use Rattle.lists.proofs.Booleans.{and-false}

@@ -5,10 +5,10 @@ use mathlib.Core.Bool.{true}
 use Prim.Native.Nat.{ℕ, zero, suc, ◌+◌, ◌*◌, ◌^◌, ◌≤◌, ◌<◌}
 use native.Mathlib.Nat.{mul-le-mul_right, le_of_mul-le-mul_right, mul-pos, one-le-pow, le_dest, add-zero, add-suc}
 use native.Mathlib.Omega.{arith}
-use lib.Dec.{lit<, lit≤}
+use lib.Dec.{lit<}
 use lib.IntN.{pos, negsuc}
 use Rattle.pair.specs.declared.Pair.{Pair}
-use Rattle.pair.specs.Fraction.{Fraction, Proper, ◌≤ᶠ◌, plus}
+use Rattle.pair.specs.Fraction.{Fraction, ◌≤ᶠ◌, plus}
 use Rattle.pair.specs.Number.{value, depth}
 use Rattle.pair.specs.Calls.{Outcome, is, refused, after, entry}
 use Rattle.pair.specs.Promises.{Operation, sums, products, quotients, call, exact_result, low_end, high_end, with_low, with_high, Beside, scaled, Near, spread}

@@ -1,7 +1,6 @@
 -- How wide a sum of terms is, from its ends alone: for x at most 64 the low ends of the terms fall so that the sum of n × the n-th is at most
 -- 64 times their sum. Where each term n is c × n parts wide, their sum is then 65 × c parts wide, and not c × 255. The ends are whole numbers
 -- of one unit. Assumes nothing.
-use mathlib.Core.Path.{◌≡◌}
 use Prim.Native.Nat.{ℕ, zero, suc, ◌+◌, ◌*◌, ◌^◌, ◌≤◌, ◌<◌}
 use native.Mathlib.Nat.{mul-le-mul_right, mul-le-mul_left, le_of_mul-le-mul_right, le_trans, one-le-pow, pow-zero, pow-suc, pow-le-pow_left}
 use native.Mathlib.Omega.{arith}

@@ -1,9 +1,9 @@
 -- The exact series: the step from one term to the next, the n-th term in one piece, and the sums. For x at most 64 a sum with its last term
 -- once more falls from the 127th term on, so that every later sum lies between a sum and that sum with its last term once more. Assumes
 -- nothing.
-use mathlib.Core.Path.{◌≡◌, refl, sym, ◌∙◌, ap}
+use mathlib.Core.Path.{◌≡◌, refl, ◌∙◌, ap}
 use Prim.Native.Nat.{ℕ, zero, suc, ◌+◌, ◌*◌, ◌^◌, ◌≤◌, ◌<◌}
-use native.Mathlib.Nat.{mul-le-mul, mul-le-mul_right, le_of_mul-le-mul_right, mul-pos, one-le-pow, pow-zero, pow-suc, pow-le-pow_left, add-suc, add-zero}
+use native.Mathlib.Nat.{mul-le-mul_right, le_of_mul-le-mul_right, mul-pos, one-le-pow, pow-zero, pow-suc, pow-le-pow_left, add-suc, add-zero}
 use native.Mathlib.Omega.{arith}
 use lib.Dec.{lit<, lit≤}
 use lib.IntN.{pos, negsuc}

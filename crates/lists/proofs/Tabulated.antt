@@ -9,7 +9,7 @@ use lib.ListN.{length, set, replicate, length-append, get_or, get_or-append, len
 use lib.Seq.{set_at, append_snoc, get_or_at, ext_get_or}
 use Rattle.lists.specs.Lists.{tabulate}
 use Rattle.lists.proofs.ListLaws.{none}
-use mathlib.Core.Logic.{◌⊎◌, ⊎_elim}
+use mathlib.Core.Logic.{⊎_elim}
 
 -- ---- an array that a loop fills
 module _ {A : Type 0} (f : ℕ → A) (none : A) (room : ℕ) where

@@ -1,5 +1,5 @@
 -- Document 02's P5 at its bound: the loss is slow at 64 and fast at the next working number above it. Assumes nothing.
-use mathlib.Core.Path.{◌≡◌, refl, sym, ◌∙◌, ap, subst}
+use mathlib.Core.Path.{◌≡◌, refl, ◌∙◌, ap, subst}
 use mathlib.Core.Bool.{Bool, true, false}
 use Prim.Native.Nat.{ℕ, ◌*◌, ◌^◌, ◌+◌, ◌≤◌, ◌<◌}
 use native.Mathlib.Nat.{one-le-pow, le_of_mul-le-mul_right, add-zero}

@@ -12,7 +12,6 @@ use lib.Signed.{mag, le_z, lt_z}
 use borrow.Author.Tests.{ltb-true, ltb-false, lt-ltb, le-ltb, leb-true}
 use Rattle.pair.specs.declared.Number.{Number}
 use Rattle.pair.specs.declared.Pair.{Pair}
-use Rattle.pair.specs.Number as N
 use Rattle.pair.specs.Number.{is_number, is_pair, in_reach, value, place, depth, rise}
 use Rattle.pair.specs.Fraction.{◌≤ᶠ◌}
 use Rattle.pair.specs.Rounding.{divided, carried, rounded, sum_end, lifted}

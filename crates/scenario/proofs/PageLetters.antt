@@ -4,7 +4,6 @@
 use mathlib.Core.Path.{◌≡◌, refl}
 use mathlib.Core.Bool.{Bool, true, not, ◌&&◌, ◌||◌}
 use Rattle.slots.specs.declared.Guidance.{Guidance}
-use Rattle.slots.specs.declared.Rule.{Rule}
 use Rattle.slots.specs.Slots.{Slot, table, same, is_in, place_in, entry_rule, owner_of, place_of, rule_of}
 use Rattle.equations.specs.declared.Pathway.{Pathway}
 use Rattle.equations.specs.declared.Effect.{Effect}

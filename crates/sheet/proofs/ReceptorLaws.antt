@@ -1,7 +1,7 @@
 -- A receptor's lines: chemical after chemical, each of six pathways, so that line q is that of chemical q / 6 and pathway q % 6; and 53 and 42 by line.
 -- Assumes nothing.
-use mathlib.Core.Path.{◌≡◌, refl, ap, ap₂, ◌∙◌}
-use mathlib.Core.Bool.{Bool, true, false}
+use mathlib.Core.Path.{◌≡◌, ap, ap₂, ◌∙◌}
+use mathlib.Core.Bool.{Bool}
 use mathlib.Core.List.{List}
 use Prim.Native.Nat.{ℕ, ◌+◌, ◌*◌, ◌/◌, ◌%◌, ◌<◌}
 use native.Mathlib.Numerals.{add-one}
@@ -26,7 +26,7 @@ use Rattle.sheet.specs.declared.Sources.{Sources}
 use Rattle.scenario.specs.Scenario.{no_receptor}
 use Rattle.lists.specs.Lists.{chained}
 use Rattle.sheet.specs.Sheet.{pathway_at}
-use Rattle.sheet.specs.Inner.{no_source, source_at, columns_of, mean_at, figures_from, figure_for, figures_worked, source_columns, columns_worked, is_large, is_broken, fault_at, faulty_line, faulty_chemical, faulty_worked, per_receptor, all_faulty}
+use Rattle.sheet.specs.Inner.{no_source, source_at, columns_of, mean_at, figures_from, figure_for, figures_worked, source_columns, columns_worked, fault_at, faulty_line, faulty_chemical, faulty_worked, per_receptor, all_faulty}
 use Rattle.cases.proofs.FirstMet.{goes_on, stops}
 
 -- A chemical's line, as it is worked from what its receptor's lines share.

@@ -37,7 +37,7 @@ use Rattle.media.proofs.Means.{ground_page, mean_media_lem}
 use Rattle.cases.specs.declared.Status.TheVariants.{Passed}
 use Rattle.cases.proofs.CaseConditionLaws.{counts_right}
 use Rattle.slots.specs.declared.Sort.TheVariants.{Ordinary}
-use Rattle.cases.specs.Conditions.{Condition, at, first}
+use Rattle.cases.specs.Conditions.{Condition, first}
 use Rattle.totals.specs.declared.Columns.{Columns}
 use Rattle.totals.specs.declared.Columns.TheVariants as Cols
 use Rattle.totals.specs.Totals.{◌added◌}

@@ -1,5 +1,5 @@
 -- Numbers as they are written in a text.
-use Rattle.std.specs.Prelude.{ℕ, zero, suc, ◌+◌, ◌-◌, ◌*◌, ◌^◌, Bool, true, false, cond, ◌&&◌, List, [], ◌∷◌, length, take, drop, pos, ◌-ℤ◌, ◌==◌, nat_le, nat_lt, slice_index}
+use Rattle.std.specs.Prelude.{ℕ, suc, ◌+◌, ◌-◌, ◌*◌, ◌^◌, Bool, true, false, cond, ◌&&◌, List, [], ◌∷◌, length, take, drop, pos, ◌-ℤ◌, ◌==◌, nat_le, nat_lt, slice_index}
 use Rattle.trials.specs.declared.text.Whole.{Whole}
 use Rattle.trials.specs.declared.text.Signed.{Signed}
 

@@ -1,6 +1,4 @@
 -- `answers::answer_text` meets its contract: the report where the number is 0, else the refusal. Assumes nothing.
-use mathlib.Core.Path.{◌∙◌}
-use borrow.Author.Rules.{rules}
 use borrow.Author.Tests.{eq-eqb, ne_eqb}
 use Rattle.answers.specs.Answers.{answer_text}
 use Rattle.answers.proofs.answer_text.Goals as goal

@@ -1,8 +1,6 @@
 -- `answers::read_input` is safe and ends: what was read stays within the room, and each turn reads at least a byte more. Assumes nothing.
 use mathlib.Core.Path.{◌≡◌}
 use Prim.Native.Nat.{◌-◌, ◌≤◌}
-use native.Mathlib.Omega.{arith}
-use borrow.Author.Rules.{rules}
 use lib.ListN.{length}
 use Rattle.answers.proofs.read_input.Given as goal
 

@@ -1,7 +1,6 @@
 -- `answers::refusal` meets its contract: three numbers written into nineteen line feeds, one after the other. Assumes nothing.
 use native.Mathlib.Omega.{arith}
 use lib.ListN.{length-append}
-use borrow.Author.Rules.{rules}
 use Rattle.answers.specs.Answers.{refusal_text}
 use Rattle.answers.proofs.ThreeNumbers.{second_long, third}
 use Rattle.answers.proofs.refusal.Goals as goal

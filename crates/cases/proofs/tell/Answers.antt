@@ -1,6 +1,5 @@
 -- `cases::tell` meets its contract: by cases of the status.
 -- Assumes nothing.
-use borrow.Author.Rules.{rules}
 use mathlib.Core.Path.{sym, ap}
 use Rattle.cases.specs.Conditions.{told_of}
 use Rattle.cases.proofs.tell.Goals as goal

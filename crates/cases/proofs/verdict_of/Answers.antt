@@ -1,6 +1,5 @@
 -- `cases::verdict_of` meets its contract: by cases of the status.
 -- Assumes nothing.
-use borrow.Author.Rules.{rules}
 use mathlib.Core.Path.{sym, ap}
 use Rattle.cases.specs.Conditions.{verdict_of}
 use Rattle.cases.proofs.verdict_of.Goals as goal

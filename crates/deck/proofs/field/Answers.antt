@@ -1,6 +1,5 @@
 -- `deck::field` meets its contract: a deck that lacks the line lacks the field.
 -- Assumes nothing.
-use borrow.Author.Rules.{rules}
 use Rattle.deck.proofs.DeckCaseLaws.{line_full, field_none, field_some}
 use Rattle.deck.proofs.field.Goals as goal
 

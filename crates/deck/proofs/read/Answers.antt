@@ -1,6 +1,5 @@
 -- `deck::read` meets its contract: the length first, then the lines in turn; the case only where no condition holds.
 -- Assumes nothing.
-use borrow.Author.Rules.{rules}
 use Rattle.deck.proofs.ReadLaws.{read_length, read_stopped, read_case, with_told}
 use Rattle.deck.proofs.Scan.{length_held}
 use mathlib.Core.Path.{refl}

@@ -1,6 +1,5 @@
 -- `deck::stopped` meets its contract: an empty deck has no site, chemical or receptor.
 -- Assumes nothing.
-use borrow.Author.Rules.{rules}
 use native.Mathlib.Omega.{arith}
 use mathlib.Core.Path.{refl, ◌∙◌}
 use Rattle.deck.proofs.DeckCaseLaws.{empty_case}

@@ -1,6 +1,5 @@
 -- The count of chemicals stays within their number. Assumes nothing.
 use Prim.Native.Nat.{◌-◌, ◌≤◌}
-use borrow.Author.Rules.{rules}
 use Rattle.deck_trials.proofs.mixed_case.Given as goal
 
 abbrev pub invariant-loop-i : goal.invariant-loop-i

@@ -1,6 +1,5 @@
 -- The count of slots stays within their number. Assumes nothing.
 use Prim.Native.Nat.{◌-◌, ◌≤◌}
-use borrow.Author.Rules.{rules}
 use Rattle.deck_trials.proofs.mixed_record.Given as goal
 
 abbrev pub invariant-loop-k : goal.invariant-loop-k

@@ -1,5 +1,4 @@
 -- The count of trials left falls. Assumes nothing.
-use borrow.Author.Rules.{rules}
 use Rattle.deck_trials.proofs.trial.Given as goal
 
 abbrev pub invariant-loop-left : goal.invariant-loop-left

@@ -1,6 +1,5 @@
 -- `kinds::begins_record` meets its contract: by the kind.
 -- Assumes nothing.
-use borrow.Author.Rules.{rules}
 use mathlib.Core.Path.{refl}
 use Rattle.kinds.proofs.begins_record.Goals as goal
 

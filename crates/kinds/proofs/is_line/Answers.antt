@@ -1,6 +1,5 @@
 -- `kinds::is_line` meets its contract: the owner's letter, then the number.
 -- Assumes nothing.
-use borrow.Author.Rules.{rules}
 use mathlib.Core.Path.{refl, sym, ◌∙◌}
 use Rattle.kinds.specs.Kinds.{is_line}
 use Rattle.kinds.proofs.KindLaws.{other_letter, same_letter_lem}

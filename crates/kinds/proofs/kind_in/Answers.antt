@@ -1,6 +1,5 @@
 -- `kinds::kind_in` meets its contract: an owner by its letter, or EN, or neither.
 -- Assumes nothing.
-use borrow.Author.Rules.{rules}
 use mathlib.Core.Path.{sym, ◌∙◌}
 use Rattle.slots.specs.declared.Owner.TheVariants.{Site, Chemical, Receptor}
 use Rattle.kinds.proofs.KindLaws.{of_owner, of_none}

@@ -1,6 +1,5 @@
 -- `kinds::may_begin` meets its contract: by the owner.
 -- Assumes nothing.
-use borrow.Author.Rules.{rules}
 use mathlib.Core.Path.{sym, ◌∙◌}
 use Rattle.kinds.specs.Kinds.{may_begin}
 use Rattle.kinds.proofs.may_begin.Goals as goal

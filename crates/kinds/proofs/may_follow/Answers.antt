@@ -1,6 +1,5 @@
 -- `kinds::may_follow` meets its contract: a record's first line, a later one, or EN.
 -- Assumes nothing.
-use borrow.Author.Rules.{rules}
 use mathlib.Core.Path.{refl}
 use Rattle.kinds.specs.Kinds.{may_follow}
 use Rattle.kinds.proofs.KindLaws.{follow_first, follow_next}

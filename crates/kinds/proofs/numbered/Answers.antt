@@ -1,6 +1,5 @@
 -- `kinds::numbered` meets its contract: a digit too low, of a line, or too high.
 -- Assumes nothing.
-use borrow.Author.Rules.{rules}
 use Rattle.kinds.proofs.KindLaws.{digit_low, digit_in, digit_high}
 use Rattle.kinds.proofs.numbered.Goals as goal
 

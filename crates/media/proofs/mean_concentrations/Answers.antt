@@ -1,7 +1,6 @@
 -- The stay decides. Assumes nothing.
 use mathlib.Core.Path.{refl}
 use Rattle.media.specs.Media.{found, mean_media}
-use borrow.Author.Rules.{rules}
 use Rattle.media.proofs.mean_concentrations.Goals as goal
 
 pub returns-in-Within : goal.returns-in-Within

@@ -1,6 +1,5 @@
 -- The exponents' reach decides. Assumes nothing.
 use mathlib.Core.Path.{sym}
-use borrow.Author.Rules.{rules}
 use Rattle.pair.specs.Calls.{is, answer, ends}
 use Rattle.pair.specs.Inner.{both_in_reach}
 use Rattle.pair.proofs.Answers.{pair}

@@ -2,11 +2,9 @@
 use mathlib.Core.Path.{◌≡◌}
 use mathlib.Core.Bool.{true}
 use Prim.Native.Nat.{◌<◌}
-use borrow.Author.Rules.{rules}
 use Rattle.pair.specs.Number.{is_pair}
 use Rattle.pair.specs.Inner.{high_by}
 use Rattle.pair.proofs.Numbers.{pair_low, pair_high}
-use Rattle.pair.proofs.Worked.{high_above_lem}
 use Rattle.pair.proofs.Steps.{operand_pair, divisor_above}
 use Rattle.pair.proofs.high_by.Goals as goal
 

@@ -1,6 +1,6 @@
 -- Where a test fails nothing is said; where all hold the law of even pairs does. Assumes nothing.
 use mathlib.Core.Path.{◌≡◌, sym, ◌∙◌}
-use mathlib.Core.Bool.{true, false, ◌&&◌, true≢false}
+use mathlib.Core.Bool.{true, ◌&&◌, true≢false}
 use native.Mathlib.Omega.{arith}
 use lib.Signed.{le_z}
 use mir.Facts.{to_z-of_z}

@@ -1,7 +1,6 @@
 -- A pair; and a divisor's low end is 0 where its significand is. Assumes nothing.
-use mathlib.Core.Path.{◌≡◌, refl, sym, ◌∙◌, ap}
-use mathlib.Core.Bool.{Bool, true, not}
-use borrow.Author.Rules.{rules}
+use mathlib.Core.Path.{◌≡◌, refl, ap}
+use mathlib.Core.Bool.{true, not}
 use Rattle.pair.specs.Number.{is_pair}
 use Rattle.pair.specs.Inner.{divides, is_operand}
 use Rattle.pair.proofs.Numbers.{pair_low}

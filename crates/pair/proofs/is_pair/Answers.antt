@@ -1,7 +1,6 @@
 -- An even pair first, then the tests one after the other. Assumes nothing.
 use mathlib.Core.Path.{sym}
 use mathlib.Core.Bool.{◌&&◌}
-use borrow.Author.Rules.{rules}
 use Rattle.pair.specs.Number.{is_number, at_most, is_pair}
 use Rattle.pair.proofs.Providing.{first_fails, second_fails, first_holds, failed, passed}
 use Rattle.pair.proofs.is_pair.Goals as goal

@@ -1,7 +1,5 @@
 -- An operand, or the step is refused; then each end is worked. Assumes nothing.
-use mathlib.Core.Path.{◌≡◌, ◌∙◌}
-use mathlib.Core.Bool.{true}
-use borrow.Author.Rules.{rules}
+use mathlib.Core.Path.{◌∙◌}
 use Rattle.pair.specs.Calls.{answer}
 use Rattle.pair.proofs.Answers.{pair}
 use Rattle.pair.proofs.Numbers.{pair_low, pair_high}

@@ -1,7 +1,6 @@
 -- The first step's ends are a pair again, from which the last step goes on. Assumes nothing.
 use mathlib.Core.Path.{◌≡◌}
 use mathlib.Core.Bool.{true}
-use borrow.Author.Rules.{rules}
 use Rattle.pair.specs.Calls.{answer, stepped}
 use Rattle.pair.specs.Inner.{is_operand}
 use Rattle.pair.proofs.Answers.{pair}

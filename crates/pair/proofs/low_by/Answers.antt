@@ -2,7 +2,6 @@
 use mathlib.Core.Path.{◌≡◌}
 use mathlib.Core.Bool.{true}
 use Prim.Native.Nat.{◌<◌}
-use borrow.Author.Rules.{rules}
 use Rattle.pair.specs.Number.{is_pair}
 use Rattle.pair.specs.Inner.{low_by}
 use Rattle.pair.proofs.Numbers.{pair_low, pair_high}

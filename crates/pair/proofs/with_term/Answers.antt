@@ -1,8 +1,6 @@
 -- The total is a pair, and the sum stays in reach, or nothing is told. Assumes nothing.
 use mathlib.Core.Path.{◌≡◌, ◌∙◌}
 use mathlib.Core.Bool.{true}
-use borrow.Author.Rules.{rules}
-use Rattle.pair.specs.declared.Pair.{Pair}
 use Rattle.pair.specs.Number.{is_pair}
 use Rattle.pair.proofs.Answers.{pair}
 use Rattle.pair.proofs.Numbers.{pair_low, pair_high}

@@ -1,5 +1,5 @@
 -- Each line ends past the place where it begins. Assumes nothing.
-use Rattle.std.proofs.Common.{◌-◌, length, rules}
+use Rattle.std.proofs.Common.{◌-◌, length}
 use Rattle.pair_trials.proofs.lines.Given as goal
 
 abbrev pub invariant-loop-at : goal.invariant-loop-at

@@ -1,6 +1,5 @@
 -- As the air is taken: pathway 1 from its shares of time, or each figure by its own way, from one exposure. Assumes nothing.
 use mathlib.Core.Path.{refl, sym, ◌∙◌}
-use borrow.Author.Rules.{rules}
 use Rattle.pathway.specs.Lines.{figured, shared, base_in, exposure_with, dose_figures_with, figures_with}
 use Rattle.pathway.proofs.FigureLaws.{in_air_lem, as_dose}
 use Rattle.pathway.proofs.figures_with.Goals as goal

@@ -1,6 +1,5 @@
 -- Each by itself. Assumes nothing.
 use mathlib.Core.Path.{refl}
-use borrow.Author.Rules.{rules}
 use Rattle.pathway.specs.Lines.{shared, habits_of}
 use Rattle.pathway.proofs.habits_of.Goals as goal
 

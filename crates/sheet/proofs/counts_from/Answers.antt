@@ -1,6 +1,5 @@
 -- `sheet::counts_from` meets its contract. Of tested values: 21, then 33, then as it is worked. Of others: 21, 22, 32 and 33, then 53, 42.
 -- Assumes nothing.
-use borrow.Author.Rules.{rules}
 use mathlib.Core.Path.{refl, sym, ◌∙◌}
 use mathlib.Core.Bool.{true, false}
 use Rattle.scenario.specs.Scenario.{scenario_from, no_guidance}

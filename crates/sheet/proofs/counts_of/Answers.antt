@@ -1,5 +1,4 @@
 -- `sheet::counts_of` meets its contract. Assumes nothing.
-use borrow.Author.Rules.{rules}
 use mathlib.Core.Path.{ap, ◌∙◌}
 use Rattle.cases.specs.Conditions.{verdict_of}
 use Rattle.sheet.proofs.counts_of.Goals as goal

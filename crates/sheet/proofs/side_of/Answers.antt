@@ -1,6 +1,5 @@
 -- Each effect has its side. Assumes nothing.
 use mathlib.Core.Path.{refl}
-use borrow.Author.Rules.{rules}
 use Rattle.sheet.specs.Counts.{side_of}
 use Rattle.sheet.proofs.side_of.Goals as goal
 

@@ -1,5 +1,4 @@
 -- `sheet::work` meets its contract: 53 by site and by chemical, then each line in turn, or every line's counts. Assumes nothing.
-use borrow.Author.Rules.{rules}
 use mathlib.Core.Path.{sym, subst, ◌∙◌}
 use Rattle.scenario.specs.Scenario.{scenario_from}
 use Rattle.lists.proofs.Tabulated.{all_alike}

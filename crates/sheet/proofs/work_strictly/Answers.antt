@@ -1,5 +1,4 @@
 -- `sheet::work_strictly` meets its contract: what is not 42 is first of all; after a 42 the lines are asked for 53 alone. Assumes nothing.
-use borrow.Author.Rules.{rules}
 use mathlib.Core.Path.{sym, ap, ◌∙◌}
 use Rattle.cases.specs.declared.Status.{Status}
 use Rattle.sheet.specs.Counts.{cells_for}

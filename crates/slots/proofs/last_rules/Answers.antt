@@ -1,5 +1,4 @@
 -- Each sort of deck has its rules of the table. Assumes nothing.
-use borrow.Author.Rules.{rules}
 use mathlib.Core.Path.{refl}
 use Rattle.slots.specs.Slots.{line_rules, rule_at, rule_in, table}
 use Rattle.slots.proofs.last_rules.Goals as goal

@@ -1,5 +1,4 @@
 -- Each line has its rules of the table. Assumes nothing.
-use borrow.Author.Rules.{rules}
 use mathlib.Core.Path.{ap, sym, ◌∙◌}
 use native.Mathlib.Omega.{arith}
 use Rattle.slots.specs.declared.Owner.TheVariants.{Receptor}

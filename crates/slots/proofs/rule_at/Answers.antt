@@ -1,5 +1,4 @@
 -- `slots::rule_at` meets its contract: a place is a field of its line. Assumes nothing.
-use borrow.Author.Rules.{rules}
 use Rattle.slots.proofs.SlotLaws.{rule_read}
 use Rattle.slots.proofs.rule_at.Goals as goal
 

@@ -1,5 +1,4 @@
 -- Each record has its own rules. Assumes nothing.
-use borrow.Author.Rules.{rules}
 use Rattle.slots.proofs.rules.Goals as goal
 
 pub returns-in-Site : goal.returns-in-Site

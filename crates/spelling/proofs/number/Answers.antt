@@ -1,6 +1,5 @@
 -- `spelling::number` meets its contract: the word, and what document 01 calls it.
 -- Assumes nothing.
-use borrow.Author.Rules.{rules}
 use mathlib.Core.Path.{ap}
 use Rattle.spelling.specs.Spelling.{held}
 use Rattle.spelling.proofs.number.Goals as goal

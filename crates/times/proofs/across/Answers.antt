@@ -1,7 +1,6 @@
 -- The lower digits are moved up to the lower word's end. Assumes nothing.
 use native.Mathlib.Omega.{arith}
 use Prim.Native.Nat.{◌-◌}
-use borrow.Author.Rules.{rules}
 use Rattle.times.proofs.TimeDigits.{ten_above, lower_most, over_words, words_below}
 use Rattle.times.proofs.across.Goals as goal
 

@@ -1,7 +1,6 @@
 -- Up to 19 the table has the power itself. Assumes nothing.
 use mathlib.Core.Path.{◌∙◌}
 use native.Mathlib.Omega.{arith}
-use borrow.Author.Rules.{rules}
 use Rattle.powers.proofs.PowerLaws.{ten_to_is}
 use Rattle.times.proofs.ten_to.Goals as goal
 

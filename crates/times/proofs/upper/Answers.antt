@@ -1,6 +1,5 @@
 -- The digits fit the upper word, or are too many for it. Assumes nothing.
 use native.Mathlib.Omega.{arith}
-use borrow.Author.Rules.{rules}
 use Rattle.times.specs.Times.{time}
 use Rattle.times.proofs.TimeDigits.{ten_above, upper_most, upper_is, upper_refused}
 use Rattle.times.proofs.upper.Goals as goal

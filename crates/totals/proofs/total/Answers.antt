@@ -1,11 +1,8 @@
 -- `totals::total` meets its contract. The loop's invariant: the sum so far and that of the numbers left are the list's sum, and
 -- the numbers left are all small enough where the list's are. Assumes nothing.
-use mathlib.Core.Path.{◌≡◌, refl}
-use Prim.Native.Nat.{◌+◌, ◌*◌, ◌-◌, ◌≤◌}
+use mathlib.Core.Path.{refl}
 use native.Mathlib.Omega.{arith}
-use borrow.Author.Rules.{rules}
-use lib.ListN.{length, drop}
-use Rattle.totals.specs.Totals.{largest_number, all_at_most, list_sum as sum_of}
+use Rattle.totals.specs.Totals.{largest_number}
 use Rattle.totals.proofs.TotalSums.{sum_from, all_past, too_many, too_large, summed}
 use Rattle.totals.proofs.total.Goals as goal
 

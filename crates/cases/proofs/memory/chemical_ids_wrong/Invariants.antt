@@ -1,18 +1,10 @@
 -- `cases::memory::chemical_ids_wrong` meets its contract: the ids so far are right.
 -- Assumes nothing.
-use borrow.Author.Rules.{rules}
-use mathlib.Core.Path.{◌≡◌, refl, sym, ap, ◌∙◌}
+use mathlib.Core.Path.{◌≡◌}
 use mathlib.Core.Bool.{false}
-use Prim.Native.Nat.{◌-◌, ◌≤◌, ◌<◌}
-use native.Mathlib.Omega.{arith}
-use lib.ListN.{length, length-map}
+use Prim.Native.Nat.{◌-◌, ◌≤◌}
 use Rattle.lists.specs.Lists.{any_of}
-use Rattle.lists.proofs.ListLaws.{read_any}
-use Rattle.sizes.specs.Sizes.{max_chemicals}
-use Rattle.cases.specs.Cases.{no_record}
-use Rattle.cases.specs.declared.Record.{Record}
-use Rattle.cases.specs.CaseConditions.{id_before, id_wrong, ids_wrong, chemical_ids}
-use Rattle.cases.proofs.CaseConditionLaws.{id_on, id_stops}
+use Rattle.cases.specs.CaseConditions.{id_before, id_wrong, chemical_ids}
 use Rattle.cases.proofs.memory.chemical_ids_wrong.Given as goal
 
 abbrev pub invariant-loop-i : goal.invariant-loop-i

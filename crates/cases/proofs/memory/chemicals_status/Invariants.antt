@@ -1,22 +1,15 @@
 -- `cases::memory::chemicals_status` meets its contract: no chemical so far stops.
 -- Assumes nothing.
-use borrow.Author.Rules.{rules}
-use mathlib.Core.List.{List}
-use mathlib.Core.Path.{◌≡◌, refl, sym, ap, ◌∙◌}
-use Prim.Native.Nat.{ℕ, ◌-◌, ◌≤◌, ◌<◌}
-use native.Mathlib.Omega.{arith}
-use lib.ListN.{length, get_or, length-map}
+use mathlib.Core.Path.{◌≡◌}
+use Prim.Native.Nat.{◌-◌, ◌≤◌}
+use lib.ListN.{get_or}
 use Rattle.lists.specs.Lists.{chained}
-use Rattle.lists.proofs.ListLaws.{read_any}
-use Rattle.sizes.specs.Sizes.{max_chemicals}
 use Rattle.slots.specs.declared.Owner.TheVariants.{Chemical}
 use Rattle.slots.specs.declared.Sort.TheVariants.{Ordinary}
 use Rattle.cases.specs.Cases.{no_record}
-use Rattle.cases.specs.Conditions.{Condition, first}
-use Rattle.cases.specs.CaseConditions.{record_conditions, chemical_conditions}
-use Rattle.cases.specs.declared.Record.{Record}
+use Rattle.cases.specs.Conditions.{first}
+use Rattle.cases.specs.CaseConditions.{record_conditions}
 use Rattle.cases.specs.declared.Status.TheVariants.{Passed}
-use Rattle.cases.proofs.FirstMet.{goes_on, stops}
 use Rattle.cases.proofs.memory.chemicals_status.Given as goal
 
 abbrev pub invariant-loop-i : goal.invariant-loop-i

@@ -1,6 +1,5 @@
 -- `cases::memory::counts_outside` meets its contract: each test in turn.
 -- Assumes nothing.
-use borrow.Author.Rules.{rules}
 use borrow.Author.Tests.{lt-ltb, le-ltb, ne_eqb}
 use mathlib.Core.Path.{refl}
 use Rattle.sizes.specs.Sizes.{max_chemicals}

@@ -1,6 +1,5 @@
 -- `cases::memory::is_missing` meets its contract: by cases of the value.
 -- Assumes nothing.
-use borrow.Author.Rules.{rules}
 use mathlib.Core.Path.{refl}
 use Rattle.cases.specs.CaseConditions.{is_missing}
 use Rattle.cases.proofs.memory.is_missing.Goals as goal

@@ -1,9 +1,6 @@
 -- `cases::memory::lacks` meets its contract: no slot so far lacks its value.
 -- Assumes nothing.
-use borrow.Author.Rules.{rules}
-use mathlib.Core.Path.{◌≡◌, refl, sym, ap, ◌∙◌}
-use mathlib.Core.Bool.{false}
-use Prim.Native.Nat.{◌-◌, ◌≤◌, ◌<◌}
+use mathlib.Core.Path.{◌≡◌, refl, sym}
 use native.Mathlib.Omega.{arith}
 use Rattle.lists.specs.Lists.{any_of}
 use Rattle.sizes.specs.Sizes.{slots_per_record}

@@ -1,16 +1,13 @@
 -- `cases::memory::lacks` meets its contract: no slot so far lacks its value.
 -- Assumes nothing.
-use borrow.Author.Rules.{rules}
-use mathlib.Core.Path.{◌≡◌, refl, sym, ap, ◌∙◌}
+use mathlib.Core.Path.{◌≡◌}
 use mathlib.Core.Bool.{false}
-use Prim.Native.Nat.{◌-◌, ◌≤◌, ◌<◌}
-use native.Mathlib.Omega.{arith}
+use Prim.Native.Nat.{◌-◌, ◌≤◌}
 use Rattle.lists.specs.Lists.{any_of}
 use Rattle.sizes.specs.Sizes.{slots_per_record}
 use Rattle.slots.specs.Slots.{rule_at}
 use Rattle.cases.specs.Cases.{value_at}
-use Rattle.cases.specs.CaseConditions.{is_missing, lacks}
-use Rattle.cases.proofs.CaseConditionLaws.{any_stops, any_on}
+use Rattle.cases.specs.CaseConditions.{is_missing}
 use Rattle.cases.proofs.memory.lacks.Given as goal
 
 abbrev pub invariant-loop-k : goal.invariant-loop-k

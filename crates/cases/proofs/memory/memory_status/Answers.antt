@@ -1,6 +1,5 @@
 -- `cases::memory::memory_status` meets its contract: each part of the list in turn.
 -- Assumes nothing.
-use borrow.Author.Rules.{rules}
 use mathlib.Core.Path.{sym, ◌∙◌}
 use Rattle.cases.specs.CaseConditions.{some_id_wrong}
 use Rattle.cases.proofs.CaseConditionLaws.{counts_inside, counts_stop, ids_stop, site_stops, site_passes}

@@ -1,5 +1,4 @@
 -- `cases::memory::memory_verdict` meets its contract. Assumes nothing.
-use borrow.Author.Rules.{rules}
 use mathlib.Core.Path.{ap, ◌∙◌}
 use Rattle.cases.specs.Conditions.{verdict_of}
 use Rattle.cases.proofs.memory.memory_verdict.Goals as goal

@@ -1,20 +1,15 @@
 -- `cases::memory::record_status` meets its contract: no slot so far stops.
 -- Assumes nothing.
-use borrow.Author.Rules.{rules}
-use mathlib.Core.Path.{◌≡◌, refl, sym}
-use mathlib.Core.List.{List}
-use Prim.Native.Nat.{ℕ, ◌-◌, ◌≤◌}
-use native.Mathlib.Omega.{arith}
+use mathlib.Core.Path.{◌≡◌}
+use Prim.Native.Nat.{◌-◌, ◌≤◌}
 use Rattle.lists.specs.Lists.{chained}
 use Rattle.sizes.specs.Sizes.{slots_per_record}
 use Rattle.slots.specs.Slots.{rule_at}
 use Rattle.slots.specs.declared.Sort.TheVariants.{Ordinary}
 use Rattle.cases.specs.Cases.{value_at}
-use Rattle.cases.specs.Conditions.{Condition, first}
-use Rattle.cases.specs.CaseConditions.{slot_conditions, record_conditions}
+use Rattle.cases.specs.Conditions.{first}
+use Rattle.cases.specs.CaseConditions.{slot_conditions}
 use Rattle.cases.specs.declared.Status.TheVariants.{Passed}
-use Rattle.cases.proofs.FirstMet.{goes_on, stops}
-use Rattle.cases.proofs.CaseConditionLaws.{slot_under}
 use Rattle.cases.proofs.memory.record_status.Given as goal
 
 abbrev pub invariant-loop-k : goal.invariant-loop-k

@@ -1,6 +1,5 @@
 -- `cases::memory::slot_lacks` meets its contract: by cases of the value.
 -- Assumes nothing.
-use borrow.Author.Rules.{rules}
 use Rattle.cases.proofs.CaseConditionLaws.{given_there, missing_under}
 use Rattle.cases.proofs.memory.slot_lacks.Goals as goal
 

@@ -1,6 +1,5 @@
 -- `cases::memory::some_id_wrong` meets its contract: each test in turn.
 -- Assumes nothing.
-use borrow.Author.Rules.{rules}
 use borrow.Author.Tests.{lt-ltb, le-ltb, ne_eqb}
 use mathlib.Core.Path.{refl, sym, ◌∙◌}
 use Rattle.cases.specs.CaseConditions.{most_id, outside}

@@ -1,6 +1,5 @@
 -- `cases::ranges::at_least` meets its contract: one law for each way out.
 -- Assumes nothing.
-use borrow.Author.Rules.{rules}
 use native.Mathlib.Omega.{arith}
 use mathlib.Core.Path.{ap, ◌∙◌}
 use Prim.Native.Nat.{ℕ, ◌^◌, ◌-◌}

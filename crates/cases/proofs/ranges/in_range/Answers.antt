@@ -1,6 +1,5 @@
 -- `cases::ranges::in_range` meets its contract: by the tests, first of the bounds and then of the rule.
 -- Assumes nothing.
-use borrow.Author.Rules.{rules}
 use borrow.Author.Tests.{not-true, not-false}
 use mathlib.Core.Path.{ap, sym, ◌∙◌}
 use mir.Facts.{to_z-of_z}

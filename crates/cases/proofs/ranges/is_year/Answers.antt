@@ -1,6 +1,5 @@
 -- `cases::ranges::is_year` meets its contract: by the test of the first year.
 -- Assumes nothing.
-use borrow.Author.Rules.{rules}
 use mathlib.Core.Path.{ap, sym, ◌∙◌}
 use mir.Facts.{to_z-of_z}
 use Rattle.cases.specs.Ranges.{is_year_of, is_year}

@@ -1,6 +1,5 @@
 -- Up to 19 the table has the power itself. Assumes nothing.
 use mathlib.Core.Path.{◌∙◌}
-use borrow.Author.Rules.{rules}
 use Rattle.powers.proofs.PowerLaws.{ten_to_is}
 use Rattle.cases.proofs.ranges.ten_to.Goals as goal
 

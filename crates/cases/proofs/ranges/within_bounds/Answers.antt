@@ -1,6 +1,5 @@
 -- `cases::ranges::within_bounds` meets its contract: one law for each way out.
 -- Assumes nothing.
-use borrow.Author.Rules.{rules}
 use mathlib.Core.Path.{ap, ◌∙◌}
 use mir.Facts.{to_z-of_z}
 use Rattle.cases.specs.Ranges.{value_at_least, value_at_most}

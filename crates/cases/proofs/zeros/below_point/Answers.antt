@@ -1,6 +1,5 @@
 -- `cases::zeros::below_point` meets its contract: the number is small, so the difference fits.
 -- Assumes nothing.
-use borrow.Author.Rules.{rules}
 use native.Mathlib.Omega.{arith}
 use Rattle.powers.proofs.Signed.{difference_fits, difference_is}
 use Rattle.cases.proofs.zeros.below_point.Goals as goal

@@ -1,10 +1,6 @@
 -- `cases::zeros::zeros_at_end` meets its contract: so many zeros were dropped, and the rest has the others.
 -- Assumes nothing.
-use borrow.Author.Rules.{rules}
-use mathlib.Core.Path.{◌≡◌, refl}
-use Prim.Native.Nat.{◌+◌, ◌-◌, ◌≤◌}
 use native.Mathlib.Omega.{arith}
-use Rattle.cases.specs.Cases.{zeros_at_end}
 use Rattle.cases.proofs.ZeroLaws.{zero_start, zero_more, zero_less, zero_last}
 use Rattle.cases.proofs.zeros.zeros_at_end.Goals as goal
 

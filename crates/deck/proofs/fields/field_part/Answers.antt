@@ -1,6 +1,5 @@
 -- `deck::fields::field_part` meets its contract: the tests that led to each way out say which field it is.
 -- Assumes nothing.
-use borrow.Author.Rules.{rules}
 use native.Mathlib.Omega.{arith}
 use Prim.Native.Nat.{ℕ, ◌+◌, ◌*◌, ◌-◌}
 use mathlib.Core.Path.{ap, sym, ◌∙◌}

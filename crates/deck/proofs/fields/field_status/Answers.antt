@@ -1,6 +1,5 @@
 -- `deck::fields::field_status` meets its contract: by cases of what the field holds.
 -- Assumes nothing.
-use borrow.Author.Rules.{rules}
 use mir.Facts.{to_z-of_z}
 use Rattle.deck.proofs.FieldLaws.{field_other, field_missing, field_blank, field_dash, field_no_dash, field_number, field_later}
 use mir.Syntax.{w32}

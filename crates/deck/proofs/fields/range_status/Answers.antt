@@ -1,6 +1,5 @@
 -- `deck::fields::range_status` meets its contract: by the test.
 -- Assumes nothing.
-use borrow.Author.Rules.{rules}
 use mathlib.Core.Path.{◌∙◌, sym, ap}
 use mir.Facts.{to_z-of_z}
 use Rattle.cases.specs.Ranges.{in_range}

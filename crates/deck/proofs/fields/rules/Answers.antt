@@ -1,6 +1,5 @@
 -- `deck::fields::rules` meets its contract: a record's line, or one of no record.
 -- Assumes nothing.
-use borrow.Author.Rules.{rules}
 use mathlib.Core.Path.{refl}
 use Rattle.deck.proofs.fields.rules.Goals as goal
 

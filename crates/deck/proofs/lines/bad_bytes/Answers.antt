@@ -1,7 +1,6 @@
 -- `deck::lines::bad_bytes` meets its contract: the columns first, then the line feed.
 -- Assumes nothing.
 use Rattle.deck.proofs.LineConditionLaws.{bytes_count, bytes_feed}
-use borrow.Author.Rules.{rules}
 use Rattle.deck.proofs.lines.bad_bytes.Goals as goal
 
 pub returns-then-printable-ne-COLUMNS : goal.returns-then-printable-ne-COLUMNS

@@ -1,6 +1,5 @@
 -- `deck::lines::bad_id` meets its contract. EN, or any other kind.
 -- Assumes nothing.
-use borrow.Author.Rules.{rules}
 use Rattle.deck.proofs.LineConditionLaws.{end_blank, other_id}
 use Rattle.deck.proofs.lines.bad_id.Goals as goal
 

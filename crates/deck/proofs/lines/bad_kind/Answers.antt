@@ -1,6 +1,5 @@
 -- `deck::lines::bad_kind` meets its contract: one law for each way out.
 -- Assumes nothing.
-use borrow.Author.Rules.{rules}
 use Rattle.deck.proofs.LineConditionLaws.{kind_out, many_chemicals, many_receptors, kind_right}
 use Rattle.deck.proofs.lines.bad_kind.Goals as goal
 

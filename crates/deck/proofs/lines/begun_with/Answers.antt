@@ -1,6 +1,5 @@
 -- `deck::lines::begun_with` meets its contract: a first line of the owner, or another line.
 -- Assumes nothing.
-use borrow.Author.Rules.{rules}
 use mathlib.Core.Path.{sym, ◌∙◌}
 use native.Mathlib.Omega.{arith}
 use Rattle.deck.specs.DeckConditions.{begun_with}

@@ -1,6 +1,5 @@
 -- `deck::lines::id_of` meets its contract: columns 3-8.
 -- Assumes nothing.
-use borrow.Author.Rules.{rules}
 use Rattle.deck.specs.DeckConditions.{id_of}
 use Rattle.deck.proofs.lines.id_of.Goals as goal
 

@@ -1,6 +1,5 @@
 -- `deck::lines::kind_of` meets its contract: columns 1-2.
 -- Assumes nothing.
-use borrow.Author.Rules.{rules}
 use Rattle.deck.specs.Parts.{kind_of}
 use Rattle.deck.proofs.lines.kind_of.Goals as goal
 

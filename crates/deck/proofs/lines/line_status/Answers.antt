@@ -1,6 +1,5 @@
 -- `deck::lines::line_status` meets its contract: the conditions in their order.
 -- Assumes nothing.
-use borrow.Author.Rules.{rules}
 use Rattle.deck.proofs.LineConditionLaws.{line_bytes, line_kind, line_id, line_fields}
 use Rattle.cases.proofs.FirstMet.{never}
 use mathlib.Core.Path.{refl}

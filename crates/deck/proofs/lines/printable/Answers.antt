@@ -1,8 +1,7 @@
 -- `deck::lines::printable` meets its contract. The invariant: as many print of the bytes passed.
 -- Assumes nothing.
-use Prim.Native.Nat.{◌+◌, ◌-◌, ◌≤◌}
+use Prim.Native.Nat.{◌+◌}
 use native.Mathlib.Omega.{arith}
-use borrow.Author.Rules.{rules}
 use mathlib.Core.Path.{◌≡◌}
 use Rattle.deck.specs.Inner.{Printable}
 use Rattle.deck.specs.Parts.{columns}

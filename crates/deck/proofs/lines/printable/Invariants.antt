@@ -1,12 +1,8 @@
 -- `deck::lines::printable` meets its contract. The invariant: as many print of the bytes passed.
 -- Assumes nothing.
-use Prim.Native.Nat.{◌+◌, ◌-◌, ◌≤◌}
-use native.Mathlib.Omega.{arith}
-use borrow.Author.Rules.{rules}
-use mathlib.Core.Path.{◌≡◌}
+use Prim.Native.Nat.{◌-◌, ◌≤◌}
 use Rattle.deck.specs.Inner.{Printable}
 use Rattle.deck.specs.Parts.{columns}
-use Rattle.deck.proofs.LineConditionLaws.{printable_none, printable_more}
 use Rattle.deck.proofs.lines.printable.Given as goal
 
 abbrev pub invariant-loop-i : goal.invariant-loop-i

@@ -1,6 +1,5 @@
 -- `deck::lines::wrong_id` meets its contract: one law for each way out.
 -- Assumes nothing.
-use borrow.Author.Rules.{rules}
 use Rattle.deck.proofs.LineConditionLaws.{id_none, id_rises, id_first, id_same}
 use Rattle.deck.proofs.lines.wrong_id.Goals as goal
 

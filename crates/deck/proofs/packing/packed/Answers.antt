@@ -1,6 +1,5 @@
 -- `deck::packing::packed` meets its contract: by cases of the word.
 -- Assumes nothing.
-use borrow.Author.Rules.{rules}
 use mathlib.Core.Path.{sym, ap, ◌∙◌, subst}
 use mir.Facts.{to_z-of_z}
 use Rattle.deck.specs.Inner.{Small, packed_number, packed_of}

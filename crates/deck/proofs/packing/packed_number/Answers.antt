@@ -1,6 +1,5 @@
 -- `deck::packing::packed_number` meets its contract: the power lies from -111 to 99.
 -- Assumes nothing.
-use borrow.Author.Rules.{rules}
 use native.Mathlib.Omega.{arith}
 use mathlib.Core.Path.{ap, ◌∙◌}
 use mir.Facts.{to_z-of_z}

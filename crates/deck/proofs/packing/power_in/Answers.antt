@@ -1,6 +1,5 @@
 -- `deck::packing::power_in` meets its contract: both numbers are small, so the difference fits.
 -- Assumes nothing.
-use borrow.Author.Rules.{rules}
 use Prim.Native.Nat.{◌%◌}
 use native.Mathlib.Omega.{arith}
 use Rattle.powers.proofs.Signed.{difference_fits, difference_is}

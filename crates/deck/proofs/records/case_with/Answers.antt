@@ -1,6 +1,5 @@
 -- `deck::records::case_with` meets its contract: the site, the chemicals and the receptors, each by its own contract.
 -- Assumes nothing.
-use borrow.Author.Rules.{rules}
 use Rattle.deck.proofs.DeckCaseLaws.{case_is}
 use Rattle.deck.proofs.records.case_with.Goals as goal
 

@@ -5,11 +5,9 @@ use Rattle.sizes.specs.Sizes.{record_lines, max_chemicals}
 use Rattle.deck.proofs.DeckCaseLaws.{records_are}
 use native.Mathlib.Omega.{arith}
 use borrow.Author.Rules.{rules}
-use mathlib.Core.Path.{◌≡◌, ap, ◌∙◌}
-use Prim.Native.Nat.{◌-◌, ◌≤◌, ◌+◌, ◌*◌}
-use mathlib.Core.List.{◌++◌}
+use mathlib.Core.Path.{ap, ◌∙◌}
+use Prim.Native.Nat.{◌+◌, ◌*◌}
 use lib.ListN.{replicate}
-use Rattle.lists.specs.Lists.{tabulate}
 use Rattle.deck.specs.DeckCase.{chemicals_start, record_of}
 use Rattle.cases.specs.Cases.{no_record}
 use Rattle.deck.proofs.records.chemicals.Goals as goal

@@ -1,11 +1,7 @@
 -- `deck::records::chemicals` meets its contract. The invariant: the records so far, then empty ones.
 -- Assumes nothing.
-use Rattle.lists.proofs.Tabulated.{filled_start, filled_more}
 use Rattle.sizes.specs.Sizes.{record_lines, max_chemicals}
-use Rattle.deck.proofs.DeckCaseLaws.{records_are}
-use native.Mathlib.Omega.{arith}
-use borrow.Author.Rules.{rules}
-use mathlib.Core.Path.{◌≡◌, ap, ◌∙◌}
+use mathlib.Core.Path.{◌≡◌}
 use Prim.Native.Nat.{◌-◌, ◌≤◌, ◌+◌, ◌*◌}
 use mathlib.Core.List.{◌++◌}
 use lib.ListN.{replicate}

@@ -1,6 +1,5 @@
 -- `deck::records::id_at` meets its contract: a line that the deck lacks has no id.
 -- Assumes nothing.
-use borrow.Author.Rules.{rules}
 use Rattle.deck.proofs.DeckCaseLaws.{line_full, id_lacking}
 use mathlib.Core.Path.{ap, ◌∙◌}
 use Rattle.deck.specs.DeckConditions.{id_of}

@@ -5,11 +5,9 @@ use Rattle.sizes.specs.Sizes.{record_lines, most_stages}
 use Rattle.deck.proofs.DeckCaseLaws.{records_are}
 use native.Mathlib.Omega.{arith}
 use borrow.Author.Rules.{rules}
-use mathlib.Core.Path.{◌≡◌, ap, ◌∙◌}
-use Prim.Native.Nat.{◌-◌, ◌≤◌, ◌+◌, ◌*◌}
-use mathlib.Core.List.{◌++◌}
+use mathlib.Core.Path.{ap, ◌∙◌}
+use Prim.Native.Nat.{◌+◌, ◌*◌}
 use lib.ListN.{replicate}
-use Rattle.lists.specs.Lists.{tabulate}
 use Rattle.deck.specs.DeckCase.{record_of}
 use Rattle.cases.specs.Cases.{no_record}
 use Rattle.deck.proofs.records.receptors.Goals as goal

@@ -1,13 +1,8 @@
 -- `deck::records::record_at` meets its contract. The invariant: the slots so far, then empty ones.
 -- Assumes nothing.
 use Rattle.sizes.specs.Sizes.{fields_per_line, slots_per_record}
-use Rattle.deck.proofs.Packed.{kept_length, slot_kept}
-use Rattle.lists.proofs.Tabulated.{filled_start, filled_more}
-use Rattle.deck.proofs.DeckCaseLaws.{record_is}
-use native.Mathlib.Omega.{arith}
-use borrow.Author.Rules.{rules}
 use mathlib.Core.Path.{◌≡◌}
-use Prim.Native.Nat.{◌-◌, ◌≤◌, ◌<◌, ◌*◌}
+use Prim.Native.Nat.{◌-◌, ◌≤◌, ◌*◌}
 use mathlib.Core.List.{◌++◌}
 use lib.ListN.{replicate}
 use Rattle.lists.specs.Lists.{tabulate}

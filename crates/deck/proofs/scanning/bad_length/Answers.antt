@@ -1,6 +1,5 @@
 -- `deck::scanning::bad_length` meets its contract: one law for each way out.
 -- Assumes nothing.
-use borrow.Author.Rules.{rules}
 use Rattle.deck.proofs.Scan.{length_none, length_long, length_rest}
 use Rattle.deck.proofs.scanning.bad_length.Goals as goal
 

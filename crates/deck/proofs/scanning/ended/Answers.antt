@@ -1,6 +1,5 @@
 -- `deck::scanning::ended` meets its contract: by the kind of the last line.
 -- Assumes nothing.
-use borrow.Author.Rules.{rules}
 use mathlib.Core.Path.{refl, sym, ◌∙◌}
 use Rattle.deck.proofs.scanning.ended.Goals as goal
 

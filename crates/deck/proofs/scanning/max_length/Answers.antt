@@ -1,6 +1,5 @@
 -- `deck::scanning::max_length` meets its contract: by the sort of the deck.
 -- Assumes nothing.
-use borrow.Author.Rules.{rules}
 use mathlib.Core.Path.{refl}
 use Rattle.deck.proofs.scanning.max_length.Goals as goal
 

@@ -1,15 +1,9 @@
 -- `deck::scanning::scan_lines` meets its contract. The invariant: what is carried is what the lines before say, and none of their conditions holds.
 -- Assumes nothing.
-use Rattle.deck.proofs.Packed.{Kept, kept_none, kept_room, kept_more, kept_all}
-use Rattle.deck.proofs.Scan.{all, in_room, Scanned, scanned_start, scan_out, scan_on, scan_end, scan_counts, line_whole}
-use Rattle.cases.proofs.FirstMet.{never}
-use native.Mathlib.Omega.{arith}
-use mathlib.Core.Path.{◌≡◌, sym, ap, ◌∙◌}
-use borrow.Rule.Slice.PartMut.{mid_len, same_len_mid}
-use borrow.Author.Rules.{rules}
-use Prim.Native.Nat.{◌+◌, ◌*◌, ◌-◌, ◌/◌, ◌≤◌}
+use Rattle.deck.proofs.Packed.{Kept}
+use Rattle.deck.proofs.Scan.{Scanned}
+use Prim.Native.Nat.{◌-◌, ◌/◌}
 use lib.ListN.{length}
-use Rattle.sizes.specs.Sizes.{fields_per_line}
 use Rattle.deck.specs.Parts.{deck_line_width}
 use Rattle.deck.proofs.scanning.scan_lines.Given as goal
 

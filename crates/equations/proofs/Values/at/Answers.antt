@@ -1,6 +1,5 @@
 -- The value, passed on. Assumes nothing.
 use mathlib.Core.Path.{◌∙◌, ap}
-use borrow.Author.Rules.{rules}
 use Rattle.pair.specs.declared.Pair.{Pair}
 use Rattle.pair.specs.Calls.{is}
 use Rattle.equations.proofs.Values.at.Goals as goal

@@ -1,8 +1,7 @@
 -- A place of the record, or 1. Assumes nothing.
-use mathlib.Core.Path.{◌≡◌, sym, ◌∙◌}
+use mathlib.Core.Path.{◌≡◌, sym}
 use native.Mathlib.Omega.{arith}
-use borrow.Author.Rules.{rules}
-use lib.ListN.{length, get_or-eq_default, length-map}
+use lib.ListN.{length, get_or-eq_default}
 use Rattle.sizes.specs.Sizes.{slots_per_record}
 use Rattle.pair.specs.Number.{one}
 use Rattle.pair.specs.Calls.{one_pair}

@@ -2,7 +2,6 @@
 use mathlib.Core.Path.{refl}
 use Rattle.pair.specs.Calls.{answer}
 use Rattle.media.specs.Media.{found, four}
-use borrow.Author.Rules.{rules}
 use Rattle.media.proofs.compartments.all.Goals as goal
 
 pub returns-in_default : goal.returns-in_default

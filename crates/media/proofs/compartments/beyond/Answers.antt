@@ -1,7 +1,6 @@
 -- The ground's air, and produce in the mean soil. Assumes nothing.
 use mathlib.Core.Path.{refl}
 use Rattle.media.specs.Media.{mean_media}
-use borrow.Author.Rules.{rules}
 use Rattle.media.proofs.compartments.beyond.Goals as goal
 
 pub returns : goal.returns

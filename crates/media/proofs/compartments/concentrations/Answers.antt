@@ -7,7 +7,6 @@ use Rattle.equations.specs.Page.{C}
 use Rattle.equations.specs.Readings.{inputs, by_owner, value_in, no_values}
 use Rattle.media.specs.Media.{media_inputs, of_slots, of_media, media_of}
 use Rattle.media.proofs.Soils.{highest_is, produce_is}
-use borrow.Author.Rules.{rules}
 use Rattle.media.proofs.compartments.concentrations.Goals as goal
 
 pub returns : goal.returns

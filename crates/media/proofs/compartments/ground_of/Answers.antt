@@ -8,7 +8,6 @@ use Rattle.equations.specs.Page.{x, C, mean}
 use Rattle.equations.specs.Readings.{letters, plain, plain_with, inputs, by_owner, value_in, no_values}
 use Rattle.media.specs.Media.{media_inputs, of_slots, of_media, ground_of}
 use Rattle.media.proofs.Soils.{loss_is, highest_is, within_is, gathered_is, produce_is}
-use borrow.Author.Rules.{rules}
 use Rattle.media.proofs.compartments.ground_of.Goals as goal
 
 pub returns : goal.returns

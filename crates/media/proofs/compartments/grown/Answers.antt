@@ -5,7 +5,6 @@ use Rattle.equations.specs.Formula.{read, pairs}
 use Rattle.equations.specs.Readings.{plain, plain_with, letters, inputs, by_owner, value_in}
 use Rattle.equations.specs.Page.{above_ground, below_ground}
 use Rattle.media.specs.Media.{grown_in}
-use borrow.Author.Rules.{rules}
 use Rattle.media.proofs.compartments.grown.Goals as goal
 
 pub returns : goal.returns

@@ -5,7 +5,6 @@ use Rattle.slots.specs.Slots.{same}
 use Rattle.equations.specs.Formula.{read, pairs}
 use Rattle.equations.specs.Readings.{letters, plain_with, as_answers}
 use Rattle.media.specs.Media.{held_in, soil_beyond}
-use borrow.Author.Rules.{rules}
 use Rattle.media.proofs.compartments.soil_beyond.Goals as goal
 
 pub returns : goal.returns

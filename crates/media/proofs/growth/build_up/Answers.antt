@@ -2,7 +2,6 @@
 use mathlib.Core.Path.{refl}
 use Rattle.equations.specs.Formula.{pairs}
 use Rattle.equations.specs.Page.{g_with}
-use borrow.Author.Rules.{rules}
 use Rattle.media.proofs.growth.build_up.Goals as goal
 
 pub returns : goal.returns

@@ -2,7 +2,6 @@
 use mathlib.Core.Path.{refl}
 use Rattle.equations.specs.Page.{growth}
 use Rattle.equations.specs.Readings.{pair_growing}
-use borrow.Author.Rules.{rules}
 use Rattle.media.proofs.growth.fast_build_up.Goals as goal
 
 pub returns : goal.returns

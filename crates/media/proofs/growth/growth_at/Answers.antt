@@ -6,7 +6,6 @@ use Rattle.equations.specs.Page.{growth}
 use Rattle.equations.specs.Readings.{pair_growing}
 use Rattle.media.specs.Inner.{paced}
 use Rattle.media.proofs.Growing.{growth_tested, growth_refused}
-use borrow.Author.Rules.{rules}
 use Rattle.media.proofs.growth.growth_at.Goals as goal
 
 pub returns-in_default : goal.returns-in_default

@@ -8,7 +8,6 @@ use Rattle.equations.specs.Ranges.{sixty_four}
 use Rattle.equations.specs.Readings.{pace_if, pace_of}
 use Rattle.media.specs.Inner.{paced}
 use Rattle.media.proofs.Passing.{never_refused, as_written}
-use borrow.Author.Rules.{rules}
 use Rattle.media.proofs.growth.is_fast.Goals as goal
 
 pub returns-in_default : goal.returns-in_default

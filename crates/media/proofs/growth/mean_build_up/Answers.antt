@@ -1,7 +1,6 @@
 -- The operations in the formula's order. Assumes nothing.
 use mathlib.Core.Path.{refl}
 use Rattle.equations.specs.Formula.{pairs}
-use borrow.Author.Rules.{rules}
 use Rattle.media.proofs.growth.mean_build_up.Goals as goal
 
 pub returns : goal.returns

@@ -1,5 +1,5 @@
 -- The pair of 0 and the entry's end, which is checked. Assumes nothing.
-use mathlib.Core.Path.{refl, sym, ◌∙◌, ap}
+use mathlib.Core.Path.{sym, ◌∙◌, ap}
 use lib.Dec.{lit≤}
 use lib.IntN.{negsuc}
 use Rattle.pair.specs.declared.Pair.{Pair}
@@ -9,7 +9,6 @@ use Rattle.pair.proofs.Promises.{checked_is}
 use Rattle.equations.specs.Ranges.{next_to_nothing}
 use Rattle.equations.proofs.FastLaws.{next_pair}
 use Rattle.media.proofs.Passing.{never_refused, as_written}
-use borrow.Author.Rules.{rules}
 use Rattle.media.proofs.growth.next_to_nothing.Goals as goal
 
 pub returns-in_default : goal.returns-in_default

@@ -5,7 +5,6 @@ use Rattle.equations.specs.Formula.{read, pairs}
 use Rattle.equations.specs.Page.{u, ksr, ksl, k}
 use Rattle.equations.specs.Readings.{plain, plain_with, letters, inputs, by_owner, value_in}
 use Rattle.media.specs.Media.{of_slots}
-use borrow.Author.Rules.{rules}
 use Rattle.media.proofs.loss.loss_rate.Goals as goal
 
 pub erosion-requires : goal.erosion-requires

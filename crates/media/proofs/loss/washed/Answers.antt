@@ -1,6 +1,5 @@
 -- Two quotients. Assumes nothing.
 use mathlib.Core.Path.{refl}
-use borrow.Author.Rules.{rules}
 use Rattle.media.proofs.loss.washed.Goals as goal
 
 pub returns : goal.returns

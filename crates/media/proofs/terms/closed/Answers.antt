@@ -1,6 +1,5 @@
 -- The sum with the last term from 0 on. Assumes nothing.
 use mathlib.Core.Path.{◌∙◌}
-use borrow.Author.Rules.{rules}
 use Rattle.pair.specs.Number.{zero}
 use Rattle.pair.specs.Calls.{after, after_one}
 use Rattle.equations.specs.Series.{from_zero}

@@ -1,7 +1,6 @@
 -- What the comparison tells. Assumes nothing.
-use mathlib.Core.Path.{◌≡◌, refl, sym}
+use mathlib.Core.Path.{refl, sym}
 use mathlib.Core.Bool.{true≢false}
-use borrow.Author.Rules.{rules}
 use Rattle.pair.specs.Calls.{order}
 use Rattle.media.proofs.terms.is_at_most.Goals as goal
 

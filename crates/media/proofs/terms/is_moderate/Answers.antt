@@ -4,12 +4,11 @@ use mathlib.Core.Bool.{true, true≢false}
 use mathlib.Core.Logic.{inl, inr}
 use lib.Dec.{lit≤}
 use lib.IntN.{negsuc}
-use borrow.Author.Rules.{rules}
 use borrow.Author.Tests.{not-false}
 use Rattle.pair.specs.declared.Pair.{Pair}
 use Rattle.pair.specs.Calls.{is, answer, compared}
 use Rattle.pair.proofs.Promises.{checked_pair, zero_is}
-use Rattle.media.specs.Inner.{least, Moderate}
+use Rattle.media.specs.Inner.{least}
 use Rattle.media.proofs.Passing.{as_written}
 use Rattle.media.proofs.terms.is_moderate.Goals as goal
 

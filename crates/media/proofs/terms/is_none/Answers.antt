@@ -1,7 +1,6 @@
 -- A pair whose high end is 0. Assumes nothing.
-use mathlib.Core.Path.{◌≡◌, sym, ◌∙◌, ap}
+use mathlib.Core.Path.{sym, ◌∙◌, ap}
 use mathlib.Core.Bool.{true≢false}
-use borrow.Author.Rules.{rules}
 use Rattle.pair.specs.Calls.{answer}
 use Rattle.pair.proofs.Promises.{checked_pair, pair_none_is}
 use Rattle.media.proofs.terms.is_none.Goals as goal

@@ -1,16 +1,14 @@
 -- The loop keeps ψ's term and the total up to it, and ends early where every later term is absorbed. Assumes nothing.
 use mathlib.Core.Path.{◌≡◌, sym, ◌∙◌, ap}
-use Prim.Native.Nat.{ℕ, ◌+◌, ◌-◌}
+use Prim.Native.Nat.{ℕ}
 use native.Mathlib.Omega.{arith}
-use lib.IntN.{pos}
-use borrow.Author.Rules.{rules}
 use borrow.Author.Tests.{not-true, not-false}
 use Rattle.pair.specs.declared.Pair.{Pair}
 use Rattle.pair.specs.declared.Partial.{Partial}
-use Rattle.pair.specs.Calls.{Outcome, is, answer, after, entry, sum, partial}
+use Rattle.pair.specs.Calls.{Outcome, is, answer, after, sum, partial}
 use Rattle.equations.specs.Formula.{pairs}
 use Rattle.equations.specs.Series.{psi, first, step}
-use Rattle.media.proofs.Sofar.{Sofar, next_of, start, at_none, entered, step_refused, again, stopped, done}
+use Rattle.media.proofs.Sofar.{next_of, start, at_none, entered, step_refused, again, stopped, done}
 use Rattle.media.proofs.terms.mean_from.Goals as goal
 
 -- ψ's step is a term, and then the total

@@ -1,16 +1,7 @@
 -- The loop keeps ψ's term and the total up to it, and ends early where every later term is absorbed. Assumes nothing.
-use mathlib.Core.Path.{◌≡◌, sym, ◌∙◌, ap}
-use Prim.Native.Nat.{ℕ, ◌+◌, ◌-◌}
-use native.Mathlib.Omega.{arith}
-use lib.IntN.{pos}
-use borrow.Author.Rules.{rules}
-use borrow.Author.Tests.{not-true, not-false}
-use Rattle.pair.specs.declared.Pair.{Pair}
-use Rattle.pair.specs.declared.Partial.{Partial}
-use Rattle.pair.specs.Calls.{Outcome, is, answer, after, entry, sum, partial}
-use Rattle.equations.specs.Formula.{pairs}
-use Rattle.equations.specs.Series.{psi, first, step}
-use Rattle.media.proofs.Sofar.{Sofar, next_of, start, at_none, entered, step_refused, again, stopped, done}
+use Prim.Native.Nat.{◌-◌}
+use Rattle.equations.specs.Series.{psi}
+use Rattle.media.proofs.Sofar.{Sofar}
 use Rattle.media.proofs.terms.mean_from.Given as goal
 
 abbrev pub invariant-loop-n : goal.invariant-loop-n

@@ -2,7 +2,6 @@
 use mathlib.Core.Path.{sym, ◌∙◌, ap}
 use lib.Dec.{lit≤}
 use lib.IntN.{negsuc}
-use borrow.Author.Rules.{rules}
 use Rattle.pair.specs.Calls.{answer}
 use Rattle.media.proofs.Passing.{never_refused}
 use Rattle.media.proofs.terms.mean_of_terms.Goals as goal

@@ -2,9 +2,8 @@
 use mathlib.Core.Path.{◌≡◌}
 use Prim.Native.Nat.{ℕ, ◌+◌}
 use lib.IntN.{pos}
-use borrow.Author.Rules.{rules}
 use Rattle.pair.specs.declared.Pair.{Pair}
-use Rattle.pair.specs.Calls.{Outcome, is, answer, after, entry, product, quotient}
+use Rattle.pair.specs.Calls.{Outcome, is, after, entry, product, quotient}
 use Rattle.equations.specs.Formula.{pairs}
 use Rattle.equations.specs.Series.{psi, step}
 use Rattle.media.proofs.terms.mean_term.Goals as goal

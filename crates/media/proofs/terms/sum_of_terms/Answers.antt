@@ -1,9 +1,8 @@
 -- The loop keeps φ's term and the total up to it, and ends early where every later term is absorbed. Assumes nothing.
 use mathlib.Core.Path.{◌≡◌, sym, ◌∙◌, ap}
-use Prim.Native.Nat.{ℕ, ◌+◌, ◌-◌}
+use Prim.Native.Nat.{ℕ, ◌+◌}
 use native.Mathlib.Omega.{arith}
 use lib.IntN.{pos}
-use borrow.Author.Rules.{rules}
 use borrow.Author.Tests.{not-true, not-false}
 use Rattle.pair.specs.declared.Pair.{Pair}
 use Rattle.pair.specs.Number.{one}
@@ -12,7 +11,7 @@ use Rattle.pair.proofs.Promises.{one_entry}
 use Rattle.pair.proofs.ChainPromises.{next_term_told}
 use Rattle.equations.specs.Formula.{pairs}
 use Rattle.equations.specs.Series.{phi, first, step}
-use Rattle.media.proofs.Sofar.{Sofar, next_of, start, at_none, entered, step_refused, again, stopped, done}
+use Rattle.media.proofs.Sofar.{next_of, start, at_none, entered, step_refused, again, stopped, done}
 use Rattle.media.proofs.terms.sum_of_terms.Goals as goal
 
 -- φ's step is one call

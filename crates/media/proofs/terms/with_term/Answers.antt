@@ -1,7 +1,6 @@
 -- The term or the total is refused, or both are told. Assumes nothing.
 use mathlib.Core.Path.{◌≡◌, sym, ◌∙◌, ap}
 use mathlib.Core.Bool.{true}
-use borrow.Author.Rules.{rules}
 use Rattle.pair.specs.declared.Pair.{Pair}
 use Rattle.pair.specs.declared.Partial.{Partial}
 use Rattle.pair.specs.Number.{zero}

@@ -1,6 +1,5 @@
 -- A refusal is carried along, else 1 − f is worked. Assumes nothing.
 use mathlib.Core.Path.{refl}
-use borrow.Author.Rules.{rules}
 use Rattle.pair.specs.Calls.{answer, after_one}
 use Rattle.pair.proofs.Answer.one_minus.Goals as goal
 

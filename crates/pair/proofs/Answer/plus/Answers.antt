@@ -1,6 +1,5 @@
 -- A refusal on either side is carried along, else the operation is worked. Assumes nothing.
 use mathlib.Core.Path.{refl}
-use borrow.Author.Rules.{rules}
 use Rattle.pair.specs.Calls.{answer, after}
 use Rattle.pair.proofs.Answer.plus.Goals as goal
 

@@ -1,7 +1,6 @@
 -- A refusal is carried along; the product's ends are a pair again, which the sum goes on with. Assumes nothing.
 use mathlib.Core.Path.{◌≡◌, refl, ◌∙◌}
 use mathlib.Core.Bool.{true}
-use borrow.Author.Rules.{rules}
 use Rattle.pair.specs.declared.Pair.{Pair}
 use Rattle.pair.specs.declared.Step.TheVariants.{Times}
 use Rattle.pair.specs.Number.{is_pair}

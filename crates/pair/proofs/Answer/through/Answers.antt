@@ -1,7 +1,6 @@
 -- A refusal is carried along; the first step's ends are a pair again, from which the last two go on. Assumes nothing.
 use mathlib.Core.Path.{◌≡◌, refl}
 use mathlib.Core.Bool.{true}
-use borrow.Author.Rules.{rules}
 use Rattle.pair.specs.Number.{is_pair}
 use Rattle.pair.specs.Calls.{answer, after}
 use Rattle.pair.specs.Inner.{is_operand}

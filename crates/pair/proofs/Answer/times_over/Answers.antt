@@ -1,6 +1,5 @@
 -- A refusal on either side is carried along, else the two operations are worked. Assumes nothing.
 use mathlib.Core.Path.{refl}
-use borrow.Author.Rules.{rules}
 use Rattle.pair.specs.declared.Step.TheVariants.{Times, Over}
 use Rattle.pair.specs.Calls.{answer, stepped, after}
 use Rattle.pair.proofs.Providing.{failed, passed}

@@ -1,7 +1,6 @@
 -- The tests one after the other. Assumes nothing.
 use mathlib.Core.Path.{sym, ◌∙◌, ap}
 use mathlib.Core.Bool.{true, ◌&&◌}
-use borrow.Author.Rules.{rules}
 use Rattle.pair.specs.Number.{is_number, at_most}
 use Rattle.pair.specs.Calls.{is, order, compared}
 use Rattle.pair.proofs.Providing.{first_fails, second_fails, first_holds, refused_as, told_as, failed, passed}

@@ -3,7 +3,6 @@ use mathlib.Core.Path.{◌≡◌}
 use mathlib.Core.Bool.{true}
 use native.Mathlib.Omega.{arith}
 use lib.IntN.{pos, ◌+ℤ◌}
-use borrow.Author.Rules.{rules}
 use Rattle.pair.specs.Number.{is_pair}
 use Rattle.pair.proofs.Numbers.{pair_low, pair_high, fits_plus, back, number_back, number_mag}
 use Rattle.pair.proofs.Providing.{failed, passed}

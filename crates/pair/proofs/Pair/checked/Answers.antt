@@ -1,5 +1,4 @@
 -- The test, then the pair as it is. Assumes nothing.
-use borrow.Author.Rules.{rules}
 use mathlib.Core.Path.{sym, ◌∙◌}
 use Rattle.pair.specs.Number.{is_pair}
 use Rattle.pair.specs.Calls.{is, answer, checked}

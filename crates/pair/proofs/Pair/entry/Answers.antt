@@ -3,7 +3,6 @@
 use mathlib.Core.Path.{◌≡◌, sym, ◌∙◌, ap₂}
 use mathlib.Core.Bool.{true, false, ◌&&◌}
 use native.Mathlib.Omega.{arith}
-use borrow.Author.Rules.{rules}
 use Rattle.pair.specs.Number.{in_reach}
 use Rattle.pair.specs.Rounding.{rounded}
 use Rattle.pair.specs.Calls.{answer, ends, most_printed, entry}

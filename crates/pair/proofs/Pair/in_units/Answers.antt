@@ -1,7 +1,6 @@
 -- The tests one after the other, then both counts. Assumes nothing.
 use mathlib.Core.Path.{◌≡◌, sym}
 use mathlib.Core.Bool.{true, false, ◌&&◌}
-use borrow.Author.Rules.{rules}
 use Rattle.pair.specs.Number.{in_reach, is_pair}
 use Rattle.pair.specs.Rounding.{units_end}
 use Rattle.pair.specs.Calls.{Outcome, is, count, in_units}

@@ -1,7 +1,6 @@
 -- The product's ends are a pair, so are the quotient's, and the total goes on from them. Assumes nothing.
 use mathlib.Core.Path.{◌≡◌, ◌∙◌}
 use mathlib.Core.Bool.{true}
-use borrow.Author.Rules.{rules}
 use Rattle.pair.specs.declared.Pair.{Pair}
 use Rattle.pair.specs.declared.Step.TheVariants.{Times, Over}
 use Rattle.pair.specs.Number.{is_pair}

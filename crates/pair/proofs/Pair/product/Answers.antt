@@ -1,6 +1,5 @@
 -- Both operands are pairs, or the call is refused; then each end is worked. Assumes nothing.
 use mathlib.Core.Path.{◌∙◌, ap₂}
-use borrow.Author.Rules.{rules}
 use Rattle.pair.specs.Calls.{answer, ends}
 use Rattle.pair.proofs.Numbers.{pair_low, pair_high}
 use Rattle.pair.proofs.Providing.{failed, passed}

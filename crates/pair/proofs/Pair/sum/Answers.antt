@@ -1,7 +1,6 @@
 -- Both operands are pairs, or the call is refused; then each end is worked. Assumes nothing.
 use mathlib.Core.Path.{sym, ◌∙◌, ap₂}
 use mathlib.Core.Bool.{true, false, ◌&&◌}
-use borrow.Author.Rules.{rules}
 use Rattle.pair.specs.Number.{is_pair}
 use Rattle.pair.specs.Rounding.{sum_end}
 use Rattle.pair.specs.Calls.{answer, ends, sum}

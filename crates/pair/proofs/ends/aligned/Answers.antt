@@ -2,7 +2,6 @@
 use mathlib.Core.Path.{◌≡◌, sym, subst}
 use Prim.Native.Nat.{ℕ, ◌^◌, ◌≤◌}
 use native.Mathlib.Omega.{arith}
-use borrow.Author.Rules.{rules}
 use Rattle.pair.specs.Number.{place, rise}
 use Rattle.pair.proofs.Alignment.{nine_small, not_less_place}
 use Rattle.pair.proofs.Dividing.{divided_most}

@@ -4,7 +4,6 @@ use mathlib.Core.Bool.{true, false}
 use native.Mathlib.Nat.{le_antisymm}
 use native.Mathlib.Omega.{arith}
 use lib.Signed.{lt_z}
-use borrow.Author.Rules.{rules}
 use Rattle.pair.proofs.Alignment.{nine_small, less_place, not_less_place, order_below, order_above, order_same, order_zero_left, order_zero_right}
 use Rattle.pair.proofs.Numbers.{Nine, number_nine, number_back}
 use Rattle.pair.proofs.ends.at_most.Goals as goal

@@ -6,7 +6,6 @@ use lib.Dec.{lit<}
 use lib.IntN.{pos, ◌-ℤ◌}
 use lib.Signed.{lt_z}
 use mir.Facts.{to_z-of_z}
-use borrow.Author.Rules.{rules}
 use borrow.Author.Tests.{lt-ltb}
 use Rattle.pair.specs.Rounding.{units_end}
 use Rattle.pair.proofs.Counts.{count_zero, count_test}

@@ -8,7 +8,6 @@ use lib.Dec.{leb}
 use lib.IntN.{pos}
 use lib.Signed.{lt_z}
 use mir.Facts.{to_z-of_z}
-use borrow.Author.Rules.{rules}
 use borrow.Author.Tests.{le-leb}
 use Rattle.pair.specs.Number.{rise, as_printed, one}
 use Rattle.pair.proofs.Alignment.{Small, less_place, not_less_place, order_zero_left}

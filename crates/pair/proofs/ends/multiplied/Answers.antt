@@ -5,7 +5,6 @@ use native.Mathlib.Omega.{arith}
 use lib.Dec.{lit<}
 use lib.IntN.{pos, ◌+ℤ◌}
 use mir.Facts.{to_z-of_z}
-use borrow.Author.Rules.{rules}
 use Rattle.pair.specs.Rounding.{rounded}
 use Rattle.pair.proofs.Exponents.{mag_plus}
 use Rattle.pair.proofs.Numbers.{fits_plus, back}

@@ -1,7 +1,6 @@
 -- The significands are multiplied and the exponents added. Assumes nothing.
 use mathlib.Core.Path.{refl}
 use native.Mathlib.Omega.{arith}
-use borrow.Author.Rules.{rules}
 use Rattle.pair.specs.Rounding.{product_end}
 use Rattle.pair.proofs.Exponents.{mag_plus}
 use Rattle.pair.proofs.Numbers.{number_mag, number_back, number_plus, back}

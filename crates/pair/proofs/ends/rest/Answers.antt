@@ -8,7 +8,6 @@ use lib.Dec.{lit<}
 use lib.IntN.{ℤ, pos}
 use lib.Signed.{lt_z}
 use mir.Facts.{to_z-of_z}
-use borrow.Author.Rules.{rules}
 use borrow.Author.Tests.{leb-true}
 use Rattle.pair.specs.Number.{depth, place, rise, at_most, as_printed, one}
 use Rattle.pair.specs.Rounding.{divided}

@@ -2,7 +2,6 @@
 use native.Mathlib.Omega.{arith}
 use lib.IntN.{negsuc}
 use mir.Facts.{to_z-of_z}
-use borrow.Author.Rules.{rules}
 use Rattle.pair.proofs.Exponents.{mag_plus}
 use Rattle.pair.proofs.Numbers.{fits_plus, back}
 use Rattle.pair.proofs.Shares.{quotient_below, quotient_above}

@@ -3,7 +3,6 @@ use mathlib.Core.Path.{◌≡◌, sym, ◌∙◌}
 use mathlib.Core.Bool.{true, false}
 use native.Mathlib.Omega.{arith}
 use lib.Signed.{lt_z}
-use borrow.Author.Rules.{rules}
 use Rattle.pair.proofs.Alignment.{nine_small, less_place, less_turned}
 use Rattle.pair.proofs.Numbers.{Nine, number_nine, number_back}
 use Rattle.pair.proofs.Sums.{sum_zero_left, sum_zero_right, sum_comm}

@@ -1,6 +1,5 @@
 -- The difference fits and is not negative, so the cast keeps it. Assumes nothing.
 use mir.Facts.{to_z-of_z, Fits-nat_abs}
-use borrow.Author.Rules.{rules}
 use Rattle.pair.specs.Number.{rise}
 use Rattle.pair.proofs.Exponents.{minus_not_below}
 use Rattle.pair.proofs.exponent.above.Goals as goal

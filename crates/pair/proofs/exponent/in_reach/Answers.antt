@@ -1,5 +1,4 @@
 use mir.Facts.{to_z-of_z}
-use borrow.Author.Rules.{rules}
 use Rattle.pair.specs.Number.{in_reach}
 use Rattle.pair.proofs.exponent.in_reach.Goals as goal
 

@@ -1,5 +1,4 @@
 use mir.Facts.{to_z-of_z}
-use borrow.Author.Rules.{rules}
 use Rattle.pair.specs.Number.{zero_exponent}
 use Rattle.pair.proofs.exponent.is_zero.Goals as goal
 

@@ -1,7 +1,6 @@
 -- Nine figures or fewer are filled, more are rounded off. Assumes nothing.
 use native.Mathlib.Omega.{arith}
 use mir.Facts.{to_z-of_z}
-use borrow.Author.Rules.{rules}
 use Rattle.pair.proofs.rounding.figured.Goals as goal
 
 pub normal-requires : goal.normal-requires

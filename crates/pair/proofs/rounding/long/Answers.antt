@@ -6,7 +6,6 @@ use native.Mathlib.Omega.{arith}
 use lib.Dec.{lit<}
 use lib.IntN.{pos}
 use mir.Facts.{to_z-of_z}
-use borrow.Author.Rules.{rules}
 use Rattle.pair.specs.Rounding.{rounded}
 use Rattle.pair.proofs.Dividing.{divided_most}
 use Rattle.pair.proofs.Exponents.{mag_plus}

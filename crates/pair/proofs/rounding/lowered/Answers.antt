@@ -3,7 +3,6 @@ use mathlib.Core.Path.{refl, ◌∙◌}
 use Prim.Native.Nat.{◌^◌}
 use native.Mathlib.Nat.{lt_of_lt_of_le}
 use native.Mathlib.Omega.{arith}
-use borrow.Author.Rules.{rules}
 use Rattle.pair.proofs.Dividing.{divided_part}
 use Rattle.pair.proofs.Powers.{ten_rises, power}
 use Rattle.pair.proofs.rounding.lowered.Goals as goal

@@ -3,7 +3,6 @@ use mathlib.Core.Path.{ap}
 use native.Mathlib.Omega.{arith}
 use lib.IntN.{pos, ◌+ℤ◌}
 use mir.Facts.{to_z-of_z}
-use borrow.Author.Rules.{rules}
 use Rattle.pair.proofs.Exponents.{mag_plus}
 use Rattle.pair.proofs.Numbers.{fits_plus, back}
 use Rattle.pair.proofs.Powers.{ten_above, ten_rises}

@@ -1,6 +1,5 @@
 -- Rounding up is dividing what is less than one more. Assumes nothing.
 use mathlib.Core.Path.{sym}
-use borrow.Author.Rules.{rules}
 use Rattle.pair.proofs.Dividing.{divided_down, divided_up}
 use Rattle.pair.proofs.rounding.whole.Goals as goal
 

@@ -1,5 +1,5 @@
 -- Equal significands and equal exponents. Assumes nothing.
-use Rattle.std.proofs.Common.{◌≡◌, sym, ◌∙◌, true≢false, to_z-of_z, w32, SFits, rules}
+use Rattle.std.proofs.Common.{◌≡◌, sym, ◌∙◌, true≢false, to_z-of_z, w32, SFits}
 use Rattle.pair_trials.proofs.vector.same_number.Goals as goal
 
 pub returns-then-a-b : goal.returns-then-a-b

@@ -1,6 +1,5 @@
 -- Each figure by its own way. Assumes nothing.
 use mathlib.Core.Path.{refl}
-use borrow.Author.Rules.{rules}
 use Rattle.pathway.specs.Lines.{figured, shares_of_time, air_figures_with}
 use Rattle.pathway.proofs.air.air_figures_with.Goals as goal
 

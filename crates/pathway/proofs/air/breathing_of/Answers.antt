@@ -1,6 +1,5 @@
 -- By the year's guidance. Assumes nothing.
 use mathlib.Core.Path.{refl}
-use borrow.Author.Rules.{rules}
 use Rattle.pathway.specs.Lines.{breathed, breathed_by}
 use Rattle.pathway.proofs.air.breathing_of.Goals as goal
 

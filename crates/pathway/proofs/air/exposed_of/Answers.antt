@@ -1,6 +1,5 @@
 -- A refusal is carried along, else the product answers. Assumes nothing.
 use mathlib.Core.Path.{refl}
-use borrow.Author.Rules.{rules}
 use Rattle.pair.specs.Calls.{answer, after, mapped}
 use Rattle.pathway.specs.Lines.{timed, exposed, air_exposure_of}
 use Rattle.pathway.proofs.air.exposed_of.Goals as goal

@@ -1,6 +1,5 @@
 -- No reference value, no figure; else that of the exposure concentration. Assumes nothing.
 use mathlib.Core.Path.{refl}
-use borrow.Author.Rules.{rules}
 use Rattle.pathway.specs.Lines.{figure, rfc_value, air_figure_of}
 use Rattle.pathway.proofs.air.hazard_in_air.Goals as goal
 

@@ -1,6 +1,5 @@
 -- Each by itself, from one time in the air. Assumes nothing.
 use mathlib.Core.Path.{refl}
-use borrow.Author.Rules.{rules}
 use Rattle.equations.specs.declared.Effect.TheVariants.{Hazard, Cancer}
 use Rattle.pathway.specs.Lines.{shares_of_time, in_air_of}
 use Rattle.pathway.proofs.AirLaws.{own_share}

@@ -1,6 +1,5 @@
 -- By how the air is taken, and by the route. Assumes nothing.
 use mathlib.Core.Path.{refl}
-use borrow.Author.Rules.{rules}
 use Rattle.pathway.specs.Inner.{is_timed}
 use Rattle.pathway.specs.Lines.{breathed}
 use Rattle.pathway.proofs.air.is_timed.Goals as goal

@@ -1,6 +1,5 @@
 -- A refusal is carried along. Assumes nothing.
 use mathlib.Core.Path.{refl}
-use borrow.Author.Rules.{rules}
 use Rattle.slots.specs.Slots.{same}
 use Rattle.equations.specs.Formula.{read, pairs}
 use Rattle.equations.specs.Readings.{letters, plain_with, plain}

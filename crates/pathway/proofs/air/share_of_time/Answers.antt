@@ -1,6 +1,5 @@
 -- What the quotient answers. Assumes nothing.
 use mathlib.Core.Path.{refl}
-use borrow.Author.Rules.{rules}
 use Rattle.pair.specs.Calls.{answer, mapped}
 use Rattle.pathway.specs.Inner.{share_with}
 use Rattle.pathway.specs.Lines.{timed}

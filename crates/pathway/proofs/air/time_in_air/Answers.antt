@@ -1,6 +1,5 @@
 -- The operations in the formula's order. Assumes nothing.
 use mathlib.Core.Path.{refl}
-use borrow.Author.Rules.{rules}
 use Rattle.equations.specs.Formula.{read, pairs}
 use Rattle.equations.specs.Readings.{plain, plain_with, letters, inputs, by_owner, value_in}
 use Rattle.slots.specs.Slots.{table, same, is_in, place_in, owner_of, place_of}

@@ -1,6 +1,5 @@
 -- From the shares of time, if there are any. Assumes nothing.
 use mathlib.Core.Path.{refl}
-use borrow.Author.Rules.{rules}
 use Rattle.pathway.specs.Inner.{timed_figures}
 use Rattle.pathway.specs.Lines.{figure, figured, breathed}
 use Rattle.pathway.proofs.air.timed_figures.Goals as goal

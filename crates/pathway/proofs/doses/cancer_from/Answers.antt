@@ -1,6 +1,5 @@
 -- No reference value, no figure; a refusal on the way is carried along. Assumes nothing.
 use mathlib.Core.Path.{refl, sym}
-use borrow.Author.Rules.{rules}
 use Rattle.equations.specs.declared.Effect.TheVariants.{Cancer}
 use Rattle.pair.specs.Calls.{answer, after, mapped}
 use Rattle.pathway.specs.Lines.{figure, csf_value, factor_with, dose_for, figure_of}

@@ -1,5 +1,4 @@
 -- The product answers. Assumes nothing.
-use borrow.Author.Rules.{rules}
 use Rattle.pathway.proofs.doses.dose_of.Goals as goal
 
 pub returns : goal.returns

@@ -1,6 +1,5 @@
 -- Its own pair. Assumes nothing.
 use mathlib.Core.Path.{refl}
-use borrow.Author.Rules.{rules}
 use Rattle.pathway.specs.Lines.{eaten}
 use Rattle.pathway.proofs.doses.eaten.Goals as goal
 

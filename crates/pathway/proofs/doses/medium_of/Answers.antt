@@ -1,6 +1,5 @@
 -- Each pathway by its medium. Assumes nothing.
 use mathlib.Core.Path.{refl}
-use borrow.Author.Rules.{rules}
 use Rattle.equations.specs.Page.{by_medium}
 use Rattle.pathway.specs.Lines.{medium_for}
 use Rattle.pathway.proofs.doses.medium_of.Goals as goal

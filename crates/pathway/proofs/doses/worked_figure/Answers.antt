@@ -1,6 +1,5 @@
 -- What the operation answers. Assumes nothing.
 use mathlib.Core.Path.{refl}
-use borrow.Author.Rules.{rules}
 use Rattle.pair.specs.Calls.{answer, mapped}
 use Rattle.pathway.specs.Lines.{figure}
 use Rattle.pathway.proofs.doses.worked_figure.Goals as goal

@@ -1,6 +1,5 @@
 -- Each by its place. Assumes nothing.
 use mathlib.Core.Path.{refl}
-use borrow.Author.Rules.{rules}
 use Rattle.slots.specs.Slots.{table, same, is_in, place_in, owner_of, place_of}
 use Rattle.pathway.specs.Lines.{absorbed_of}
 use Rattle.pathway.proofs.exposure.absorbed_of.Goals as goal

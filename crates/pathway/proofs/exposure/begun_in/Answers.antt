@@ -1,6 +1,5 @@
 -- Worked ahead, or the receptor's own value. Assumes nothing.
 use mathlib.Core.Path.{refl}
-use borrow.Author.Rules.{rules}
 use Rattle.pathway.specs.Lines.{shared, begun_in}
 use Rattle.pathway.proofs.exposure.begun_in.Goals as goal
 

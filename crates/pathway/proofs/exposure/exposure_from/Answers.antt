@@ -1,5 +1,4 @@
 -- Each pathway by its own function. Assumes nothing.
-use borrow.Author.Rules.{rules}
 use Rattle.slots.specs.Slots.{table, same, is_in, owner_of}
 use Rattle.equations.specs.Formula.{read}
 use Rattle.equations.specs.Page.{exposure}

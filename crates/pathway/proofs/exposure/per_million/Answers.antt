@@ -1,5 +1,4 @@
 -- As it is entered. Assumes nothing.
-use borrow.Author.Rules.{rules}
 use Rattle.pathway.proofs.exposure.per_million.Goals as goal
 
 pub returns : goal.returns

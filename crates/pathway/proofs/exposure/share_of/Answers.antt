@@ -1,6 +1,5 @@
 -- The share that each exposure takes. Assumes nothing.
 use mathlib.Core.Path.{refl}
-use borrow.Author.Rules.{rules}
 use Rattle.slots.specs.Slots.{table, same, is_in, place_in, owner_of, place_of}
 use Rattle.equations.specs.Formula.{read}
 use Rattle.equations.specs.Page.{exposure}

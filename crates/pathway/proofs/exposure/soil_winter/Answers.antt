@@ -1,6 +1,5 @@
 -- The operations in the formula's order. Assumes nothing.
 use mathlib.Core.Path.{refl}
-use borrow.Author.Rules.{rules}
 use Rattle.equations.specs.Formula.{read, pairs}
 use Rattle.equations.specs.Page.{exposure}
 use Rattle.equations.specs.Readings.{letters, by_owner, value_in}

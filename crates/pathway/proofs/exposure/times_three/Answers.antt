@@ -1,6 +1,5 @@
 -- Three steps of a chain, each ×. Assumes nothing.
 use mathlib.Core.Path.{◌∙◌}
-use borrow.Author.Rules.{rules}
 use Rattle.pair.specs.Promises.{operation_of, call}
 use Rattle.pair.proofs.ChainPromises.{through_is}
 use Rattle.pathway.proofs.exposure.times_three.Goals as goal

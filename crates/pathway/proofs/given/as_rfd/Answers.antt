@@ -1,6 +1,5 @@
 -- The slot's pair, or none. Assumes nothing.
 use mathlib.Core.Path.{refl}
-use borrow.Author.Rules.{rules}
 use Rattle.pathway.specs.Lines.{as_rfd}
 use Rattle.pathway.proofs.given.as_rfd.Goals as goal
 

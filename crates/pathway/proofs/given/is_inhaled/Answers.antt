@@ -1,6 +1,5 @@
 -- Each pathway by its route. Assumes nothing.
 use mathlib.Core.Path.{refl}
-use borrow.Author.Rules.{rules}
 use Rattle.equations.specs.Page.{by_medium, by_route}
 use Rattle.pathway.proofs.given.is_inhaled.Goals as goal
 

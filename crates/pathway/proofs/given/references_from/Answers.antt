@@ -1,6 +1,5 @@
 -- Each slot by itself. Assumes nothing.
 use mathlib.Core.Path.{refl}
-use borrow.Author.Rules.{rules}
 use Rattle.pathway.specs.Lines.{references_from}
 use Rattle.pathway.proofs.given.references_from.Goals as goal
 

@@ -1,6 +1,5 @@
 -- By the test of the route. Assumes nothing.
 use mathlib.Core.Path.{refl}
-use borrow.Author.Rules.{rules}
 use Rattle.equations.proofs.Guided.{route_tested}
 use Rattle.pathway.proofs.given.rfd_of.Goals as goal
 

@@ -2,7 +2,6 @@
 use Rattle.slots.specs.Slots.{table, same, is_in, place_in, owner_of, place_of}
 use Rattle.cases.specs.Cases.{value_at}
 use Rattle.scenario.specs.Scenario.{deposition_of}
-use borrow.Author.Rules.{rules}
 use Rattle.scenario.proofs.exposure.deposition_of.Goals as goal
 
 pub returns : goal.returns

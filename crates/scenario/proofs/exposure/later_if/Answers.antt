@@ -3,7 +3,6 @@ use mathlib.Core.Path.{refl, ◌∙◌, ap}
 use Rattle.pair.specs.Number.{one}
 use Rattle.pair.specs.Calls.{one_pair}
 use Rattle.scenario.specs.Scenario.{or_no_pair, later_if}
-use borrow.Author.Rules.{rules}
 use Rattle.scenario.proofs.exposure.later_if.Goals as goal
 
 pub returns-in-Within : goal.returns-in-Within

@@ -1,5 +1,4 @@
 -- `scenario::exposure::or_no_time` meets its contract: by cases of the answer. Assumes nothing.
-use borrow.Author.Rules.{rules}
 use mathlib.Core.Path.{refl}
 use Rattle.times.specs.Times.{time}
 use Rattle.scenario.specs.Scenario.{no_time, or_no_time}

@@ -1,7 +1,6 @@
 -- The two times are compared once. Assumes nothing.
-use mathlib.Core.Path.{refl, ◌∙◌, ap}
-use Rattle.scenario.specs.Scenario.{stay_if, receptor_with}
-use borrow.Author.Rules.{rules}
+use mathlib.Core.Path.{refl}
+use Rattle.scenario.specs.Scenario.{receptor_with}
 use Rattle.scenario.proofs.exposure.receptor_with.Goals as goal
 
 pub returns : goal.returns

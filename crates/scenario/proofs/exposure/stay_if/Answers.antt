@@ -2,7 +2,6 @@
 use mathlib.Core.Path.{refl}
 use Rattle.pair.specs.Calls.{order}
 use Rattle.scenario.specs.Scenario.{stay_if}
-use borrow.Author.Rules.{rules}
 use Rattle.scenario.proofs.exposure.stay_if.Goals as goal
 
 pub returns-in-AtMost : goal.returns-in-AtMost

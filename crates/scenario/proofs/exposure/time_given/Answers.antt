@@ -1,5 +1,4 @@
 -- `scenario::exposure::time_given` meets its contract. Assumes nothing.
-use borrow.Author.Rules.{rules}
 use mathlib.Core.Path.{ap, ◌∙◌}
 use Rattle.scenario.specs.Scenario.{or_no_time, time_given}
 use Rattle.scenario.proofs.exposure.time_given.Goals as goal

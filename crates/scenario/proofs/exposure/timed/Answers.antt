@@ -1,5 +1,4 @@
 -- `scenario::exposure::timed` meets its contract: as it is given, or without zeros at its end. Assumes nothing.
-use borrow.Author.Rules.{rules}
 use mathlib.Core.Path.{sym, ap, ◌∙◌}
 use Rattle.times.specs.Times.{time, printed}
 use Rattle.scenario.proofs.ValueLaws.{told_given, told_plain}

@@ -1,10 +1,8 @@
 -- `scenario::memory::chemicals_unpaired` meets its contract: every chemical so far has its pairs. Assumes nothing.
-use borrow.Author.Rules.{rules}
 use mathlib.Core.Path.{◌≡◌, refl, sym, ap, ◌∙◌}
-use mathlib.Core.Bool.{false}
-use Prim.Native.Nat.{◌-◌, ◌≤◌, ◌<◌}
+use Prim.Native.Nat.{◌<◌}
 use native.Mathlib.Omega.{arith}
-use lib.ListN.{length, get_or, length-map}
+use lib.ListN.{length, get_or}
 use Rattle.lists.specs.Lists.{any_of}
 use Rattle.lists.proofs.ListLaws.{read_any}
 use Rattle.sizes.specs.Sizes.{max_chemicals}

@@ -1,8 +1,6 @@
 -- `scenario::memory::ids_of` meets its contract: the first four places are the receptors'. Assumes nothing.
-use borrow.Author.Rules.{rules}
-use mathlib.Core.Path.{◌≡◌, refl, sym, ◌∙◌}
-use lib.Dec.{lit<}
-use lib.ListN.{length, length-map}
+use mathlib.Core.Path.{◌≡◌}
+use lib.ListN.{length}
 use Rattle.sizes.specs.Sizes.{most_receptors}
 use Rattle.scenario.proofs.InputLaws.{ids_all}
 use Rattle.scenario.proofs.memory.ids_of.Goals as goal

@@ -1,5 +1,4 @@
 -- `scenario::memory::is_unpaired` meets its contract: by cases of the value and of its entry. Assumes nothing.
-use borrow.Author.Rules.{rules}
 use mathlib.Core.Path.{refl, sym, ap, ◌∙◌}
 use Rattle.pair.specs.Calls.{answer}
 use Rattle.scenario.specs.Scenario.{is_unpaired}

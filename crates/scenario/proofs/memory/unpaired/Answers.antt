@@ -1,8 +1,5 @@
 -- `scenario::memory::unpaired` meets its contract: every value so far has a pair. Assumes nothing.
-use borrow.Author.Rules.{rules}
 use mathlib.Core.Path.{◌≡◌, refl, sym}
-use mathlib.Core.Bool.{false}
-use Prim.Native.Nat.{◌-◌, ◌≤◌}
 use native.Mathlib.Omega.{arith}
 use Rattle.lists.specs.Lists.{any_of}
 use Rattle.sizes.specs.Sizes.{slots_per_record}

@@ -1,14 +1,11 @@
 -- `scenario::memory::unpaired` meets its contract: every value so far has a pair. Assumes nothing.
-use borrow.Author.Rules.{rules}
-use mathlib.Core.Path.{◌≡◌, refl, sym}
+use mathlib.Core.Path.{◌≡◌}
 use mathlib.Core.Bool.{false}
 use Prim.Native.Nat.{◌-◌, ◌≤◌}
-use native.Mathlib.Omega.{arith}
 use Rattle.lists.specs.Lists.{any_of}
 use Rattle.sizes.specs.Sizes.{slots_per_record}
 use Rattle.cases.specs.Cases.{value_at}
-use Rattle.cases.proofs.CaseConditionLaws.{any_stops, any_on}
-use Rattle.scenario.specs.Scenario.{is_unpaired, unpaired}
+use Rattle.scenario.specs.Scenario.{is_unpaired}
 use Rattle.scenario.proofs.memory.unpaired.Given as goal
 
 abbrev pub invariant-loop-k : goal.invariant-loop-k

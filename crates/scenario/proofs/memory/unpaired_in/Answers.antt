@@ -1,5 +1,4 @@
 -- `scenario::memory::unpaired_in` meets its contract: each test in turn. Assumes nothing.
-use borrow.Author.Rules.{rules}
 use borrow.Author.Tests.{lt-ltb, le-ltb}
 use mathlib.Core.Path.{refl, sym, ◌∙◌}
 use Rattle.sizes.specs.Sizes.{max_chemicals}

@@ -1,5 +1,4 @@
 -- `scenario::memory::untimed` meets its contract: by cases of the time. Assumes nothing.
-use borrow.Author.Rules.{rules}
 use mathlib.Core.Path.{sym, ap, ◌∙◌}
 use Rattle.slots.specs.Slots.{table, same, is_in, place_in, owner_of, place_of}
 use Rattle.times.specs.Times.{time}

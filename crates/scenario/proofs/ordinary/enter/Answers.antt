@@ -1,6 +1,5 @@
 -- `scenario::ordinary::enter` meets its contract. Assumes nothing.
 use mathlib.Core.Path.{refl}
-use borrow.Author.Rules.{rules}
 use Rattle.slots.specs.Slots.{table, same, is_in, place_in, owner_of, place_of}
 use Rattle.cases.specs.Cases.{value_at}
 use Rattle.scenario.specs.Scenario.{entered}

@@ -1,8 +1,7 @@
 -- `scenario::ordinary::entered_from` meets its contract. Assumes nothing.
-use mathlib.Core.Path.{◌≡◌, sym, ap, ◌∙◌}
+use mathlib.Core.Path.{◌≡◌, ap, ◌∙◌}
 use native.Mathlib.Omega.{arith}
-use borrow.Author.Rules.{rules}
-use lib.ListN.{length, length-map}
+use lib.ListN.{length}
 use Rattle.sizes.specs.Sizes.{most_stages}
 use Rattle.times.specs.declared.Years.{Years}
 use Rattle.cases.specs.declared.Record.{Record}

@@ -1,6 +1,4 @@
 -- `scenario::ordinary::values_if` meets its contract: either way. Assumes nothing.
-use borrow.Author.Rules.{rules}
-use mathlib.Core.Path.{refl}
 use Rattle.scenario.specs.Scenario.{values_if}
 use Rattle.scenario.proofs.ordinary.values_if.Goals as goal
 

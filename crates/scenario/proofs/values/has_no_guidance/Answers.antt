@@ -1,5 +1,4 @@
 -- By the year's slot. Assumes nothing.
-use borrow.Author.Rules.{rules}
 use Rattle.slots.specs.Slots.{table, same, is_in, place_in, owner_of, place_of}
 use Rattle.cases.specs.Cases.{value_at}
 use Rattle.scenario.proofs.values.has_no_guidance.Goals as goal

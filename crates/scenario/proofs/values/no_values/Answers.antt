@@ -1,5 +1,4 @@
 -- `scenario::values::no_values` meets its contract. Assumes nothing.
-use borrow.Author.Rules.{rules}
 use mathlib.Core.Path.{refl}
 use Rattle.scenario.specs.Scenario.{no_pairs}
 use Rattle.scenario.proofs.values.no_values.Goals as goal

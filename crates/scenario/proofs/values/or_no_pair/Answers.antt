@@ -1,5 +1,4 @@
 -- `scenario::values::or_no_pair` meets its contract: by cases of the answer. Assumes nothing.
-use borrow.Author.Rules.{rules}
 use mathlib.Core.Path.{refl, ◌∙◌}
 use Rattle.pair.specs.Calls.{answer}
 use Rattle.scenario.specs.Scenario.{or_no_pair}

@@ -1,5 +1,4 @@
 -- `scenario::values::pair_of` meets its contract: by cases of the value. Assumes nothing.
-use borrow.Author.Rules.{rules}
 use mathlib.Core.Path.{refl, ap, ◌∙◌}
 use Rattle.pair.specs.Number.{one}
 use Rattle.pair.specs.Calls.{one_pair}

@@ -1,5 +1,4 @@
 -- What 1 leaves of the slot Fv. Assumes nothing.
-use borrow.Author.Rules.{rules}
 use Rattle.slots.specs.Slots.{table, same, is_in, place_in, owner_of, place_of}
 use Rattle.cases.specs.Cases.{value_at}
 use Rattle.scenario.specs.Scenario.{particles_of}

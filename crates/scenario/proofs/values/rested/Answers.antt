@@ -1,5 +1,4 @@
 -- `scenario::values::rested` meets its contract: as it is given, or without zeros at its end. Assumes nothing.
-use borrow.Author.Rules.{rules}
 use mathlib.Core.Path.{sym, ap, ◌∙◌}
 use Rattle.pair.specs.Calls.{answer, one_minus_entry}
 use Rattle.scenario.proofs.ValueLaws.{told_given, told_plain}

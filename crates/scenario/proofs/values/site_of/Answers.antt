@@ -1,6 +1,5 @@
 -- The guidance of the year's slot, and the values of all. Assumes nothing.
 use mathlib.Core.Path.{refl}
-use borrow.Author.Rules.{rules}
 use Rattle.slots.specs.Slots.{table, same, is_in, place_in, owner_of, place_of}
 use Rattle.cases.specs.Cases.{value_at}
 use Rattle.scenario.specs.Scenario.{site_of}

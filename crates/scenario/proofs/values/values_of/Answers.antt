@@ -1,15 +1,11 @@
 -- `scenario::values::values_of` meets its contract. The invariant: the pairs so far, then 1. Assumes nothing.
-use mathlib.Core.Path.{◌≡◌, sym, ap, ◌∙◌}
-use mathlib.Core.List.{◌++◌}
-use Prim.Native.Nat.{◌-◌, ◌≤◌, ◌<◌}
+use mathlib.Core.Path.{◌≡◌, ap, ◌∙◌}
 use native.Mathlib.Omega.{arith}
-use borrow.Author.Rules.{rules}
-use lib.ListN.{length, get_or, replicate, length-map}
+use lib.ListN.{length, get_or}
 use Rattle.sizes.specs.Sizes.{slots_per_record}
 use Rattle.pair.specs.Number.{one}
 use Rattle.pair.specs.Calls.{one_pair}
 use Rattle.cases.specs.declared.Filled.{Filled}
-use Rattle.lists.specs.Lists.{tabulate}
 use Rattle.cases.specs.Cases.{no_slot}
 use Rattle.lists.proofs.Tabulated.{filled_start, filled_more, worked_all}
 use Rattle.scenario.specs.Scenario.{pair_of, values_of}

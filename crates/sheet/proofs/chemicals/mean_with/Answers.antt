@@ -2,7 +2,6 @@
 use mathlib.Core.Path.{refl}
 use Rattle.slots.specs.Slots.{table, same, is_in, place_in, owner_of, place_of}
 use Rattle.sheet.specs.Counts.{mean_with}
-use borrow.Author.Rules.{rules}
 use Rattle.sheet.proofs.chemicals.mean_with.Goals as goal
 
 pub returns : goal.returns

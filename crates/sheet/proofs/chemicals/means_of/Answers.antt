@@ -1,13 +1,11 @@
 -- `sheet::chemicals::means_of` meets its contract. The invariant: the means so far, then none; none of them was refused. Assumes nothing.
 use mathlib.Core.Path.{◌≡◌, refl, sym, ap, ◌∙◌}
-use mathlib.Core.List.{◌++◌}
-use mathlib.Core.Bool.{true, false, not, false≢true}
-use Prim.Native.Nat.{◌+◌, ◌-◌, ◌≤◌, ◌<◌}
+use mathlib.Core.Bool.{true, not, false≢true}
+use Prim.Native.Nat.{◌<◌}
 use native.Mathlib.Omega.{arith}
-use borrow.Author.Rules.{rules}
-use lib.ListN.{length, get_or, replicate, length-map}
+use lib.ListN.{length, get_or, replicate}
 use Rattle.sizes.specs.Sizes.{most_receptors}
-use Rattle.lists.specs.Lists.{tabulate, any_of}
+use Rattle.lists.specs.Lists.{any_of}
 use Rattle.lists.proofs.Tabulated.{filled_start, filled_more}
 use Rattle.media.specs.Media.{found, no_media}
 use Rattle.scenario.specs.Scenario.{is_refused, no_receptor}

@@ -1,19 +1,15 @@
 -- `sheet::chemicals::means_of` meets its contract. The invariant: the means so far, then none; none of them was refused. Assumes nothing.
-use mathlib.Core.Path.{◌≡◌, refl, sym, ap, ◌∙◌}
+use mathlib.Core.Path.{◌≡◌}
 use mathlib.Core.List.{◌++◌}
-use mathlib.Core.Bool.{true, false, not, false≢true}
-use Prim.Native.Nat.{◌+◌, ◌-◌, ◌≤◌, ◌<◌}
-use native.Mathlib.Omega.{arith}
-use borrow.Author.Rules.{rules}
-use lib.ListN.{length, get_or, replicate, length-map}
+use mathlib.Core.Bool.{false}
+use Prim.Native.Nat.{◌-◌, ◌≤◌}
+use lib.ListN.{get_or, replicate}
 use Rattle.sizes.specs.Sizes.{most_receptors}
 use Rattle.lists.specs.Lists.{tabulate, any_of}
-use Rattle.lists.proofs.Tabulated.{filled_start, filled_more}
-use Rattle.media.specs.Media.{found, no_media}
+use Rattle.media.specs.Media.{no_media}
 use Rattle.scenario.specs.Scenario.{is_refused, no_receptor}
 use Rattle.sheet.specs.Counts.{mean_with}
-use Rattle.sheet.specs.Inner.{media_from, means_of}
-use Rattle.sheet.proofs.ChemicalLaws.{mean_at_lem, mean_on, mean_stops}
+use Rattle.sheet.specs.Inner.{media_from}
 use Rattle.sheet.proofs.chemicals.means_of.Given as goal
 
 abbrev pub invariant-loop-j : goal.invariant-loop-j

@@ -1,6 +1,5 @@
 -- Every value is 1, every medium 0 and every reference value absent. Assumes nothing.
 use mathlib.Core.Path.{refl}
-use borrow.Author.Rules.{rules}
 use Rattle.pair.specs.Number.{one}
 use Rattle.pair.specs.Calls.{one_pair}
 use Rattle.slots.specs.Slots.{table, same, is_in, place_in, owner_of, place_of}

@@ -1,6 +1,5 @@
 -- The means are worked, and what else a line takes is read. Assumes nothing.
 use Rattle.sheet.proofs.ChemicalLaws.{from_worked, from_made}
-use borrow.Author.Rules.{rules}
 use Rattle.sheet.proofs.chemicals.source_from.Goals as goal
 
 pub returns : goal.returns

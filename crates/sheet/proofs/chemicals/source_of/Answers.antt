@@ -4,7 +4,6 @@ use mathlib.Core.Bool.{true, false≢true}
 use Rattle.media.specs.Media.{grounded}
 use Rattle.scenario.specs.Scenario.{is_refused}
 use Rattle.sheet.proofs.ChemicalLaws.{lacks_worked, told_worked, told_made, none_worked}
-use borrow.Author.Rules.{rules}
 use Rattle.sheet.proofs.chemicals.source_of.Goals as goal
 
 pub returns-then-lacks : goal.returns-then-lacks

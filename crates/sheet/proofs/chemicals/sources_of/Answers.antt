@@ -1,20 +1,17 @@
 -- `sheet::chemicals::sources_of` meets its contract. The invariant: the sources so far, then empty ones; none of them stopped.
 -- Assumes nothing.
 use mathlib.Core.Path.{◌≡◌, refl, sym, ap, ◌∙◌}
-use mathlib.Core.List.{◌++◌}
-use Prim.Native.Nat.{◌+◌, ◌-◌, ◌≤◌, ◌<◌}
+use Prim.Native.Nat.{◌<◌}
 use native.Mathlib.Omega.{arith}
-use borrow.Author.Rules.{rules}
 use borrow.Author.Tests.{not-true, not-false}
-use lib.ListN.{length, get_or, replicate, length-map}
+use lib.ListN.{length, get_or, replicate}
 use Rattle.sizes.specs.Sizes.{max_chemicals}
-use Rattle.cases.specs.declared.Status.TheVariants.{Passed}
 use Rattle.cases.specs.Conditions.{first}
-use Rattle.lists.specs.Lists.{tabulate, chained}
+use Rattle.lists.specs.Lists.{chained}
 use Rattle.cases.specs.Cases.{no_record}
 use Rattle.cases.proofs.FirstMet.{never}
 use Rattle.lists.proofs.Tabulated.{filled_start, filled_more}
-use Rattle.sheet.specs.Inner.{no_source, source_of, sources_of, refused_source}
+use Rattle.sheet.specs.Inner.{no_source, source_of, sources_of}
 use Rattle.sheet.proofs.ChemicalLaws.{source_is, goes_on, stops}
 use Rattle.sheet.proofs.chemicals.sources_of.Goals as goal
 

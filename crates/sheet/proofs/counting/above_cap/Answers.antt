@@ -1,6 +1,5 @@
 -- A figure that is present is held against its effect's cap. Assumes nothing.
 use mathlib.Core.Path.{refl}
-use borrow.Author.Rules.{rules}
 use Rattle.pathway.specs.Lines.{figure}
 use Rattle.sheet.specs.Inner.{above_cap}
 use Rattle.sheet.proofs.counting.above_cap.Goals as goal

@@ -2,7 +2,6 @@
 use mathlib.Core.Path.{refl}
 use lib.Dec.{lit≤}
 use lib.IntN.{pos}
-use borrow.Author.Rules.{rules}
 use Rattle.pair.specs.Number.{one}
 use Rattle.pair.proofs.Promises.{written_entry}
 use Rattle.sheet.specs.Sheet.{cap_of}

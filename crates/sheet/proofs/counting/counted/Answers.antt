@@ -1,6 +1,5 @@
 -- The counts of both ends, or none. Assumes nothing.
 use mathlib.Core.Path.{sym, ◌∙◌, ap}
-use borrow.Author.Rules.{rules}
 use mir.Facts.{to_z-of_z}
 use Rattle.pair.specs.Calls.{count}
 use Rattle.sheet.specs.Sheet.{counted, counted_in}

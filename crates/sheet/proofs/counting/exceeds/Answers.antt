@@ -2,9 +2,8 @@
 use mathlib.Core.Path.{◌≡◌, sym, ◌∙◌, ap}
 use Prim.Native.Nat.{ℕ}
 use native.Mathlib.Omega.{arith}
-use borrow.Author.Rules.{rules}
 use Rattle.pair.specs.declared.Pair.{Pair}
-use Rattle.pair.specs.Calls.{is, refused, answer}
+use Rattle.pair.specs.Calls.{is, answer}
 use Rattle.sheet.specs.Sheet.{high_above, cap_of}
 use Rattle.sheet.proofs.counting.exceeds.Goals as goal
 

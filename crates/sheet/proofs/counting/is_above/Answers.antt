@@ -1,6 +1,5 @@
 -- The comparison of the high end with the bound decides. Assumes nothing.
 use mathlib.Core.Path.{refl}
-use borrow.Author.Rules.{rules}
 use Rattle.pair.specs.Calls.{order}
 use Rattle.sheet.specs.Sheet.{is_above, high_above}
 use Rattle.sheet.proofs.counting.is_above.Goals as goal

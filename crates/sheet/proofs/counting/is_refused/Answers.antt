@@ -1,5 +1,4 @@
 -- A figure is refused or not. Assumes nothing.
-use borrow.Author.Rules.{rules}
 use mathlib.Core.Path.{refl}
 use Rattle.pathway.specs.Lines.{figure}
 use Rattle.scenario.specs.Scenario.{is_refused}

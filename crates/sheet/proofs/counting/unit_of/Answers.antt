@@ -1,6 +1,5 @@
 -- Each effect has its unit. Assumes nothing.
 use mathlib.Core.Path.{refl}
-use borrow.Author.Rules.{rules}
 use Rattle.sheet.specs.Sheet.{unit_of}
 use Rattle.sheet.proofs.counting.unit_of.Goals as goal
 

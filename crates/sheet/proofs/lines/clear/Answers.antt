@@ -1,9 +1,7 @@
 -- `sheet::lines::clear` meets its contract. The invariant: the cells so far are 0. Assumes nothing.
 use mathlib.Core.Path.{◌≡◌, sym, ◌∙◌}
-use Prim.Native.Nat.{ℕ, ◌-◌, ◌≤◌, ◌<◌}
 use native.Mathlib.Omega.{arith}
-use borrow.Author.Rules.{rules}
-use lib.ListN.{length, get_or, length-set}
+use lib.ListN.{length-set}
 use Rattle.sheet.specs.Counts.{all_cells}
 use Rattle.sheet.proofs.CellLaws.{cleared_more, all_cleared}
 use Rattle.sheet.proofs.lines.clear.Goals as goal

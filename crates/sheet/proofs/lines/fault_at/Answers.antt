@@ -1,5 +1,4 @@
 -- 53, then 42 where caps are held. Assumes nothing.
-use borrow.Author.Rules.{rules}
 use borrow.Author.Tests.{not-true, not-false}
 use mathlib.Core.Path.{refl, sym, ◌∙◌}
 use Rattle.cases.specs.Conditions.{first}

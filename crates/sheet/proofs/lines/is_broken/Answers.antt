@@ -1,5 +1,4 @@
 -- One figure or the other is refused. Assumes nothing.
-use borrow.Author.Rules.{rules}
 use mathlib.Core.Path.{refl}
 use Rattle.pathway.specs.Lines.{figured}
 use Rattle.sheet.specs.Inner.{is_broken}

@@ -1,6 +1,5 @@
 -- One figure or the other is above its cap. Assumes nothing.
 use mathlib.Core.Path.{refl}
-use borrow.Author.Rules.{rules}
 use Rattle.pathway.specs.Lines.{figured}
 use Rattle.sheet.specs.Inner.{is_large}
 use Rattle.sheet.proofs.lines.is_large.Goals as goal

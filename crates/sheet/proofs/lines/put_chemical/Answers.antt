@@ -2,20 +2,18 @@
 -- lines are as they were. Assumes nothing.
 use mathlib.Core.Path.{◌≡◌, refl, sym, ap, subst, ◌∙◌}
 use mathlib.Core.List.{List}
-use Prim.Native.Nat.{ℕ, ◌+◌, ◌-◌, ◌≤◌, ◌<◌, ◌*◌}
+use Prim.Native.Nat.{ℕ, ◌+◌, ◌<◌, ◌*◌}
 use native.Mathlib.Nat.{not-suc-le-zero}
 use native.Mathlib.Omega.{arith}
-use borrow.Author.Rules.{rules}
-use lib.ListN.{length, length-map}
+use lib.ListN.{length}
 use Rattle.sheet.specs.Counts.{effect_cells}
 use Rattle.sizes.specs.Sizes.{most_lines, most_receptors, pathways_per_chemical}
 use Rattle.equations.specs.declared.Effect.TheVariants.{Hazard, Cancer}
 use Rattle.pathway.specs.Lines.{figured}
-use Rattle.cases.specs.declared.Status.TheVariants.{Passed}
 use Rattle.cases.specs.Conditions.{first}
 use Rattle.cases.proofs.FirstMet.{never}
 use Rattle.lists.specs.Lists.{chained}
-use Rattle.sheet.specs.Inner.{figure_for, source_columns, faulty_line, faulty_chemical, with_counts, CellsHold, SameBut}
+use Rattle.sheet.specs.Inner.{figure_for, source_columns, faulty_chemical, with_counts, CellsHold, SameBut}
 use Rattle.sheet.proofs.ReceptorLaws.{fault_is, columns_are, line_fits, line_stops}
 use Rattle.sheet.proofs.CellLaws.{line_length, line_others, line_held}
 use Rattle.sheet.proofs.lines.put_chemical.Goals as goal

@@ -1,7 +1,6 @@
 -- `sheet::lines::put_counts` meets its contract: three stores. Assumes nothing.
 use mathlib.Core.Path.{refl}
 use native.Mathlib.Omega.{arith}
-use borrow.Author.Rules.{rules}
 use lib.ListN.{length-set}
 use Rattle.sheet.specs.Counts.{cell_of}
 use Rattle.sheet.specs.Inner.{with_counts}

@@ -1,20 +1,14 @@
 -- `sheet::lines::put_lines` meets its contract. The invariant: the cells hold the lines of the chemicals so far, none of which stops, the cells
 -- below are as they were, and the others stay 0. Assumes nothing.
-use mathlib.Core.Path.{◌≡◌, refl, sym, ap, ◌∙◌}
-use Prim.Native.Nat.{◌+◌, ◌*◌, ◌-◌, ◌≤◌, ◌<◌}
-use native.Mathlib.Nat.{not-suc-le-zero}
-use native.Mathlib.Omega.{arith}
-use borrow.Author.Rules.{rules}
-use lib.ListN.{length, length-map}
-use Rattle.sizes.specs.Sizes.{max_chemicals, pathways_per_chemical}
+use mathlib.Core.Path.{◌≡◌}
+use Prim.Native.Nat.{◌+◌, ◌*◌, ◌-◌, ◌≤◌}
+use lib.ListN.{length}
+use Rattle.sizes.specs.Sizes.{pathways_per_chemical}
 use Rattle.cases.specs.declared.Status.TheVariants.{Passed}
 use Rattle.cases.specs.Conditions.{first}
-use Rattle.cases.proofs.FirstMet.{never}
 use Rattle.lists.specs.Lists.{chained}
-use Rattle.sheet.specs.Counts.{cell_of, receptor_cells}
-use Rattle.sheet.specs.Inner.{source_at, columns_worked, faulty_chemical, faulty_worked, CellsHold, CellsEmpty, SameBelow, ZeroFrom}
-use Rattle.sheet.proofs.ReceptorLaws.{lines_are, chemical_on, chemical_stops}
-use Rattle.sheet.proofs.CellLaws.{chemical_below, chemical_empty, chemical_zero, chemical_held}
+use Rattle.sheet.specs.Counts.{receptor_cells}
+use Rattle.sheet.specs.Inner.{source_at, columns_worked, faulty_chemical, CellsHold, CellsEmpty, SameBelow, ZeroFrom}
 use Rattle.sheet.proofs.lines.put_lines.Given as goal
 
 abbrev pub invariant-loop-i : goal.invariant-loop-i

@@ -1,5 +1,4 @@
 -- The three cells of a line. Assumes nothing.
-use borrow.Author.Rules.{rules}
 use Rattle.sheet.specs.Counts.{columns_found}
 use Rattle.sheet.proofs.reading.columns_found.Goals as goal
 

@@ -1,7 +1,6 @@
 -- `sheet::reading::total_found` meets its contract: the totals call for each column. Assumes nothing.
 use mathlib.Core.Path.{refl}
 use Prim.Native.Nat.{◌+◌}
-use borrow.Author.Rules.{rules}
 use Rattle.sizes.specs.Sizes.{most_lines}
 use Rattle.totals.specs.declared.Sum.TheVariants.{Is, Refused}
 use Rattle.totals.specs.Totals.{totalled}

@@ -1,6 +1,5 @@
 -- Absent, or the pair of what is printed. Assumes nothing.
 use mathlib.Core.Path.{refl}
-use borrow.Author.Rules.{rules}
 use Rattle.cases.specs.Cases.{value_at}
 use Rattle.sheet.specs.Inner.{printed_as}
 use Rattle.sheet.proofs.references.printed.Goals as goal

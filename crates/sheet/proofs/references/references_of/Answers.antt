@@ -1,6 +1,5 @@
 -- Each reference value is its slot. Assumes nothing.
 use mathlib.Core.Path.{refl}
-use borrow.Author.Rules.{rules}
 use Rattle.slots.specs.Slots.{table, same, is_in, place_in, owner_of, place_of}
 use Rattle.sheet.specs.Inner.{references_of}
 use Rattle.sheet.proofs.references.references_of.Goals as goal

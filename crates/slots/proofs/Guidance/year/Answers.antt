@@ -1,6 +1,5 @@
 -- Each guidance has its year. Assumes nothing.
 use mathlib.Core.Path.{refl}
-use borrow.Author.Rules.{rules}
 use Rattle.slots.specs.Slots.{year_of}
 use Rattle.slots.proofs.Guidance.year.Goals as goal
 

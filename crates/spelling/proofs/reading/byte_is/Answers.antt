@@ -1,6 +1,5 @@
 -- `spelling::reading::byte_is` meets its contract: past the end there is no such byte.
 -- Assumes nothing.
-use borrow.Author.Rules.{rules}
 use Rattle.spelling.proofs.WordLaws.{byte_past}
 use Rattle.spelling.proofs.reading.byte_is.Goals as goal
 

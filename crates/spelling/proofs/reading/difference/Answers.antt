@@ -1,6 +1,5 @@
 -- `spelling::reading::difference` meets its contract: both numbers are small, so the difference fits.
 -- Assumes nothing.
-use borrow.Author.Rules.{rules}
 use Rattle.powers.proofs.Signed.{difference_fits, difference_is}
 use Rattle.spelling.proofs.reading.difference.Goals as goal
 

@@ -1,6 +1,5 @@
 -- `spelling::reading::ended` meets its contract: one law for each way out.
 -- Assumes nothing.
-use borrow.Author.Rules.{rules}
 use Rattle.spelling.proofs.WordLaws.{ended_tail, ended_spelled, ended_number}
 use mathlib.Core.Path.{◌∙◌}
 use mir.Facts.{to_z-of_z}

@@ -1,6 +1,5 @@
 -- `spelling::reading::exponent` meets its contract: its bytes are digits.
 -- Assumes nothing.
-use borrow.Author.Rules.{rules}
 use native.Mathlib.Omega.{arith}
 use Rattle.spelling.proofs.WordLaws.{exponent_bytes, exponent_value_lem}
 use Rattle.spelling.proofs.reading.exponent.Goals as goal

@@ -1,6 +1,5 @@
 -- `spelling::reading::exponent_spelled` meets its contract: one law for each way out.
 -- Assumes nothing.
-use borrow.Author.Rules.{rules}
 use Rattle.spelling.proofs.WordLaws.{exponent_none, exponent_length, exponent_e, exponent_sign, exponent_first, exponent_second}
 use Rattle.spelling.proofs.reading.exponent_spelled.Goals as goal
 

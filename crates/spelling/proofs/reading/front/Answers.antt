@@ -1,6 +1,5 @@
 -- `spelling::reading::front` meets its contract: a list that is not longer is its own front.
 -- Assumes nothing.
-use borrow.Author.Rules.{rules}
 use mathlib.Core.Path.{sym}
 use native.Mathlib.Omega.{arith}
 use lib.Seq.{length-take-le, take_all}

@@ -1,6 +1,5 @@
 -- `spelling::reading::id_in` meets its contract: one law for each way out.
 -- Assumes nothing.
-use borrow.Author.Rules.{rules}
 use native.Mathlib.Omega.{arith}
 use Rattle.spelling.proofs.WordLaws.{text_within, id_blank, id_first, id_long, id_other, id_ask, id_fits, id_digits}
 use Rattle.spelling.proofs.reading.id_in.Goals as goal

@@ -1,12 +1,9 @@
 -- `spelling::reading::leading_bytes` meets its contract. The invariant: what was passed, and what leads in the rest, make up the whole.
 -- Assumes nothing.
 use Prim.Native.Nat.{◌+◌, ◌-◌, ◌≤◌}
-use native.Mathlib.Nat.{zero-add}
 use mathlib.Core.Path.{◌≡◌}
 use lib.ListN.{length, drop}
-use borrow.Author.Rules.{rules}
 use Rattle.spelling.specs.Columns.{leading}
-use Rattle.spelling.proofs.Leading.{turn, stop, whole, within_yes, within_low, within_high}
 use Rattle.spelling.proofs.reading.leading_bytes.Given as goal
 
 abbrev pub invariant-loop-i : goal.invariant-loop-i

@@ -1,13 +1,11 @@
 -- `spelling::reading::leading_digits` meets its contract. The invariant: what was passed, and what leads in the rest, make up the whole; the value is that of what was passed, and there is room for the rest.
 -- Assumes nothing.
-use borrow.Author.Rules.{rules}
 use Prim.Native.Nat.{ℕ, ◌+◌, ◌*◌, ◌-◌, ◌^◌, ◌≤◌, ◌<◌}
 use native.Mathlib.Nat.{zero-add}
 use native.Mathlib.Omega.{arith}
-use borrow.Author.Rules.{rules}
-use mathlib.Core.Path.{◌≡◌, refl, sym, ap, ◌∙◌}
-use lib.ListN.{length, take, drop, get_or}
-use Rattle.spelling.specs.Columns.{leading, digits_value}
+use mathlib.Core.Path.{refl, sym, ap, ◌∙◌}
+use lib.ListN.{length, get_or}
+use Rattle.spelling.specs.Columns.{digits_value}
 use Rattle.spelling.proofs.Leading.{turn, stop, whole, within_yes, within_low, within_high}
 use Rattle.spelling.proofs.DigitLaws.{digits_value_turn, digits_value_stop, room_loop, room_now, room_start}
 use Rattle.spelling.proofs.reading.leading_digits.Goals as goal

@@ -1,15 +1,9 @@
 -- `spelling::reading::leading_digits` meets its contract. The invariant: what was passed, and what leads in the rest, make up the whole; the value is that of what was passed, and there is room for the rest.
 -- Assumes nothing.
-use borrow.Author.Rules.{rules}
-use Prim.Native.Nat.{ℕ, ◌+◌, ◌*◌, ◌-◌, ◌^◌, ◌≤◌, ◌<◌}
-use native.Mathlib.Nat.{zero-add}
-use native.Mathlib.Omega.{arith}
-use borrow.Author.Rules.{rules}
-use mathlib.Core.Path.{◌≡◌, refl, sym, ap, ◌∙◌}
-use lib.ListN.{length, take, drop, get_or}
+use Prim.Native.Nat.{◌+◌, ◌*◌, ◌-◌, ◌^◌, ◌≤◌}
+use mathlib.Core.Path.{◌≡◌}
+use lib.ListN.{length, take, drop}
 use Rattle.spelling.specs.Columns.{leading, digits_value}
-use Rattle.spelling.proofs.Leading.{turn, stop, whole, within_yes, within_low, within_high}
-use Rattle.spelling.proofs.DigitLaws.{digits_value_turn, digits_value_stop, room_loop, room_now, room_start}
 use Rattle.spelling.proofs.reading.leading_digits.Given as goal
 
 abbrev pub invariant-loop-i : goal.invariant-loop-i

@@ -1,6 +1,5 @@
 -- `spelling::reading::lone_dash` meets its contract: one law for each way out.
 -- Assumes nothing.
-use borrow.Author.Rules.{rules}
 use Rattle.spelling.proofs.WordLaws.{dash_length, dash_byte}
 use Rattle.spelling.proofs.reading.lone_dash.Goals as goal
 

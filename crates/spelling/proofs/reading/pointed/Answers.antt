@@ -1,6 +1,5 @@
 -- `spelling::reading::pointed` meets its contract: one law for each way out.
 -- Assumes nothing.
-use borrow.Author.Rules.{rules}
 use Rattle.spelling.proofs.WordLaws.{places_room, pointed_none, pointed_long, pointed_ends, pointed_number}
 use native.Mathlib.Omega.{arith}
 use Prim.Native.Nat.{ℕ}

@@ -1,6 +1,5 @@
 -- `spelling::reading::power_of` meets its contract: the exponent has two digits, so the difference is one of small numbers.
 -- Assumes nothing.
-use borrow.Author.Rules.{rules}
 use Rattle.spelling.proofs.WordLaws.{exponent_four, exponent_small, power_plain, power_minus, power_plus}
 use native.Mathlib.Omega.{arith}
 use mathlib.Core.Path.{◌∙◌}

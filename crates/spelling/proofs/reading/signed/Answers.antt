@@ -1,6 +1,5 @@
 -- `spelling::reading::signed` meets its contract: one sign or the other.
 -- Assumes nothing.
-use borrow.Author.Rules.{rules}
 use Rattle.spelling.proofs.WordLaws.{sign_plus, sign_minus}
 use Rattle.spelling.proofs.reading.signed.Goals as goal
 

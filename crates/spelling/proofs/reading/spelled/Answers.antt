@@ -1,6 +1,5 @@
 -- `spelling::reading::spelled` meets its contract: one law for each way out.
 -- Assumes nothing.
-use borrow.Author.Rules.{rules}
 use Rattle.spelling.proofs.WordLaws.{first_room, whole_is, whole_value, whole_within, spelled_none, spelled_long, point_within, spelled_pointed, spelled_whole}
 use native.Mathlib.Omega.{arith}
 use Prim.Native.Nat.{ℕ}

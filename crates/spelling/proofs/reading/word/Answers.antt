@@ -1,6 +1,5 @@
 -- `spelling::reading::word` meets its contract: one law for each way out.
 -- Assumes nothing.
-use borrow.Author.Rules.{rules}
 use Rattle.spelling.proofs.WordLaws.{text_within, word_blank, word_dash, word_spelled}
 use Rattle.spelling.proofs.reading.word.Goals as goal
 

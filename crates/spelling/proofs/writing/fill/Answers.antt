@@ -1,12 +1,8 @@
 -- `spelling::writing::fill` meets its contract. The loop's invariant: the columns left, filled with the digits left after spaces, and those
 -- filled already are the whole. Assumes nothing.
 use mathlib.Core.Path.{◌≡◌, refl, ◌∙◌}
-use mathlib.Core.List.{[], ◌∷◌, ◌++◌}
-use Prim.Native.Nat.{◌-◌, ◌<◌}
 use native.Mathlib.Omega.{arith}
-use borrow.Author.Rules.{rules}
-use lib.ListN.{length, drop, length-set}
-use Rattle.spelling.specs.Columns.{digits, justified}
+use lib.ListN.{length-set}
 use Rattle.spelling.proofs.Filling.{filled_more, filled_last, filled_all, filled_spaced}
 use Rattle.spelling.proofs.writing.fill.Goals as goal
 

@@ -1,13 +1,10 @@
 -- `spelling::writing::fill` meets its contract. The loop's invariant: the columns left, filled with the digits left after spaces, and those
 -- filled already are the whole. Assumes nothing.
-use mathlib.Core.Path.{◌≡◌, refl, ◌∙◌}
+use mathlib.Core.Path.{◌≡◌}
 use mathlib.Core.List.{[], ◌∷◌, ◌++◌}
 use Prim.Native.Nat.{◌-◌, ◌<◌}
-use native.Mathlib.Omega.{arith}
-use borrow.Author.Rules.{rules}
-use lib.ListN.{length, drop, length-set}
+use lib.ListN.{length, drop}
 use Rattle.spelling.specs.Columns.{digits, justified}
-use Rattle.spelling.proofs.Filling.{filled_more, filled_last, filled_all, filled_spaced}
 use Rattle.spelling.proofs.writing.fill.Given as goal
 
 abbrev pub invariant-loop-left : goal.invariant-loop-left

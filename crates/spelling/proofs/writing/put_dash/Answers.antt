@@ -1,6 +1,5 @@
 -- `spelling::writing::put_dash` meets its contract: a part of some columns is filled with spaces and a lone -. Assumes nothing.
 use mathlib.Core.Path.{refl}
-use borrow.Author.Rules.{rules}
 use Rattle.spelling.specs.Columns.{dash_in}
 use Rattle.spelling.proofs.Filling.{byte_filled, columns_none, columns_some}
 use Rattle.spelling.proofs.writing.put_dash.Goals as goal

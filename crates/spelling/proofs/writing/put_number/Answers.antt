@@ -1,6 +1,5 @@
 -- `spelling::writing::put_number` meets its contract: a part of some columns is filled with the number's. Assumes nothing.
 use mathlib.Core.Path.{refl}
-use borrow.Author.Rules.{rules}
 use Rattle.spelling.specs.Columns.{number_in, number}
 use Rattle.spelling.proofs.Filling.{number_filled, columns_none, columns_some}
 use Rattle.spelling.proofs.writing.put_number.Goals as goal

@@ -1,10 +1,9 @@
 -- `spelling::writing::put_spaces` meets its contract. The loop's invariant: spaces so far, and what stood past them. Assumes nothing.
 use mathlib.Core.Path.{◌≡◌, refl, ap, ◌∙◌}
-use mathlib.Core.List.{List, ◌++◌}
-use Prim.Native.Nat.{ℕ, ◌-◌, ◌≤◌}
+use mathlib.Core.List.{List}
+use Prim.Native.Nat.{ℕ}
 use native.Mathlib.Omega.{arith}
-use borrow.Author.Rules.{rules}
-use lib.ListN.{length, drop, set, replicate, length-set}
+use lib.ListN.{set, length-set}
 use Rattle.spelling.proofs.Filling.{spaced_more}
 use Rattle.spelling.proofs.writing.put_spaces.Goals as goal
 

@@ -1,11 +1,8 @@
 -- `spelling::writing::put_spaces` meets its contract. The loop's invariant: spaces so far, and what stood past them. Assumes nothing.
-use mathlib.Core.Path.{◌≡◌, refl, ap, ◌∙◌}
-use mathlib.Core.List.{List, ◌++◌}
-use Prim.Native.Nat.{ℕ, ◌-◌, ◌≤◌}
-use native.Mathlib.Omega.{arith}
-use borrow.Author.Rules.{rules}
-use lib.ListN.{length, drop, set, replicate, length-set}
-use Rattle.spelling.proofs.Filling.{spaced_more}
+use mathlib.Core.Path.{◌≡◌}
+use mathlib.Core.List.{◌++◌}
+use Prim.Native.Nat.{◌-◌, ◌≤◌}
+use lib.ListN.{length, drop, replicate}
 use Rattle.spelling.proofs.writing.put_spaces.Given as goal
 
 abbrev pub invariant-loop-k : goal.invariant-loop-k

@@ -1,5 +1,4 @@
 -- `text::lines::put_columns` meets its contract: two columns, one after the other. Assumes nothing.
-use borrow.Author.Rules.{rules}
 use Rattle.text.proofs.Rows.{columns_absent, columns_counted}
 use Rattle.text.proofs.lines.put_columns.Goals as goal
 

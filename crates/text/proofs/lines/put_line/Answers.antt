@@ -1,6 +1,5 @@
 -- `text::lines::put_line` meets its contract: the columns from the left, and the line feed. Assumes nothing.
 use mathlib.Core.Path.{◌∙◌}
-use borrow.Author.Rules.{rules}
 use lib.ListN.{length-set}
 use Rattle.text.proofs.Rows.{row_written}
 use Rattle.text.proofs.lines.put_line.Goals as goal

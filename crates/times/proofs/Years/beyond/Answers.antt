@@ -1,7 +1,6 @@
 -- The difference of the words, rounded once. Assumes nothing.
 use mathlib.Core.Path.{sym, ◌∙◌, ap}
 use mathlib.Core.Bool.{and-false}
-use borrow.Author.Rules.{rules}
 use borrow.Author.Tests.{leb-true, not-true, not-false}
 use Rattle.pair.specs.Calls.{answer}
 use Rattle.pair.proofs.Promises.{refused_as}

@@ -1,7 +1,6 @@
 -- Two times are compared by their words. Assumes nothing.
 use mathlib.Core.Path.{sym, ◌∙◌, ap}
 use mathlib.Core.Bool.{and-false}
-use borrow.Author.Rules.{rules}
 use borrow.Author.Tests.{not-true, not-false}
 use Rattle.pair.specs.Calls.{is, order}
 use Rattle.pair.proofs.Promises.{refused_as}

@@ -1,5 +1,4 @@
 -- The words, counted from 1E-27. Assumes nothing.
-use borrow.Author.Rules.{rules}
 use Rattle.times.specs.Times.{as_pair, least}
 use Rattle.times.proofs.Years.pair.Goals as goal
 

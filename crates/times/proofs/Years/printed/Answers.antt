@@ -6,7 +6,6 @@ use native.Mathlib.Omega.{arith}
 use lib.IntN.{pos}
 use lib.Signed.{le_z}
 use mir.Facts.{to_z-of_z}
-use borrow.Author.Rules.{rules}
 use borrow.Author.Tests.{lt-ltb, not-true, not-false}
 use Rattle.pair.specs.Calls.{is}
 use Rattle.pair.proofs.Promises.{refused_as, told_as, provided_true}

@@ -1,5 +1,4 @@
 -- By the test. Assumes nothing.
-use Rattle.std.proofs.Common.{rules}
 use Rattle.trials.proofs.counting.more_if.Goals as goal
 
 pub returns-then-yes : goal.returns-then-yes

@@ -1,5 +1,4 @@
 -- Each column from the one before. Assumes nothing.
-use Rattle.std.proofs.Common.{rules}
 use Rattle.trials.specs.Trials.{column_at, head_of}
 use Rattle.trials.proofs.stored.numbers_in.Goals as goal
 

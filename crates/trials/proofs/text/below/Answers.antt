@@ -1,5 +1,5 @@
 -- The opposite of a size up to 2^31 fits 32 bits with a sign. Assumes nothing.
-use Rattle.std.proofs.Common.{◌≡◌, ℕ, ◌≤◌, pos, refl, ◌∙◌, arith, to_z-of_z, w32, w64, to_z, rules}
+use Rattle.std.proofs.Common.{◌≡◌, ℕ, ◌≤◌, pos, refl, arith, to_z-of_z, w64, to_z}
 use mir.Facts.{to_z_pos}
 use Rattle.trials.proofs.Signs.{fits_32, fits_64}
 use Rattle.trials.proofs.text.below.Goals as goal

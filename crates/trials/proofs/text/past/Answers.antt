@@ -1,5 +1,5 @@
 -- What stands from the place on is what was passed and what stands from here on. Assumes nothing.
-use Rattle.std.proofs.Common.{◌≡◌, ℕ, suc, ◌+◌, ◌-◌, ◌<◌, ◌≤◌, true, false, ◌&&◌, List, [], length, get_or, drop, sym, refl, ap, ◌∙◌, add-one, arith, drop_of_length-le, drop-cons, rules, le-leb}
+use Rattle.std.proofs.Common.{◌≡◌, ℕ, ◌+◌, ◌<◌, ◌≤◌, List, length, get_or, drop, refl, ◌∙◌, add-one, arith, drop_of_length-le, drop-cons, rules, le-leb}
 use borrow.Author.Tests.{lt-leb}
 use Rattle.trials.specs.Text.{leading}
 use Rattle.trials.proofs.text.past.Goals as goal

@@ -1,5 +1,5 @@
 -- From the place after the minus where there is one. Assumes nothing.
-use Rattle.std.proofs.Common.{◌≡◌, ℕ, Bool, true, false, List, sym, ap, ◌∙◌, rules}
+use Rattle.std.proofs.Common.{◌≡◌, ℕ, Bool, true, false, List, ap, ◌∙◌}
 use Rattle.trials.specs.Text.{after_of, whole_of, signed_of, signed_at}
 use Rattle.trials.specs.declared.text.Whole.{Whole}
 use Rattle.trials.proofs.text.signed_at.Goals as goal

@@ -1,5 +1,5 @@
 -- By the sign and the test of its largest number. Assumes nothing.
-use Rattle.std.proofs.Common.{◌≡◌, ◌<◌, ◌≤◌, Bool, true, false, ℤ, pos, ◌-ℤ◌, ◌∙◌, rules, le-leb}
+use Rattle.std.proofs.Common.{◌≡◌, ◌<◌, ◌≤◌, Bool, true, false, ℤ, pos, ◌-ℤ◌, ◌∙◌, le-leb}
 use borrow.Author.Tests.{lt-leb}
 use Rattle.trials.specs.Text.{no_signed, signed_of}
 use Rattle.trials.specs.declared.text.Whole.{Whole}

@@ -1,5 +1,5 @@
 -- A text shorter than the word does not begin with it. Assumes nothing.
-use Rattle.std.proofs.Common.{◌≡◌, length, sym, ap, true≢false, arith, length-take, length-take-le, rules}
+use Rattle.std.proofs.Common.{length, sym, ap, true≢false, arith, length-take, length-take-le, rules}
 use Rattle.trials.proofs.text.starts.Goals as goal
 
 pub returns-then-s-n : goal.returns-then-s-n
