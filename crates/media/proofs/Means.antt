@@ -40,19 +40,19 @@ four_told (is a) (is c) (refused n) r m e = is_not_refused m n e
 four_told (is a) (refused n) f r m e = is_not_refused m n e
 four_told (refused n) c f r m e = is_not_refused m n e
 
-record Parts (l b : Outcome Pair) (m n : Outcome Media) (ground : Ground) : Type 0 where
-  loss : l ≡ is ground.loss
-  gathered : b ≡ is ground.gathered
-  highest : m ≡ is ground.highest
-  within : n ≡ is ground.within
+record Parts (l b : Outcome Pair) (m n : Outcome Media) (the_ground : Ground) : Type 0 where
+  loss : l ≡ is the_ground.loss
+  gathered : b ≡ is the_ground.gathered
+  highest : m ≡ is the_ground.highest
+  within : n ≡ is the_ground.within
 
-parts_of : (l b : Outcome Pair) (m n : Outcome Media) (ground : Ground) → ground_from l b m n ≡ is ground → Parts l b m n ground
+parts_of : (l b : Outcome Pair) (m n : Outcome Media) (the_ground : Ground) → ground_from l b m n ≡ is the_ground → Parts l b m n the_ground
 unfolding ground_from
-parts_of (is l) (is b) (is m) (is n) ground e = rw (← is_one _ ground e) (record { loss = refl; gathered = refl; highest = refl; within = refl })
-parts_of (is l) (is b) (is m) (refused n) ground e = is_not_refused ground n e
-parts_of (is l) (is b) (refused n) y ground e = is_not_refused ground n e
-parts_of (is l) (refused n) y z ground e = is_not_refused ground n e
-parts_of (refused n) w y z ground e = is_not_refused ground n e
+parts_of (is l) (is b) (is m) (is n) the_ground e = rw (← is_one _ the_ground e) (record { loss = refl; gathered = refl; highest = refl; within = refl })
+parts_of (is l) (is b) (is m) (refused n) the_ground e = is_not_refused the_ground n e
+parts_of (is l) (is b) (refused n) y the_ground e = is_not_refused the_ground n e
+parts_of (is l) (refused n) y z the_ground e = is_not_refused the_ground n e
+parts_of (refused n) w y z the_ground e = is_not_refused the_ground n e
 
 -- the values of a site, a chemical and a receptor, 1 less each, and T2 − tD
 module _ (s c r : Values) (rests : Slot → Pair) (later : Pair) where
@@ -96,28 +96,28 @@ module _ (s c r : Values) (rests : Slot → Pair) (later : Pair) where
   unfolding ground_of
   ground_page = rw (k_alike, gathered_alike, media_alike C highest_alike, media_alike (mean Within) within_alike) refl
 
-  module _ (ground : Ground) (laid : ground_of env ≡ is ground) where
-    parts : Parts (worked full k) (worked full gathered) (media_in full C) (media_in full (mean Within)) ground
-    parts = parts_of (worked full k) (worked full gathered) (media_in full C) (media_in full (mean Within)) ground (sym ground_page ∙ laid)
+  module _ (the_ground : Ground) (laid : ground_of env ≡ is the_ground) where
+    parts : Parts (worked full k) (worked full gathered) (media_in full C) (media_in full (mean Within)) the_ground
+    parts = parts_of (worked full k) (worked full gathered) (media_in full C) (media_in full (mean Within)) the_ground (sym ground_page ∙ laid)
 
-    pub ground_highest : media_in full C ≡ is ground.highest
+    pub ground_highest : media_in full C ≡ is the_ground.highest
     ground_highest = parts.highest
 
-    pub ground_within : media_in full (mean Within) ≡ is ground.within
+    pub ground_within : media_in full (mean Within) ≡ is the_ground.within
     ground_within = parts.within
 
-    highest_told : Told (worked full A) (worked full C) (worked full (above_ground C)) (worked full (below_ground C)) ground.highest
+    highest_told : Told (worked full A) (worked full C) (worked full (above_ground C)) (worked full (below_ground C)) the_ground.highest
     unfolding media_in
-    highest_told = four_told (worked full A) (worked full C) (worked full (above_ground C)) (worked full (below_ground C)) ground.highest parts.highest
+    highest_told = four_told (worked full A) (worked full C) (worked full (above_ground C)) (worked full (below_ground C)) the_ground.highest parts.highest
 
-    soil_told : soil_beyond ground (full.value "T2") later ≡ worked full (mean Beyond)
+    soil_told : soil_beyond the_ground (full.value "T2") later ≡ worked full (mean Beyond)
     unfolding soil_beyond held_in plain_with as_answers read letters same
     soil_told = rw (beyond_is full, later_is full, parts.loss, parts.gathered, highest_told.soil) refl
 
-    grown_told : grown_in s c (is ground.highest.air.0) (soil_beyond ground (full.value "T2") later) ≡ media_in full (mean Beyond)
+    grown_told : grown_in s c (is the_ground.highest.air.0) (soil_beyond the_ground (full.value "T2") later) ≡ media_in full (mean Beyond)
     grown_told = ap₂ (grown_in s c) (sym highest_told.air) soil_told ∙ sym (produce_is s c r rests later (mean Beyond))
 
-    pub mean_media_lem : (stay : Stay) → mean_media ground s c stay (full.value "T2") later ≡ media_in full (mean stay)
+    pub mean_media_lem : (stay : Stay) → mean_media the_ground s c stay (full.value "T2") later ≡ media_in full (mean stay)
     unfolding mean_media
     mean_media_lem Within = sym parts.within
     mean_media_lem Beyond = grown_told

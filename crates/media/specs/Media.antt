@@ -81,17 +81,17 @@ grown_in s c air soil =
 
 -- the ground's k, what was gathered and the highest year's soil; beside them the mean's only slot is T2
 unfoldable pub held_in : Ground → Pair → Slot → Pair
-held_in ground T2 n = cond (same n "k") ground.loss (cond (same n "gathered") ground.gathered (cond (same n "C") ground.highest.soil.0 T2))
+held_in the_ground T2 n = cond (same n "k") the_ground.loss (cond (same n "gathered") the_ground.gathered (cond (same n "C") the_ground.highest.soil.0 T2))
 
 unfoldable pub soil_beyond : Ground → Pair → Pair → Outcome Pair
-soil_beyond ground T2 later =
-    let env : Inputs (Outcome Pair) = as_answers (record { value = held_in ground T2; rest = λ n. one_pair; later = later }) in
+soil_beyond the_ground T2 later =
+    let env : Inputs (Outcome Pair) = as_answers (record { value = held_in the_ground T2; rest = λ n. one_pair; later = later }) in
     let grown : Growth (Outcome Pair) = growth_at (plain_with pairs env.value env.later (lost_later (given "k"))) in
     read pairs (letters env (record { at_x = grown; at_x' = grown })) (mean_beyond (given "gathered") (given "C"))
 
 unfoldable pub mean_media : Ground → Values → Values → Stay → Pair → Pair → Outcome Media
-mean_media ground s c Within T2 later = is ground.within
-mean_media ground s c Beyond T2 later = grown_in s c (is ground.highest.air.0) (soil_beyond ground T2 later)
+mean_media the_ground s c Within T2 later = is the_ground.within
+mean_media the_ground s c Beyond T2 later = grown_in s c (is the_ground.highest.air.0) (soil_beyond the_ground T2 later)
 
 -- no chemical: 0 in each
 unfoldable pub no_media : Media

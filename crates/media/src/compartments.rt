@@ -123,20 +123,20 @@ pub fn ground_of(site: Values, chemical: Values, particles: Pair) -> Grounded
 }
 
 // The mean over an exposure that goes beyond the deposition.
-fn soil_beyond(ground: Ground, exposure: Pair, later: Pair) -> Answer
-    ensures { answer result ≡ soil_beyond ground exposure later }
+fn soil_beyond(the_ground: Ground, exposure: Pair, later: Pair) -> Answer
+    ensures { answer result ≡ soil_beyond the_ground exposure later }
 {
-    let g = g_at(ground.loss.product(later));
-    let highest = ground.highest.soil.pair();
+    let g = g_at(the_ground.loss.product(later));
+    let highest = the_ground.highest.soil.pair();
     let left = highest.product(later).times(g);
-    let gathered = ground.gathered.answer();
+    let gathered = the_ground.gathered.answer();
     gathered.plus(left).over(exposure.answer())
 }
 
-pub(crate) fn beyond(ground: Ground, s: Values, c: Values, exposure: Pair, later: Pair) -> Found
-    ensures { found result ≡ mean_media ground s c Beyond exposure later }
+pub(crate) fn beyond(the_ground: Ground, s: Values, c: Values, exposure: Pair, later: Pair) -> Found
+    ensures { found result ≡ mean_media the_ground s c Beyond exposure later }
 {
-    let breathed = ground.highest.air.pair();
-    let soil = soil_beyond(ground, exposure, later);
+    let breathed = the_ground.highest.air.pair();
+    let soil = soil_beyond(the_ground, exposure, later);
     grown(s, c, breathed.answer(), soil)
 }

@@ -106,18 +106,18 @@ pub fn mean_series(x: Pair) -> Answer
 
 // The media of a receptor's cancer: its soil is the mean over the exposure, T2. later is T2 − tD where T2 is above tD.
 pub fn mean_concentrations(
-    ground: Ground,
+    the_ground: Ground,
     site: Values,
     chemical: Values,
     stay: Stay,
     exposure: Pair,
     later: Pair,
 ) -> Found
-    ensures { specs.found result ≡ specs.mean_media ground site chemical stay exposure later }
+    ensures { specs.found result ≡ specs.mean_media the_ground site chemical stay exposure later }
 {
-    let within = ground.within;
+    let within = the_ground.within;
     match stay {
         Stay::Within => Found::Is(within),
-        Stay::Beyond => beyond(ground, site, chemical, exposure, later),
+        Stay::Beyond => beyond(the_ground, site, chemical, exposure, later),
     }
 }

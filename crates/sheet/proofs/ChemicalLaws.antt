@@ -41,22 +41,22 @@ use Rattle.lists.proofs.AnyOf.{any_of_lem}
 use Rattle.cases.proofs.FirstMet as chains
 
 -- ---- a receptor's mean after another
-module _ (site' chemical' : Values) (list : List Receptor) (ground : Ground) (blank : Receptor) (j : ℕ) (here : j < length list) (r : Found)
-    (is_found : found r ≡ mean_with site' chemical' (get_or list j blank) ground) where
+module _ (site' chemical' : Values) (list : List Receptor) (the_ground : Ground) (blank : Receptor) (j : ℕ) (here : j < length list) (r : Found)
+    (is_found : found r ≡ mean_with site' chemical' (get_or list j blank) the_ground) where
   abbrev means : ℕ → Bool
-  means k = is_refused (mean_with site' chemical' (get_or list k no_receptor) ground)
+  means k = is_refused (mean_with site' chemical' (get_or list k no_receptor) the_ground)
 
-  mean_is : found r ≡ mean_with site' chemical' (get_or list j no_receptor) ground
-  mean_is = is_found ∙ ap (λ (x : Receptor). mean_with site' chemical' x ground) (read_any list j here blank no_receptor)
+  mean_is : found r ≡ mean_with site' chemical' (get_or list j no_receptor) the_ground
+  mean_is = is_found ∙ ap (λ (x : Receptor). mean_with site' chemical' x the_ground) (read_any list j here blank no_receptor)
 
-  pub mean_at_lem : (m : Media) → r ≡ Founds.Is m → m ≡ media_from (mean_with site' chemical' (get_or list j no_receptor) ground)
+  pub mean_at_lem : (m : Media) → r ≡ Founds.Is m → m ≡ media_from (mean_with site' chemical' (get_or list j no_receptor) the_ground)
   unfolding found media_from
   mean_at_lem m e = sym (ap (λ (x : Found). media_from (found x)) e) ∙ ap media_from mean_is
 
   pub mean_on : (m : Media) → r ≡ Founds.Is m → any_of means j ≡ false → any_of means (j + 1) ≡ false
   unfolding any_of found is_refused
   mean_on m e none =
-      let worked : is_refused (mean_with site' chemical' (get_or list j no_receptor) ground) ≡ false = sym (ap is_refused mean_is) ∙ ap (λ (x : Found). is_refused (found x)) e in
+      let worked : is_refused (mean_with site' chemical' (get_or list j no_receptor) the_ground) ≡ false = sym (ap is_refused mean_is) ∙ ap (λ (x : Found). is_refused (found x)) e in
       ap (any_of means) (add-one j) ∙ rw (none, worked) refl
 
   pub mean_stops : is_refused (found r) ≡ true → (count : ℕ) → j < count → any_of means count ≡ true
@@ -65,13 +65,13 @@ module _ (site' chemical' : Values) (list : List Receptor) (ground : Ground) (bl
 -- ---- a chemical's source
 module _ (site' : Values) (receptors' : Receptors) (chemical' : Record) (values' : Values) (of-chemical : values' ≡ values_of chemical') where
   -- from its ground
-  module _ (ground : Ground) (w : Bool) (list : List Media)
-      (worked : w ≡ not (any_of (λ j. is_refused (mean_with site' values' (get_or receptors'.list j no_receptor) ground)) receptors'.count)) (made : w ≡ true → list ≡ means_of site' values' receptors' ground)
+  module _ (the_ground : Ground) (w : Bool) (list : List Media)
+      (worked : w ≡ not (any_of (λ j. is_refused (mean_with site' values' (get_or receptors'.list j no_receptor) the_ground)) receptors'.count)) (made : w ≡ true → list ≡ means_of site' values' receptors' the_ground)
       (a : Absorbed) (a-is : a ≡ absorbed_of values') (refs : References) (refs-are : refs ≡ references_of chemical') where
-    pub from_worked : w ≡ not (any_of (λ j. is_refused (mean_with site' (values_of chemical') (get_or receptors'.list j no_receptor) ground)) receptors'.count)
-    from_worked = worked ∙ ap (λ (v : Values). not (any_of (λ j. is_refused (mean_with site' v (get_or receptors'.list j no_receptor) ground)) receptors'.count)) of-chemical
+    pub from_worked : w ≡ not (any_of (λ j. is_refused (mean_with site' (values_of chemical') (get_or receptors'.list j no_receptor) the_ground)) receptors'.count)
+    from_worked = worked ∙ ap (λ (v : Values). not (any_of (λ j. is_refused (mean_with site' v (get_or receptors'.list j no_receptor) the_ground)) receptors'.count)) of-chemical
 
-    pub from_made : w ≡ true → record { absorbed = a; media = ground.highest; means = list; references = refs } ≡ source_from site' chemical' receptors' (is ground)
+    pub from_made : w ≡ true → record { absorbed = a; media = the_ground.highest; means = list; references = refs } ≡ source_from site' chemical' receptors' (is the_ground)
     unfolding source_from source_with
     from_made e = rw (a-is, refs-are, made e, of-chemical) refl
 
@@ -86,16 +86,16 @@ module _ (site' : Values) (receptors' : Receptors) (chemical' : Record) (values'
     unfolding ground_with
     ground_is = is-told ∙ ap₂ (λ (v : Values) (q : Pair). ground_of (media_inputs site' v q)) of-chemical share
 
-    module _ (ground : Ground) (e : r ≡ Grounds.Is ground) where
-      laid : ground_with site' chemical' ≡ is ground
+    module _ (the_ground : Ground) (e : r ≡ Grounds.Is the_ground) where
+      laid : ground_with site' chemical' ≡ is the_ground
       unfolding grounded
       laid = sym ground_is ∙ ap grounded e
 
-      pub told_worked : lacks Ordinary Chemical chemical' ≡ false → (w : Bool) → w ≡ not (any_of (λ j. is_refused (mean_with site' (values_of chemical') (get_or receptors'.list j no_receptor) ground)) receptors'.count) → w ≡ not (stops_with site' receptors' chemical')
+      pub told_worked : lacks Ordinary Chemical chemical' ≡ false → (w : Bool) → w ≡ not (any_of (λ j. is_refused (mean_with site' (values_of chemical') (get_or receptors'.list j no_receptor) the_ground)) receptors'.count) → w ≡ not (stops_with site' receptors' chemical')
       unfolding stops_with stops_at
       told_worked whole w h = h ∙ sym (ap₂ (λ (b c : Bool). not (b || c)) whole (ap (λ (o : Outcome Ground). stops_at o (λ j g. mean_with site' (values_of chemical') (get_or receptors'.list j no_receptor) g) receptors'.count) laid))
 
-      pub told_made : (s : Source) → s ≡ source_from site' chemical' receptors' (is ground) → s ≡ source_of site' receptors' chemical'
+      pub told_made : (s : Source) → s ≡ source_from site' chemical' receptors' (is the_ground) → s ≡ source_of site' receptors' chemical'
       unfolding source_of
       told_made s h = h ∙ sym (ap (source_from site' chemical' receptors') laid)
 

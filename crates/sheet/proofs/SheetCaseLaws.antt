@@ -91,16 +91,16 @@ module _ (scenario : Scenario) {exact : Exact} (sound : Sound scenario exact) (j
       ap is_refused (ground_page (values_of scenario.site) (values_of (chemical_in scenario i)) (receptor_in scenario j).values (λ s. rest_of (given_in scenario i s)) (receptor_in scenario j).later)
       ∙ ground_all _ _ _ _ g.0.0 g.1.0 (m Hazard).0 (m Cancer).0 g.0.1.told g.1.1.told (m Hazard).1 (m Cancer).1
 
-  mean_told : (ground : Ground) → ground_for scenario i ≡ is ground → is_refused (mean_for scenario i j ground) ≡ false
+  mean_told : (the_ground : Ground) → ground_for scenario i ≡ is the_ground → is_refused (mean_for scenario i j the_ground) ≡ false
   unfolding env pairs_at mean_for mean_with stay_in ground_for particles_of given_in inputs by_owner owner_of place_of table same is_in place_in page.soil
-  mean_told ground laid =
-      ap is_refused (mean_media_lem (values_of scenario.site) (values_of (chemical_in scenario i)) (receptor_in scenario j).values (λ s. rest_of (given_in scenario i s)) (receptor_in scenario j).later ground laid (receptor_in scenario j).stay)
+  mean_told the_ground laid =
+      ap is_refused (mean_media_lem (values_of scenario.site) (values_of (chemical_in scenario i)) (receptor_in scenario j).values (λ s. rest_of (given_in scenario i s)) (receptor_in scenario j).later the_ground laid (receptor_in scenario j).stay)
       ∙ told_not _ _ (media_told (receptor_in scenario j).stay (sound.later j i j-small i-small) Cancer).1
 
-never_stops : (o : Outcome Ground) (means : ℕ → Ground → Outcome Media) (n : ℕ) → is_refused o ≡ false → ((ground : Ground) → o ≡ is ground → (j : ℕ) → j < n → is_refused (means j ground) ≡ false)
+never_stops : (o : Outcome Ground) (means : ℕ → Ground → Outcome Media) (n : ℕ) → is_refused o ≡ false → ((the_ground : Ground) → o ≡ is the_ground → (j : ℕ) → j < n → is_refused (means j the_ground) ≡ false)
     → stops_at o means n ≡ false
 unfolding stops_at is_refused
-never_stops (is ground) means n h g = none_any (λ j. is_refused (means j ground)) n (g ground refl)
+never_stops (is the_ground) means n h g = none_any (λ j. is_refused (means j the_ground)) n (g the_ground refl)
 never_stops (refused k) means n h g = h
 
 -- no chemical's media are refused, those of a receptor's cancer among them
@@ -108,7 +108,7 @@ pub none_refused : (scenario : Scenario) {exact : Exact} → Sound scenario exac
     → stops_at (ground_for scenario i) (mean_for scenario i) scenario.receptors.count ≡ false
 none_refused scenario sound i h =
     never_stops (ground_for scenario i) (mean_for scenario i) scenario.receptors.count (ground_told scenario sound 0 i sound.some_receptors h)
-    (λ ground laid j l. mean_told scenario sound j i l h ground laid)
+    (λ the_ground laid j l. mean_told scenario sound j i l h the_ground laid)
 
 pub few_records : (scenario : Scenario) {exact : Exact} → Sound scenario exact → miscounted scenario ≡ false
 unfolding miscounted

@@ -58,9 +58,9 @@ not_refused (refused n) h = absurd (true≢false h)
 
 -- what a chemical that does not stop has
 pub record Laid (o : Outcome Ground) (means : ℕ → Ground → Outcome Media) (n : ℕ) : Type 0 where
-  pub ground : Ground
-  pub laid : o ≡ is ground
-  pub worked : (j : ℕ) → j < n → means j ground ≡ is (media_from (means j ground))
+  pub the_ground : Ground
+  pub laid : o ≡ is the_ground
+  pub worked : (j : ℕ) → j < n → means j the_ground ≡ is (media_from (means j the_ground))
 
 told_from : (o : Outcome Media) → is_refused o ≡ false → o ≡ is (media_from o)
 unfolding is_refused media_from
@@ -69,7 +69,7 @@ told_from (refused n) h = absurd (true≢false h)
 
 pub not_stopped : (o : Outcome Ground) (means : ℕ → Ground → Outcome Media) (n : ℕ) → stops_at o means n ≡ false → Laid o means n
 unfolding stops_at
-not_stopped (is ground) means n h = record { ground = ground; laid = refl; worked = λ j l. told_from (means j ground) (none_of (λ k. is_refused (means k ground)) n h j l) }
+not_stopped (is the_ground) means n h = record { the_ground = the_ground; laid = refl; worked = λ j l. told_from (means j the_ground) (none_of (λ k. is_refused (means k the_ground)) n h j l) }
 not_stopped (refused k) means n h = absurd (true≢false h)
 
 -- hazard takes the highest year's media, cancer the receptor's means
@@ -77,7 +77,7 @@ media_by : Effect → Media → Media → Media
 media_by Hazard highest mean = highest
 media_by Cancer highest mean = mean
 
-module _ (scenario : Scenario) (j i : ℕ) (ground : Ground) (laid : ground_for scenario i ≡ is ground) (mean : Media) (mean_is : mean_for scenario i j ground ≡ is mean) where
+module _ (scenario : Scenario) (j i : ℕ) (the_ground : Ground) (laid : ground_for scenario i ≡ is the_ground) (mean : Media) (mean_is : mean_for scenario i j the_ground ≡ is mean) where
   S : Values
   S = values_of scenario.site
 
@@ -90,27 +90,27 @@ module _ (scenario : Scenario) (j i : ℕ) (ground : Ground) (laid : ground_for 
   rests : Slot → Pair
   rests = λ s. rest_of (given_in scenario i s)
 
-  ground_is : ground_of (media_inputs S C (rests "Fv")) ≡ is ground
+  ground_is : ground_of (media_inputs S C (rests "Fv")) ≡ is the_ground
   unfolding ground_for S C rests particles_of given_in by_owner owner_of place_of table same is_in place_in
   ground_is = laid
 
-  mean_page : mean_media ground S C (stay_in scenario j) (inputs S C R "T2") (receptor_in scenario j).later ≡ is mean
+  mean_page : mean_media the_ground S C (stay_in scenario j) (inputs S C R "T2") (receptor_in scenario j).later ≡ is mean
   unfolding mean_for mean_with stay_in S C R inputs by_owner owner_of place_of table same is_in place_in
   mean_page = mean_is
 
   -- they are the page's, read from the scenario's slots
-  media_page : (e : Effect) → media_in (pairs_at scenario j i) (page.soil e (stay_in scenario j)) ≡ is (media_by e ground.highest mean)
+  media_page : (e : Effect) → media_in (pairs_at scenario j i) (page.soil e (stay_in scenario j)) ≡ is (media_by e the_ground.highest mean)
   unfolding pairs_at page.soil media_by S C R rests
-  media_page Hazard = ground_highest S C R rests (receptor_in scenario j).later ground ground_is
+  media_page Hazard = ground_highest S C R rests (receptor_in scenario j).later the_ground ground_is
   media_page Cancer =
-      sym (mean_media_lem S C R rests (receptor_in scenario j).later ground ground_is (stay_in scenario j)) ∙ mean_page
+      sym (mean_media_lem S C R rests (receptor_in scenario j).later the_ground ground_is (stay_in scenario j)) ∙ mean_page
 
   media_told : (e : Effect) → Told (worked (pairs_at scenario j i) page.A) (worked (pairs_at scenario j i) (page.soil e (stay_in scenario j)))
-      (worked (pairs_at scenario j i) (page.above_ground (page.soil e (stay_in scenario j)))) (worked (pairs_at scenario j i) (page.below_ground (page.soil e (stay_in scenario j)))) (media_by e ground.highest mean)
+      (worked (pairs_at scenario j i) (page.above_ground (page.soil e (stay_in scenario j)))) (worked (pairs_at scenario j i) (page.below_ground (page.soil e (stay_in scenario j)))) (media_by e the_ground.highest mean)
   unfolding media_in
-  media_told e = four_told _ _ _ _ (media_by e ground.highest mean) (media_page e)
+  media_told e = four_told _ _ _ _ (media_by e the_ground.highest mean) (media_page e)
 
-  medium_told : (e : Effect) (p : Pathway) → worked (pairs_at scenario j i) (page.medium e (stay_in scenario j) p) ≡ is (medium_in p (media_by e ground.highest mean))
+  medium_told : (e : Effect) (p : Pathway) → worked (pairs_at scenario j i) (page.medium e (stay_in scenario j) p) ≡ is (medium_in p (media_by e the_ground.highest mean))
   unfolding page.medium medium_in
   medium_told e p =
       by_medium_lem (λ q (f : Formula) (c : Pair). worked (pairs_at scenario j i) f ≡ is c) (media_told e).air p (media_told e).soil (media_told e).above (media_told e).below
@@ -250,7 +250,7 @@ Agrees scenario j i e p f g =
     × (above_cap e (figure_for e f) ≡ (has_reference e scenario i p && high_above (cap_of e) (worked (pairs_at scenario j i) g)))
     × (is_refused (figure_for e f) ≡ (has_reference e scenario i p && is_refused (worked (pairs_at scenario j i) g)))
 
-module _ (scenario : Scenario) (j i : ℕ) (e : Effect) (ground : Ground) (laid : ground_for scenario i ≡ is ground) (mean : Media) (mean_is : mean_for scenario i j ground ≡ is mean) where
+module _ (scenario : Scenario) (j i : ℕ) (e : Effect) (the_ground : Ground) (laid : ground_for scenario i ≡ is the_ground) (mean : Media) (mean_is : mean_for scenario i j the_ground ≡ is mean) where
   site' : Values
   site' = values_of scenario.site
 
@@ -266,17 +266,17 @@ module _ (scenario : Scenario) (j i : ℕ) (e : Effect) (ground : Ground) (laid 
   -- of an intake
   module _ (y : Guidance) (p : Pathway) where
     dosed : Figured
-    dosed = dose_figures_with (habits_of y receptor') p site' (absorbed_of chemical') receptor' ground.highest mean references'
+    dosed = dose_figures_with (habits_of y receptor') p site' (absorbed_of chemical') receptor' the_ground.highest mean references'
 
     dose : Outcome Dose
-    dose = dose_for p (factor_of e p site' chemical' receptor') (media_by e ground.highest mean)
+    dose = dose_for p (factor_of e p site' chemical' receptor') (media_by e the_ground.highest mean)
 
     value : Value
     value = given_in scenario i (reference_slot e p)
 
     intake_is : mapped (λ (g : Dose). g.0) dose ≡ worked (pairs_at scenario j i) (page.intake e (stay_in scenario j) p)
     unfolding dose factor site' chemical' receptor'
-    intake_is = dose_is scenario j i e p (media_by e ground.highest mean) (medium_told scenario j i ground laid mean mean_is e p)
+    intake_is = dose_is scenario j i e p (media_by e the_ground.highest mean) (medium_told scenario j i the_ground laid mean mean_is e p)
 
     figure_is : of_two (figure_by e) (mapped (λ (g : Dose). g.0) dose) (is (pair_of value)) ≡ worked (pairs_at scenario j i) (page.intake_line e (stay_in scenario j) p)
     unfolding value
@@ -288,7 +288,7 @@ module _ (scenario : Scenario) (j i : ℕ) (e : Effect) (ground : Ground) (laid 
     figured : figure_for e dosed ≡ figure_of e dose (optional value)
     unfolding dosed dose value site' chemical' receptor' references'
     figured =
-        figure_for_lem y e p site' chemical' receptor' ground.highest mean (chemical_in scenario i)
+        figure_for_lem y e p site' chemical' receptor' the_ground.highest mean (chemical_in scenario i)
         ∙ ap (λ (v : Value). figure_of e dose (optional v)) (sym (reference_printed scenario i e p))
 
     intake_agrees : Agrees scenario j i e p dosed (page.intake_line e (stay_in scenario j) p)
@@ -302,7 +302,7 @@ module _ (scenario : Scenario) (j i : ℕ) (e : Effect) (ground : Ground) (laid 
 
   -- of a concentration in air
   air : AirConc
-  air = ground.highest.air
+  air = the_ground.highest.air
 
   in_air : Figured
   in_air = air_figures_with (in_air_of receptor') air references'
@@ -315,7 +315,7 @@ module _ (scenario : Scenario) (j i : ℕ) (e : Effect) (ground : Ground) (laid 
   air_is =
       let figure : Outcome Pair → Outcome Pair → Pair → Outcome Pair = λ t a v. of_two (air_figure_by e) (after product t a) (is v) in
       ap (λ (t : Outcome Pair). figure t (is air.0) (pair_of inhaled)) (time_read e scenario j i)
-      ∙ ap (λ (a : Outcome Pair). figure (worked (pairs_at scenario j i) (page.time_share e)) a (pair_of inhaled)) (sym (media_told scenario j i ground laid mean mean_is Hazard).air)
+      ∙ ap (λ (a : Outcome Pair). figure (worked (pairs_at scenario j i) (page.time_share e)) a (pair_of inhaled)) (sym (media_told scenario j i the_ground laid mean mean_is Hazard).air)
       ∙ ap (λ (v : Pair). figure (worked (pairs_at scenario j i) (page.time_share e)) (worked (pairs_at scenario j i) page.A) v) (sym (pair_printed scenario j i (reference_slot e Air) (reference_source e Air)))
       ∙ sym (air_line_by e (pairs_at scenario j i))
 
@@ -337,7 +337,7 @@ module _ (scenario : Scenario) (j i : ℕ) (e : Effect) (ground : Ground) (laid 
 
   -- by the year's guidance
   year_agrees : (y : Guidance) (p : Pathway) → Agrees scenario j i e p
-      (figures_with (habits_of y receptor') p site' (absorbed_of chemical') receptor' ground.highest mean references') (page.line y e (stay_in scenario j) p)
+      (figures_with (habits_of y receptor') p site' (absorbed_of chemical') receptor' the_ground.highest mean references') (page.line y e (stay_in scenario j) p)
   unfolding figures_with figures_by habits_of breathed_by page.line page.by_guidance dosed in_air air
   year_agrees Of2005 p = intake_agrees Of2005 p
   year_agrees Of2009 p = by_route_lem (Agrees scenario j i e) air_agrees p (intake_agrees Of2009 p)
@@ -347,33 +347,33 @@ module _ (scenario : Scenario) (j i : ℕ) (p : Pathway) (here : j < scenario.re
   has = not_stopped (ground_for scenario i) (mean_for scenario i) scenario.receptors.count told
 
   mean : Media
-  mean = media_from (mean_for scenario i j has.ground)
+  mean = media_from (mean_for scenario i j has.the_ground)
 
   source : Source
   source = source_of (values_of scenario.site) scenario.receptors (chemical_in scenario i)
 
-  source_is : source ≡ source_with (chemical_in scenario i) has.ground.highest (means_of (values_of scenario.site) (values_of (chemical_in scenario i)) scenario.receptors has.ground)
+  source_is : source ≡ source_with (chemical_in scenario i) has.the_ground.highest (means_of (values_of scenario.site) (values_of (chemical_in scenario i)) scenario.receptors has.the_ground)
   unfolding source source_of source_from ground_with ground_for
   source_is = ap (source_from (values_of scenario.site) (chemical_in scenario i) scenario.receptors) has.laid
 
-  mean_at_lem : mean_at (source_with (chemical_in scenario i) has.ground.highest (means_of (values_of scenario.site) (values_of (chemical_in scenario i)) scenario.receptors has.ground)) j ≡ mean
+  mean_at_lem : mean_at (source_with (chemical_in scenario i) has.the_ground.highest (means_of (values_of scenario.site) (values_of (chemical_in scenario i)) scenario.receptors has.the_ground)) j ≡ mean
   unfolding mean_at source_with means_of mean mean_for receptor_in
   mean_at_lem =
-      filled_at (λ k. media_from (mean_with (values_of scenario.site) (values_of (chemical_in scenario i)) (get_or scenario.receptors.list k no_receptor) has.ground)) no_media
+      filled_at (λ k. media_from (mean_with (values_of scenario.site) (values_of (chemical_in scenario i)) (get_or scenario.receptors.list k no_receptor) has.the_ground)) no_media
       scenario.receptors.count (replicate (most_receptors - scenario.receptors.count) no_media) j here
 
   figures_are : figures_from (site_of scenario.site) j (receptor_in scenario j).values source p
-      ≡ figures_with (habits_of (guidance_in scenario) (receptor_in scenario j).values) p (values_of scenario.site) (absorbed_of (values_of (chemical_in scenario i))) (receptor_in scenario j).values has.ground.highest mean (references_of (chemical_in scenario i))
+      ≡ figures_with (habits_of (guidance_in scenario) (receptor_in scenario j).values) p (values_of scenario.site) (absorbed_of (values_of (chemical_in scenario i))) (receptor_in scenario j).values has.the_ground.highest mean (references_of (chemical_in scenario i))
   unfolding figures_from site_of guidance_in source_with
   figures_are =
       ap (λ (s : Source). figures_from (site_of scenario.site) j (receptor_in scenario j).values s p) source_is
-      ∙ ap (λ (m : Media). figures_with (habits_of (guidance_in scenario) (receptor_in scenario j).values) p (values_of scenario.site) (absorbed_of (values_of (chemical_in scenario i))) (receptor_in scenario j).values has.ground.highest m (references_of (chemical_in scenario i))) mean_at_lem
+      ∙ ap (λ (m : Media). figures_with (habits_of (guidance_in scenario) (receptor_in scenario j).values) p (values_of scenario.site) (absorbed_of (values_of (chemical_in scenario i))) (receptor_in scenario j).values has.the_ground.highest m (references_of (chemical_in scenario i))) mean_at_lem
 
   line_agrees : Agrees scenario j i e p (figures_from (site_of scenario.site) j (receptor_in scenario j).values source p) (page.line (guidance_in scenario) e (stay_in scenario j) p)
   unfolding site' chemical' receptor' references' mean
   line_agrees =
       subst (λ (f : Figured). Agrees scenario j i e p f (page.line (guidance_in scenario) e (stay_in scenario j) p)) (sym figures_are)
-      (year_agrees scenario j i e has.ground has.laid mean (has.worked j here) (guidance_in scenario) p)
+      (year_agrees scenario j i e has.the_ground has.laid mean (has.worked j here) (guidance_in scenario) p)
 
 pub line_figures : (scenario : Scenario) (j i : ℕ) (p : Pathway) → j < scenario.receptors.count → stops_at (ground_for scenario i) (mean_for scenario i) scenario.receptors.count ≡ false → (e : Effect) →
     (columns_of e (figure_for e (figures_from (site_of scenario.site) j (receptor_in scenario j).values (source_of (values_of scenario.site) scenario.receptors (chemical_in scenario i)) p)) ≡ columns_at e scenario j i p)

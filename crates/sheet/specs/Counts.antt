@@ -36,14 +36,14 @@ ground_for scenario i = ground_of (media_inputs (values_of scenario.site) (value
 
 -- the media of a receptor's cancer, from a chemical's ground
 unfoldable pub mean_with : Values → Values → Receptor → Ground → Outcome Media
-mean_with site' chemical' r ground = mean_media ground site' chemical' r.stay (value_in r.values (place_of "T2")) r.later
+mean_with site' chemical' r the_ground = mean_media the_ground site' chemical' r.stay (value_in r.values (place_of "T2")) r.later
 
 unfoldable pub mean_for : Scenario → ℕ → ℕ → Ground → Outcome Media
-mean_for scenario i j ground = mean_with (values_of scenario.site) (values_of (chemical_in scenario i)) (receptor_in scenario j) ground
+mean_for scenario i j the_ground = mean_with (values_of scenario.site) (values_of (chemical_in scenario i)) (receptor_in scenario j) the_ground
 
 -- a ground is refused, or a receptor's media from it
 unfoldable pub stops_at : Outcome Ground → (ℕ → Ground → Outcome Media) → ℕ → Bool
-stops_at (is ground) means n = any_of (λ j. is_refused (means j ground)) n
+stops_at (is the_ground) means n = any_of (λ j. is_refused (means j the_ground)) n
 stops_at (refused k) means n = true
 
 -- 53 by chemical: a value that it needs is missing, or its media are refused, those of one receptor's cancer among them

@@ -62,8 +62,8 @@ ground_with site' chemical' = ground_of (media_inputs site' (values_of chemical'
 
 -- the receptors' means, and none where there is no receptor
 unfoldable pub means_of : Values → Values → Receptors → Ground → List Media
-means_of site' chemical' receptors' ground =
-    tabulate receptors'.count (λ j. media_from (mean_with site' chemical' (get_or receptors'.list j no_receptor) ground)) ++ replicate (most_receptors - receptors'.count) no_media
+means_of site' chemical' receptors' the_ground =
+    tabulate receptors'.count (λ j. media_from (mean_with site' chemical' (get_or receptors'.list j no_receptor) the_ground)) ++ replicate (most_receptors - receptors'.count) no_media
 
 unfoldable pub no_means : List Media
 no_means = replicate most_receptors no_media
@@ -81,7 +81,7 @@ unfoldable pub source_with : Record → Media → List Media → Source
 source_with chemical' highest means' = record { absorbed = absorbed_of (values_of chemical'); media = highest; means = means'; references = references_of chemical' }
 
 unfoldable pub source_from : Values → Record → Receptors → Outcome Ground → Source
-source_from site' chemical' receptors' (is ground) = source_with chemical' ground.highest (means_of site' (values_of chemical') receptors' ground)
+source_from site' chemical' receptors' (is the_ground) = source_with chemical' the_ground.highest (means_of site' (values_of chemical') receptors' the_ground)
 source_from site' chemical' receptors' (refused n) = source_with chemical' no_media no_means
 
 unfoldable pub source_of : Values → Receptors → Record → Source
@@ -104,7 +104,7 @@ source_at sources i = get_or sources.list i no_source
 -- 53, by chemical
 unfoldable pub stops_with : Values → Receptors → Record → Bool
 stops_with site' receptors' chemical' =
-    lacks Ordinary Chemical chemical' || stops_at (ground_with site' chemical') (λ j ground. mean_with site' (values_of chemical') (get_or receptors'.list j no_receptor) ground) receptors'.count
+    lacks Ordinary Chemical chemical' || stops_at (ground_with site' chemical') (λ j the_ground. mean_with site' (values_of chemical') (get_or receptors'.list j no_receptor) the_ground) receptors'.count
 
 unfoldable pub refused_source : Values → Receptors → List Record → ℕ → List Condition
 refused_source site' receptors' records i = at 53 (suc i) 0 (stops_with site' receptors' (get_or records i no_record)) ∷ []

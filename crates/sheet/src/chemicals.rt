@@ -53,13 +53,13 @@ fn no_source() -> Source
     }
 }
 
-fn mean_with(site: Values, chemical: Values, receptor: Receptor, ground: Ground) -> Found
-    ensures { media.found result ≡ mean_with site chemical receptor ground }
+fn mean_with(site: Values, chemical: Values, receptor: Receptor, the_ground: Ground) -> Found
+    ensures { media.found result ≡ mean_with site chemical receptor the_ground }
 {
     let stay = receptor.stay;
     let later = receptor.later;
     let values = receptor.values;
-    mean_concentrations(ground, site, chemical, stay, values.value(T2), later)
+    mean_concentrations(the_ground, site, chemical, stay, values.value(T2), later)
 }
 
 fn no_means() -> Means
@@ -81,17 +81,17 @@ fn not_sourced() -> Sourced
 }
 
 // The media of the receptors' cancer.
-fn means_of(site: Values, chemical: Values, receptors: Receptors, ground: Ground) -> Means
+fn means_of(site: Values, chemical: Values, receptors: Receptors, the_ground: Ground) -> Means
     requires { receptors.count ≤ most_receptors }
-    ensures worked_value { result.worked ≡ not (any_of (λ j. is_refused (mean_with site chemical (get_or receptors.list j no_receptor) ground)) receptors.count) }
-    ensures list_value { result.worked ≡ true → result.list ≡ means_of site chemical receptors ground }
+    ensures worked_value { result.worked ≡ not (any_of (λ j. is_refused (mean_with site chemical (get_or receptors.list j no_receptor) the_ground)) receptors.count) }
+    ensures list_value { result.worked ≡ true → result.list ≡ means_of site chemical receptors the_ground }
 {
     let count = receptors.count;
     let mut list = [Media::none(); MAX_RECEPTORS];
     let mut j: usize = 0;
     while j < count {
         let receptor = receptors.list[j];
-        let Found::Is(m) = mean_with(site, chemical, receptor, ground) else {
+        let Found::Is(m) = mean_with(site, chemical, receptor, the_ground) else {
             return no_means();
         };
         list[j] = m;
@@ -106,14 +106,14 @@ fn source_from(
     chemical: Record,
     values: Values,
     receptors: Receptors,
-    ground: Ground,
+    the_ground: Ground,
 ) -> Sourced
     requires { (receptors.count ≤ most_receptors) × (values ≡ values_of chemical) }
-    ensures worked_value { result.worked ≡ not (any_of (λ j. is_refused (mean_with site (values_of chemical) (get_or receptors.list j no_receptor) ground)) receptors.count) }
-    ensures source_value { result.worked ≡ true → result.source ≡ source_from site chemical receptors (is ground) }
+    ensures worked_value { result.worked ≡ not (any_of (λ j. is_refused (mean_with site (values_of chemical) (get_or receptors.list j no_receptor) the_ground)) receptors.count) }
+    ensures source_value { result.worked ≡ true → result.source ≡ source_from site chemical receptors (is the_ground) }
 {
-    let highest = ground.highest;
-    let made = means_of(site, values, receptors, ground);
+    let highest = the_ground.highest;
+    let made = means_of(site, values, receptors, the_ground);
     let means = made.list;
     Sourced {
         worked: made.worked,
@@ -136,10 +136,10 @@ fn source_of(site: Values, chemical: Record, receptors: Receptors) -> Sourced
         return not_sourced();
     }
     let values = values_of(chemical);
-    let Grounded::Is(ground) = ground_of(site, values, particles_of(chemical)) else {
+    let Grounded::Is(the_ground) = ground_of(site, values, particles_of(chemical)) else {
         return not_sourced();
     };
-    source_from(site, chemical, values, receptors, ground)
+    source_from(site, chemical, values, receptors, the_ground)
 }
 
 // Chemical i, counted from 1, stops the report.

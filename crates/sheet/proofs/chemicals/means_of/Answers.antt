@@ -18,7 +18,7 @@ pub loop-j-init : goal.loop-j-init
 unfolding any_of
 loop-j-init c =
     let s = c in
-    (omega arith, ap (replicate most_receptors) c.none-list.ensures ∙ filled_start (λ k. media_from (mean_with s.args.site s.args.chemical (get_or s.args.receptors.list k no_receptor) s.args.ground)) no_media 4, refl)
+    (omega arith, ap (replicate most_receptors) c.none-list.ensures ∙ filled_start (λ k. media_from (mean_with s.args.site s.args.chemical (get_or s.args.receptors.list k no_receptor) s.args.the_ground)) no_media 4, refl)
 
 pub returns-in_default : goal.returns-in_default
 unfolding found is_refused
@@ -30,7 +30,7 @@ returns-in_default c =
     let here : l.j < length s.args.receptors.list = omega (arith, test, s.requires) in
     let mean = c.mean_with in
     let none : is_refused (found mean.result) ≡ true = rw c.in_default.is refl in
-    let stop = c.no_means.ensures in record { worked_value = stop ∙ sym (ap not (mean_stops s.args.site s.args.chemical s.args.receptors.list s.args.ground _ l.j here mean.result mean.ensures none s.args.receptors.count test)); list_value = λ e. absurd (false≢true (sym stop ∙ e)) }
+    let stop = c.no_means.ensures in record { worked_value = stop ∙ sym (ap not (mean_stops s.args.site s.args.chemical s.args.receptors.list s.args.the_ground _ l.j here mean.result mean.ensures none s.args.receptors.count test)); list_value = λ e. absurd (false≢true (sym stop ∙ e)) }
 
 pub offset_bounds-list-j : goal.offset_bounds-list-j
 offset_bounds-list-j c = record { fits = omega (arith, c.loop-j-test.true, c.requires) }
@@ -48,9 +48,9 @@ loop-j-preserved c =
     let mean = c.mean_with in
     let is = c.in-Is.is in (
       omega (arith, test),
-      filled_more (λ k. media_from (mean_with s.args.site s.args.chemical (get_or s.args.receptors.list k no_receptor) s.args.ground)) no_media most_receptors l.j (omega (arith, test, s.requires)) l.list l.invariant.1 _
-          (mean_at_lem s.args.site s.args.chemical s.args.receptors.list s.args.ground _ l.j here mean.result mean.ensures _ is),
-      mean_on s.args.site s.args.chemical s.args.receptors.list s.args.ground _ l.j here mean.result mean.ensures _ is l.invariant.2,
+      filled_more (λ k. media_from (mean_with s.args.site s.args.chemical (get_or s.args.receptors.list k no_receptor) s.args.the_ground)) no_media most_receptors l.j (omega (arith, test, s.requires)) l.list l.invariant.1 _
+          (mean_at_lem s.args.site s.args.chemical s.args.receptors.list s.args.the_ground _ l.j here mean.result mean.ensures _ is),
+      mean_on s.args.site s.args.chemical s.args.receptors.list s.args.the_ground _ l.j here mean.result mean.ensures _ is l.invariant.2,
     )
 
 pub returns : goal.returns

@@ -15,8 +15,8 @@ use Rattle.sheet.proofs.chemicals.means_of.Given as goal
 abbrev pub invariant-loop-j : goal.invariant-loop-j
 invariant-loop-j l =
     (l.j ≤ l.receptors.count)
-    × (l.list ≡ tabulate l.j (λ k. media_from (mean_with l.site l.chemical (get_or l.receptors.list k no_receptor) l.ground)) ++ replicate (most_receptors - l.j) no_media)
-    × (any_of (λ k. is_refused (mean_with l.site l.chemical (get_or l.receptors.list k no_receptor) l.ground)) l.j ≡ false)
+    × (l.list ≡ tabulate l.j (λ k. media_from (mean_with l.site l.chemical (get_or l.receptors.list k no_receptor) l.the_ground)) ++ replicate (most_receptors - l.j) no_media)
+    × (any_of (λ k. is_refused (mean_with l.site l.chemical (get_or l.receptors.list k no_receptor) l.the_ground)) l.j ≡ false)
 
 abbrev pub decreases-loop-j : goal.decreases-loop-j
 decreases-loop-j l = l.receptors.count - l.j
