@@ -1,4 +1,4 @@
-/* Risk sheets from decks: the C interface of the library zilmorga (libzilmorga.a, written by `rt staticlib zilmorga`).
+/* Risk sheets from decks: the C interface of the library zilmorga (libzilmorga.a, written by `rt lib` in crates/zilmorga).
  *
  * Every call returns 0, or the number of the first condition that stops it:
  *

@@ -11,7 +11,7 @@ fn main() {
     }
     // A relative folder is taken from the package's own.
     let package = var("CARGO_MANIFEST_DIR").unwrap_or_default();
-    let folder = Path::new(&package).join(var("ZILMORGA_LIB").unwrap_or("../target/staticlib".to_string()));
+    let folder = Path::new(&package).join(var("ZILMORGA_LIB").unwrap_or("../crates/zilmorga/out".to_string()));
     println!("cargo:rerun-if-changed={}", folder.join("libzilmorga.a").display());
     println!("cargo:rustc-link-search=native={}", folder.display());
     // A library that carries Rust's own std in one object brings some of its symbols a second time.
