@@ -46,10 +46,13 @@ def code(path):
 
 
 def snake(part):
-    if part in LETTERS or not re.match(r"[a-zα-ω]", part):
-        return part
-    part = re.sub(r"(?<=[a-z0-9α-ω])(?=[A-Z])", "_", part)
-    return part.lower() if re.search(r"[A-Z]", part) else part
+    return "_".join(snake_word(word) for word in part.split("_"))
+
+
+def snake_word(word):
+    if word in LETTERS or not re.match(r"[a-zα-ω]", word):
+        return word
+    return re.sub(r"(?<=[a-z0-9α-ω])(?=[A-Z])", "_", word).lower()
 
 
 def declared(path):
