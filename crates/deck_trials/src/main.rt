@@ -7,9 +7,12 @@
 
 use cases::{Case, Record, Value};
 use deck::{LINE_WIDTH, MAX_COMPOSITE_LENGTH, Reading};
-use sizes::{MAX_CHEMICALS, MAX_RECEPTORS, MAX_STAGES, SLOTS};
+use sizes::{MAX_RECEPTORS, MAX_STAGES};
 use slots::Sort;
-use trials::{Head, Tally, said};
+use std::io;
+use std::io::Read;
+use std::rt::Files;
+use trials::{Head, Tally};
 
 // A line more than the longest deck has.
 const ROOM: usize = MAX_COMPOSITE_LENGTH + LINE_WIDTH;
@@ -33,11 +36,8 @@ fn mixed_value(sum: u64, value: Value) -> u64 {
 
 fn mixed_record(sum: u64, record: Record) -> u64 {
     let mut all = mixed(sum, record.id as u64);
-    let n = SLOTS;
-    for k in 0..n {
-        let slot = record.slots[k];
-        let value = slot.value;
-        all = mixed_value(all, value);
+    for slot in &record.slots {
+        all = mixed_value(all, slot.value);
     }
     all
 }
@@ -53,24 +53,16 @@ fn room(sort: Sort) -> usize {
 // Every record that a deck of this sort may have, used or not.
 fn mixed_case(case: Case, sort: Sort) -> u64 {
     let mut all = mixed_record(0, case.site);
-    let chemicals = case.chemicals;
-    let n = MAX_CHEMICALS;
-    for i in 0..n {
-        let record = chemicals.records[i];
-        all = mixed_record(all, record);
+    for record in &case.chemicals.records {
+        all = mixed_record(all, *record);
     }
     mixed_receptors(all, case, room(sort))
 }
 
 fn mixed_receptors(sum: u64, case: Case, most: usize) -> u64 {
-    let receptors = case.receptors;
     let mut all = sum;
-    let n = MAX_STAGES;
-    for i in 0..n {
-        if i < most {
-            let record = receptors.records[i];
-            all = mixed_record(all, record);
-        }
+    for record in case.receptors.records.iter().take(most) {
+        all = mixed_record(all, *record);
     }
     all
 }
@@ -102,56 +94,63 @@ fn agrees(head: Head, reading: Reading, sort: Sort) -> bool {
     )
 }
 
-fn failure(place: u64, head: Head) {
-    said(b"deck ", place, b" is not answered by ");
-    said(b"", head.numbers[1], b" ");
-    said(b"", head.numbers[2], b" ");
-    said(b"", head.numbers[3], b"\n");
+fn failure(rt: &impl Print, place: u64, head: Head) -> io::Result<()> {
+    let [_, number, line, field, _] = head.numbers;
+    println!(rt; "deck {place} is not answered by {number} {line} {field}")
 }
 
 // The deck that stands next in the file, in a lent buffer.
-fn next_in(bytes: &mut [u8], fd: i32, tally: Tally, sort: Sort) -> Tally {
-    let head = trials::next_head(fd);
+fn next_in<R: Read>(
+    rt: &impl Print,
+    bytes: &mut [u8],
+    file: &mut R,
+    tally: Tally,
+    sort: Sort,
+) -> io::Result<Tally> {
+    let head = trials::next_head(file);
     let length = head.numbers[0];
-    let got = trials::next_part(fd, bytes, length);
+    let got = trials::next_part(file, bytes, length);
     if !head.good || got as u64 != length {
-        return tally.end();
+        return Ok(tally.end());
     }
     let right = agrees(head, deck::read(&bytes[..got], sort), sort);
     let all = tally.with(head.numbers[1] != 0, right);
     if !right {
-        failure(all.run, head);
+        failure(rt, all.run, head)?;
     }
-    all
+    Ok(all)
 }
 
-fn next(fd: i32, tally: Tally, sort: Sort) -> Tally {
+fn next<R: Read>(rt: &impl Print, file: &mut R, tally: Tally, sort: Sort) -> io::Result<Tally> {
     let mut bytes = [0u8; ROOM];
-    next_in(&mut bytes, fd, tally, sort)
+    next_in(rt, &mut bytes, file, tally, sort)
 }
 
 // Each deck in turn, up to the file's end.
-fn trial(fd: i32, sort: Sort) -> Tally {
+fn trial<R: Read>(rt: &impl Print, file: &mut R, sort: Sort) -> io::Result<Tally> {
     let mut tally = Tally::new();
-    let mut left = trials::MOST;
-    while 0 < left && !tally.ended {
-        tally = next(fd, tally, sort);
-        left -= 1;
+    for _ in 0..trials::MOST {
+        tally = next(rt, file, tally, sort)?;
+        if tally.ended {
+            break;
+        }
     }
-    tally
+    Ok(tally)
 }
 
-// The file's decks, each read as one of this sort.
-fn run(path: &[u8], sort: Sort) {
-    let fd = trials::open(path);
-    let all = trial(fd, sort);
-    libc::close(fd);
-    said(b"", all.run, b" decks, ");
-    said(b"", all.refused, b" of them stopped, ");
-    said(b"", all.failed, b" answered otherwise\n");
+// The file's decks, each read as one of this sort; none where it cannot be opened.
+fn run(rt: &(impl Files + Print + Eprint), path: &str, sort: Sort) -> io::Result<()> {
+    let all = match trials::open(rt, path) {
+        Some(mut file) => trial(rt, &mut file, sort)?,
+        None => Tally::new(),
+    };
+    println!(rt;
+        "{} decks, {} of them stopped, {} answered otherwise",
+        all.run, all.refused, all.failed
+    )
 }
 
-fn main() {
-    run(b"decks", Sort::Ordinary);
-    run(b"composites", Sort::Composite);
+fn main(rt: HostRuntime) -> io::Result<()> {
+    run(&rt, "decks", Sort::Ordinary)?;
+    run(&rt, "composites", Sort::Composite)
 }

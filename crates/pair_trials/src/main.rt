@@ -7,8 +7,12 @@ mod vector;
 
 ghost use Rattle.std.specs.Prelude.{◌≤◌};
 
-use libc::STDOUT_FILENO;
-use trials::{Tally, said};
+use std::io;
+use std::rt::Files;
+use trials::Tally;
+
+// Room for any file of vectors, and a byte more.
+const ROOM: usize = 65536;
 
 // The tallies of the sixteen operations, at 16 that of what names none of them, and that of all.
 #[derive(Clone, Copy)]
@@ -18,99 +22,104 @@ struct Tallies {
 }
 
 // One line of a file, or as line 0 the file: whether it agrees.
-fn counted(tallies: Tallies, path: &[u8], line: u64, operation: usize, agrees: bool) -> Tallies
+fn counted(
+    rt: &impl Print,
+    tallies: Tallies,
+    path: &str,
+    line: u64,
+    operation: usize,
+    agrees: bool,
+) -> io::Result<Tallies>
     requires { operation ≤ 16 }
 {
     if !agrees {
-        io::write_all(STDOUT_FILENO, path);
-        said(b" line ", line, b" differs\n");
+        println!(rt; "{path} line {line} differs")?;
     }
     let mut each = tallies.each;
     let one = each[operation];
     each[operation] = one.with(false, agrees);
     let all = tallies.all;
-    Tallies {
+    Ok(Tallies {
         each,
         all: all.with(false, agrees),
-    }
+    })
 }
 
 // Each line of a file's bytes in turn.
-fn lines(tallies: Tallies, path: &[u8], s: &[u8]) -> Tallies {
+fn lines(rt: &impl Print, tallies: Tallies, path: &str, s: &[u8]) -> io::Result<Tallies> {
     let mut next = tallies;
     let mut at = 0;
     let mut line: u64 = 0;
     while at < s.len() {
-        line = std::num::wrapping_add_u64(line, 1);
+        line = line.wrapping_add(1);
         let end = trials::past(s, at, b' ', 255);
         let vector = &s[at..end];
         let operation = vector::operation(vector);
         next = counted(
+            rt,
             next,
             path,
             line,
             operation,
             vector::agrees(operation, vector),
-        );
+        )?;
         at = end + 1;
     }
-    next
+    Ok(next)
 }
 
 // A file that cannot be read, or fills the buffer and so may be cut short, differs as its line 0.
-fn file(tallies: Tallies, path: &[u8]) -> Tallies {
-    let mut buffer = io::large_buffer();
-    let n = trials::file(path, &mut buffer);
-    let next = lines(tallies, path, &buffer[..n]);
+fn file(rt: &(impl Files + Print + Eprint), tallies: Tallies, path: &str) -> io::Result<Tallies> {
+    let mut buffer = [0u8; ROOM];
+    let n = trials::file(rt, path, &mut buffer);
+    let next = lines(rt, tallies, path, &buffer[..n])?;
     if 0 < n && n < buffer.len() {
-        return next;
+        return Ok(next);
     }
-    counted(next, path, 0, 16, false)
+    counted(rt, next, path, 0, 16, false)
 }
 
-fn result(name: &[u8], tally: Tally) {
-    said(name, trials::others(tally.run, tally.failed), b" agree, ");
-    said(b"", tally.failed, b" differ\n");
+fn result(rt: &impl Print, name: &str, tally: Tally) -> io::Result<()> {
+    let agree = trials::others(tally.run, tally.failed);
+    println!(rt; "{name} {agree} agree, {} differ", tally.failed)
 }
 
-fn results(tallies: Tallies) {
+fn results(rt: &impl Print, tallies: Tallies) -> io::Result<()> {
     let each = tallies.each;
-    result(b"sum ", each[0]);
-    result(b"product ", each[1]);
-    result(b"quotient ", each[2]);
-    result(b"one_minus ", each[3]);
-    result(b"entry ", each[4]);
-    result(b"compare ", each[5]);
-    result(b"in_units ", each[6]);
-    result(b"one_minus_entry ", each[7]);
-    result(b"long_entry ", each[8]);
-    result(b"checked ", each[9]);
-    result(b"times_over ", each[10]);
-    result(b"plus_product ", each[11]);
-    result(b"through ", each[12]);
-    result(b"next_term ", each[13]);
-    result(b"absorbs ", each[14]);
-    result(b"raised ", each[15]);
-    let other = each[16];
-    said(b"no operation ", other.failed, b" differ\n");
-    said(b"total ", tallies.all.run, b", ");
-    said(b"", tallies.all.failed, b" differ\n");
+    result(rt, "sum", each[0])?;
+    result(rt, "product", each[1])?;
+    result(rt, "quotient", each[2])?;
+    result(rt, "one_minus", each[3])?;
+    result(rt, "entry", each[4])?;
+    result(rt, "compare", each[5])?;
+    result(rt, "in_units", each[6])?;
+    result(rt, "one_minus_entry", each[7])?;
+    result(rt, "long_entry", each[8])?;
+    result(rt, "checked", each[9])?;
+    result(rt, "times_over", each[10])?;
+    result(rt, "plus_product", each[11])?;
+    result(rt, "through", each[12])?;
+    result(rt, "next_term", each[13])?;
+    result(rt, "absorbs", each[14])?;
+    result(rt, "raised", each[15])?;
+    println!(rt; "no operation {} differ", each[16].failed)?;
+    println!(rt; "total {}, {} differ", tallies.all.run, tallies.all.failed)
 }
 
-fn main() {
+fn main(rt: HostRuntime) -> io::Result<()> {
     let none = Tally::new();
     let t = Tallies {
         each: [none; 17],
         all: none,
     };
-    let t = file(t, b"vectors_1");
-    let t = file(t, b"vectors_2");
-    let t = file(t, b"vectors_3");
-    let t = file(t, b"vectors_4");
-    let t = file(t, b"vectors_5");
-    let t = file(t, b"vectors_6");
-    let t = file(t, b"vectors_7");
-    let t = file(t, b"vectors_8");
-    let t = file(t, b"vectors_9");
-    results(file(t, b"vectors_10"));
+    let t = file(&rt, t, "vectors_1")?;
+    let t = file(&rt, t, "vectors_2")?;
+    let t = file(&rt, t, "vectors_3")?;
+    let t = file(&rt, t, "vectors_4")?;
+    let t = file(&rt, t, "vectors_5")?;
+    let t = file(&rt, t, "vectors_6")?;
+    let t = file(&rt, t, "vectors_7")?;
+    let t = file(&rt, t, "vectors_8")?;
+    let t = file(&rt, t, "vectors_9")?;
+    results(&rt, file(&rt, t, "vectors_10")?)
 }

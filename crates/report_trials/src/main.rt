@@ -8,6 +8,9 @@
 use cases::Told;
 use deck::{LINE_WIDTH, MAX_COMPOSITE_LENGTH};
 use slots::Sort;
+use std::io;
+use std::io::{Read, Write};
+use std::rt::Files;
 use trials::{Head, Tally, said};
 
 // Room for any stored deck, which may have a line too many, and for any stored buffer, which may be 700 bytes longer than the report.
@@ -33,11 +36,11 @@ fn report_length(head: Head) -> u64 {
 }
 
 // Tells the place of a deck that is not answered as stored, and what the call told.
-fn put_difference(place: u64, told: Told) {
-    said(b"not as stored: deck ", place, b"\n");
-    said(b"  number ", told.number as u64, b"\n");
-    said(b"  line ", told.line as u64, b"\n");
-    said(b"  field ", told.field as u64, b"\n");
+fn put_difference<W: Write>(to: &mut W, place: u64, told: Told) -> io::Result<()> {
+    said(to, "not as stored: deck ", place, "\n")?;
+    said(to, "  number ", told.number as u64, "\n")?;
+    said(to, "  line ", told.line as u64, "\n")?;
+    said(to, "  field ", told.field as u64, "\n")
 }
 
 // The call on decks of this sort.
@@ -49,75 +52,90 @@ fn reported(sort: Sort, deck: &[u8], buffer: &mut [u8]) -> Told {
 }
 
 // Runs a deck in as much of a filled buffer as its head asks for. The whole buffer must then be the one that is expected.
-fn answered(
+fn answered<W: Write>(
+    to: &mut W,
     sort: Sort,
     head: Head,
     deck: &[u8],
     buffer: &mut [u8],
     expected: &[u8],
     tally: Tally,
-) -> Tally {
+) -> io::Result<Tally> {
     trials::fill(buffer);
     let room = trials::room(head.numbers[1], buffer);
     let told = reported(sort, deck, &mut buffer[..room]);
-    let right = agrees(head, room, told) && check::same(buffer, expected);
+    let right = agrees(head, room, told) && *buffer == *expected;
     let all = tally.with(told.number != 0, right);
     if !right {
-        put_difference(all.run, told);
+        put_difference(to, all.run, told)?;
     }
-    all
+    Ok(all)
 }
 
 // The deck that stands next in the file, in lent buffers.
-fn next_in(
+fn next_in<R: Read, W: Write>(
     deck: &mut [u8],
     buffer: &mut [u8],
     expected: &mut [u8],
-    fd: i32,
+    file: &mut R,
+    to: &mut W,
     sort: Sort,
     tally: Tally,
-) -> Tally {
-    let head = trials::next_head(fd);
+) -> io::Result<Tally> {
+    let head = trials::next_head(file);
     let length = report_length(head);
     trials::fill(expected);
-    let n = trials::next_part(fd, deck, head.numbers[0]);
-    let m = trials::next_part(fd, expected, length);
+    let n = trials::next_part(file, deck, head.numbers[0]);
+    let m = trials::next_part(file, expected, length);
     if !head.good || n as u64 != head.numbers[0] || m as u64 != length {
-        return tally.end();
+        return Ok(tally.end());
     }
-    answered(sort, head, &deck[..n], buffer, expected, tally)
+    answered(to, sort, head, &deck[..n], buffer, expected, tally)
 }
 
-fn next(fd: i32, sort: Sort, tally: Tally) -> Tally {
+fn next<R: Read, W: Write>(
+    file: &mut R,
+    to: &mut W,
+    sort: Sort,
+    tally: Tally,
+) -> io::Result<Tally> {
     let mut deck = [0u8; DECK_ROOM];
     let mut buffer = [0u8; REPORT_ROOM];
     let mut expected = [0u8; REPORT_ROOM];
-    next_in(&mut deck, &mut buffer, &mut expected, fd, sort, tally)
+    next_in(&mut deck, &mut buffer, &mut expected, file, to, sort, tally)
 }
 
 // Each deck in turn, up to the file's end.
-fn trial(fd: i32, sort: Sort) -> Tally {
+fn trial<R: Read, W: Write>(file: &mut R, to: &mut W, sort: Sort) -> io::Result<Tally> {
     let mut tally = Tally::new();
-    let mut left = trials::MOST;
-    while 0 < left && !tally.ended {
-        tally = next(fd, sort, tally);
-        left -= 1;
+    for _ in 0..trials::MOST {
+        tally = next(file, to, sort, tally)?;
+        if tally.ended {
+            break;
+        }
     }
-    tally
+    Ok(tally)
 }
 
-// The file's decks, each one of this sort.
-fn run(path: &[u8], sort: Sort) {
-    let fd = trials::open(path);
-    let all = trial(fd, sort);
-    libc::close(fd);
-    said(b"decks ", all.run, b"\n");
-    said(b"accepted ", trials::others(all.run, all.refused), b"\n");
-    said(b"refused ", all.refused, b"\n");
-    said(b"differing ", all.failed, b"\n");
+// The file's decks, each one of this sort; none where it cannot be opened.
+fn run(rt: &(impl Files + Print + Eprint), path: &str, sort: Sort) -> io::Result<()> {
+    let mut out = io::writer(rt);
+    let all = match trials::open(rt, path) {
+        Some(mut file) => trial(&mut file, &mut out, sort)?,
+        None => Tally::new(),
+    };
+    said(&mut out, "decks ", all.run, "\n")?;
+    said(
+        &mut out,
+        "accepted ",
+        trials::others(all.run, all.refused),
+        "\n",
+    )?;
+    said(&mut out, "refused ", all.refused, "\n")?;
+    said(&mut out, "differing ", all.failed, "\n")
 }
 
-fn main() {
-    run(b"decks", Sort::Ordinary);
-    run(b"composites", Sort::Composite);
+fn main(rt: HostRuntime) -> io::Result<()> {
+    run(&rt, "decks", Sort::Ordinary)?;
+    run(&rt, "composites", Sort::Composite)
 }

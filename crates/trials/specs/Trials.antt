@@ -1,5 +1,6 @@
 -- The parts of a trial, and the tally.
-use Rattle.std.specs.Prelude.{ℕ, zero, suc, ◌+◌, ◌*◌, ◌%◌, ◌^◌, Bool, true, false, cond, not, List, [], ◌∷◌, ◌++◌, length, take, drop, nat_le}
+use Rattle.std.specs.Prelude.{◌≡◌, ℕ, zero, suc, ◌+◌, ◌*◌, ◌%◌, ◌^◌, ◌≤◌, Bool, true, false, cond, not, List, [], ◌∷◌, ◌++◌, length, take, drop, nat_le, Option}
+use Rattle.std.specs.Io.KnownBytes.{Consumes}
 use Rattle.trials.specs.Text.{leading, no_whole, whole_of}
 use Rattle.trials.specs.declared.stored.Head.{Head}
 use Rattle.trials.specs.declared.counting.Tally.{Tally}
@@ -43,3 +44,11 @@ tallied t refused agrees = record { run = more_if true t.run; refused = more_if 
 
 abbrev pub ended_of : Tally → Tally
 ended_of t = record { run = t.run; refused = t.refused; failed = t.failed; ended = true }
+
+-- how many bytes stand at the start of a buffer: no more than it has
+abbrev pub IsPrefixLen : ℕ → List ℕ → Type 0
+IsPrefixLen n xs = (n ≤ length xs) × (n ≡ length (take n xs))
+
+-- a good head is that of the next 31 bytes of the input, which are read
+abbrev pub IsNextHead : Option (List ℕ) → Option (List ℕ) → Head → Type 0
+IsNextHead old new head = head.good ≡ true → (line : List ℕ) × (length line ≡ 31) × Consumes old new line × (head ≡ head_of line)

@@ -1,8 +1,10 @@
 //! How many trials were run, and how they went.
-ghost use Rattle.std.specs.Prelude.{◌≡◌, ◌-◌};
+ghost use Rattle.std.specs.Prelude.{◌≡◌, ◌-◌, ◌++◌, OnOk, decimal};
+ghost use Rattle.std.specs.Io.KnownBytes.{Appends};
 ghost use Rattle.trials.specs.Trials.{more_if, no_tally, tallied, ended_of};
 
-use libc::STDOUT_FILENO;
+use std::io;
+use std::io::Write;
 
 // Trials of a file at most: a loop over them ends.
 pub const MOST: usize = 10000;
@@ -20,7 +22,7 @@ fn more_if(yes: bool, n: u64) -> u64
     ensures { result ≡ more_if yes n }
 {
     if yes {
-        return std::num::wrapping_add_u64(n, 1);
+        return n.wrapping_add(1);
     }
     n
 }
@@ -72,9 +74,9 @@ impl Tally {
     }
 }
 
-// A number between two texts, on standard output.
-pub fn said(before: &[u8], n: u64, after: &[u8]) {
-    io::write_all(STDOUT_FILENO, before);
-    io::print_decimal(STDOUT_FILENO, n);
-    io::write_all(STDOUT_FILENO, after);
+// A number between two texts.
+pub fn said<W: Write>(to: &mut W, before: &str, n: u64, after: &str) -> io::Result<()>
+    ensures { OnOk result (Appends (W.contents to.old) (W.contents to.new) (before.now ++ (decimal n ++ after.now))) }
+{
+    write!(to, "{before}{n}{after}")
 }

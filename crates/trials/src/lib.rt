@@ -1,5 +1,6 @@
 //! What the programs that run stored trials share. A stored trial is a line of five numbers in 6 columns each, the bytes of its input and those
-//! of its answer; or it is a line of text. What is read and written no contract can say: such calls are proved safe.
+//! of its answer; or it is a line of text. What a file holds no contract can say: what is read and written is proved of readers and writers whose
+//! bytes are known.
 #![tactic(auto)]
 
 mod counting;

@@ -1,9 +1,12 @@
 //! Stored files, and the parts of a trial: its head, its bytes and its answer.
-ghost use Rattle.std.specs.Prelude.{◌≡◌, ◌≤◌, min, length};
-ghost use Rattle.io.specs.Counts.{IsPrefixLen};
-ghost use Rattle.trials.specs.Trials.{column_of, head_of, filled};
+ghost use Rattle.std.specs.Prelude.{◌≡◌, ◌≤◌, min, length, take};
+ghost use Rattle.std.specs.Io.KnownBytes.{Consumes};
+ghost use Rattle.trials.specs.Trials.{column_of, head_of, filled, IsPrefixLen, IsNextHead};
 
 use crate::text::{Whole, digits, no_whole, past};
+use std::fs;
+use std::io::Read;
+use std::rt::Files;
 
 const COLUMNS: usize = 6;
 
@@ -48,29 +51,49 @@ pub fn numbers_in(line: &[u8]) -> Head
     }
 }
 
-// A file to read; below 0, and told on standard error, where it cannot be opened.
-pub fn open(path: &[u8]) -> i32 {
-    let fd = os::open_read(path);
-    if fd < 0 {
-        os::fail(path);
+// A file to read; none, and told on standard error, where it cannot be opened.
+pub fn open<R: Files + Eprint>(rt: &R, path: &str) -> Option<R::File> {
+    match fs::open(rt, path) {
+        Ok(file) => Some(file),
+        Err(error) => {
+            let _ = eprintln!(rt; "{path}: {error}");
+            None
+        }
     }
-    fd
+}
+
+// Reads until the buffer is full, the input ends or a read fails, and tells how many bytes were put at the buffer's start.
+fn read_full<R: Read>(from: &mut R, buffer: &mut [u8]) -> usize
+    ensures prefix_len { IsPrefixLen result buffer.new }
+    ensures bytes { Consumes (R.remaining from.old) (R.remaining from.new) (take result buffer.new) }
+{
+    let mut done: usize = 0;
+    while done < buffer.len() {
+        match from.read(&mut buffer[done..]) {
+            Ok(0) => return done,
+            Ok(more) => done += more,
+            Err(_) => return done,
+        }
+    }
+    done
 }
 
 // The bytes of a file, as many as the buffer holds; none where it cannot be opened.
-pub fn file(path: &[u8], buffer: &mut [u8]) -> usize
+pub fn file<R: Files + Eprint>(rt: &R, path: &str, buffer: &mut [u8]) -> usize
     ensures { IsPrefixLen result buffer.new }
 {
-    let fd = open(path);
-    let n = io::read_full(fd, buffer);
-    libc::close(fd);
-    n
+    match open(rt, path) {
+        Some(mut file) => read_full(&mut file, buffer),
+        None => 0,
+    }
 }
 
-// The head that stands next in a file; no good where the file ends before.
-pub fn next_head(fd: i32) -> Head {
+// The head that stands next; no good where the input ends before.
+pub fn next_head<R: Read>(from: &mut R) -> Head
+    ensures { IsNextHead (R.remaining from.old) (R.remaining from.new) result }
+{
     let mut line = [0u8; HEAD_LENGTH];
-    let got = io::read_full(fd, &mut line);
+    let got = read_full(from, &mut line);
     let mut head = numbers_in(&line);
     if got < HEAD_LENGTH {
         head.good = false;
@@ -78,15 +101,17 @@ pub fn next_head(fd: i32) -> Head {
     head
 }
 
-// The n bytes that stand next in a file, at the buffer's start; fewer where the file ends before, none where there is no room.
-pub fn next_part(fd: i32, buffer: &mut [u8], n: u64) -> usize
-    ensures { IsPrefixLen result buffer.new }
+// The n bytes that stand next, at the buffer's start; fewer where the input ends before, none where there is no room.
+pub fn next_part<R: Read>(from: &mut R, buffer: &mut [u8], n: u64) -> usize
+    ensures prefix_len { IsPrefixLen result buffer.new }
+    ensures bytes { Consumes (R.remaining from.old) (R.remaining from.new) (take result buffer.new) }
+    ensures upper_bound { result ≤ n }
 {
     let size = n as usize;
     if buffer.len() < size {
         return 0;
     }
-    io::read_full(fd, &mut buffer[..size])
+    read_full(from, &mut buffer[..size])
 }
 
 // As much of a buffer as a trial asks for, or all of it.

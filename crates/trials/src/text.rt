@@ -40,11 +40,7 @@ pub fn past(s: &[u8], at: usize, low: u8, high: u8) -> usize
 pub fn starts(s: &[u8], word: &[u8]) -> bool
     ensures { (result ≡ true → take (length word.now) s.now ≡ word.now) × (take (length word.now) s.now ≡ word.now → result ≡ true) }
 {
-    let n = word.len();
-    if s.len() < n {
-        return false;
-    }
-    check::same(&s[..n], word)
+    s.starts_with(word)
 }
 
 fn digit(byte: u8) -> u64
