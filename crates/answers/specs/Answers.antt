@@ -2,7 +2,10 @@
 -- and a line feed: 19 bytes.
 -- Bytes: 10 is a line feed.
 -- Assumes nothing.
-use Rattle.std.specs.Prelude.{ℕ, cond, List, [], ◌∷◌, ◌++◌, eqb, take}
+use Rattle.std.specs.Prelude.{ℕ, ◌<◌, ◌≤◌, cond, List, [], ◌∷◌, ◌++◌, eqb, length, take, Option, ⊤}
+use Rattle.std.specs.Io.KnownBytes.{Consumes, IsAtEnd}
+use Rattle.answers.specs.declared.Input.{Input}
+use Rattle.answers.specs.declared.Input.TheVariants.{Read, Failed}
 use Rattle.cases.specs.declared.Told.{Told}
 use Rattle.spelling.specs.Columns.{number}
 
@@ -16,3 +19,8 @@ refusal_text told = number told_width told.number ++ number told_width told.line
 -- on success the report, which stands at the start of the buffer and whose length is told as the line
 unfoldable pub answer_text : Told → List ℕ → List ℕ
 answer_text told buffer = cond (eqb told.number 0) (take told.line buffer) (refusal_text told)
+
+-- what was read into a room: as many bytes as are told, the next ones of the input, which has no more where the room has
+abbrev pub IsRead : Option (List ℕ) → Option (List ℕ) → Input → List ℕ → Type 0
+IsRead old new (Read n) room = (n ≤ length room) × Consumes old new (take n room) × (n < length room → IsAtEnd new)
+IsRead old new Failed room = ⊤

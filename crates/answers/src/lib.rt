@@ -1,12 +1,14 @@
-//! What both programs share: a deck from standard input, and what a call on it told to standard output, the report, or number, line and field in 6
-//! columns each. What is printed is proved to be a function of the answer; that it was read and is written no contract can say.
+//! What both programs share: a deck from a reader, and what a call on it told to a writer, the report, or number, line and field in 6 columns each.
+//! What is read and printed is proved of readers and writers whose bytes are known; of the standard streams no contract can say them.
 #![tactic(auto)]
 
-ghost use Rattle.std.specs.Prelude.{◌≡◌};
-ghost use Rattle.answers.specs.Answers.{refusal_text, answer_text};
+ghost use Rattle.std.specs.Prelude.{◌≡◌, OnOk};
+ghost use Rattle.std.specs.Io.KnownBytes.{Appends};
+ghost use Rattle.answers.specs.Answers.{refusal_text, answer_text, IsRead};
 
 use cases::Told;
-use libc::{STDERR_FILENO, STDIN_FILENO, STDOUT_FILENO};
+use std::io;
+use std::io::{Read, Write};
 
 // Columns of each number of a refusal, and its bytes: three numbers and a line feed.
 const COLUMNS: usize = 6;
@@ -22,19 +24,17 @@ pub enum Input {
     Failed,
 }
 
-// Reads standard input into the room. `io::read_full` would take a read that fails for the input's end.
-pub fn read_input(room: &mut [u8]) -> Input {
+// Reads the input into the room.
+pub fn read_input<R: Read>(from: &mut R, room: &mut [u8]) -> Input
+    ensures { IsRead (R.remaining from.old) (R.remaining from.new) result room.new }
+{
     let mut done: usize = 0;
     while done < room.len() {
-        let got = libc::read(STDIN_FILENO, &mut room[done..]);
-        if got < 0 {
-            return Input::Failed;
+        match from.read(&mut room[done..]) {
+            Ok(0) => return Input::Read(done),
+            Ok(more) => done += more,
+            Err(_) => return Input::Failed,
         }
-        let more = io::count(got, &room[done..]);
-        if more == 0 {
-            return Input::Read(done);
-        }
-        done += more;
     }
     Input::Read(done)
 }
@@ -61,21 +61,27 @@ fn answer_text<'a>(told: Told, buffer: &'a [u8], refusal: &'a [u8]) -> &'a [u8]
     spelling::front(buffer, told.line)
 }
 
-// On standard error, after the program's name.
-fn complain(program: &[u8], what: &[u8]) {
-    io::write_all(STDERR_FILENO, program);
-    io::write_all(STDERR_FILENO, what);
+// On standard error, after the program's name. Where that cannot be written either, nothing is left to say it to.
+fn complain(rt: &impl Eprint, program: &str, what: &str) {
+    let _ = eprintln!(rt; "{program}: {what}");
 }
 
 // Says that the deck could not be read; on standard output stands nothing then.
-pub fn unreadable(program: &[u8]) {
-    complain(program, b": the deck could not be read\n");
+pub fn unreadable(rt: &impl Eprint, program: &str) {
+    complain(rt, program, "the deck could not be read");
+}
+
+// Writes what the call told, with the buffer that it wrote into.
+pub fn write_answer<W: Write>(to: &mut W, told: Told, buffer: &[u8]) -> io::Result<()>
+    ensures { OnOk result (Appends (W.contents to.old) (W.contents to.new) (answer_text told buffer.now)) }
+{
+    let refusal = refusal(told);
+    to.write_all(answer_text(told, buffer, &refusal))
 }
 
 // Prints what the call told, with the buffer that it wrote into. Where it cannot be written, the program of this name says so.
-pub fn answer(program: &[u8], told: Told, buffer: &[u8]) {
-    let refusal = refusal(told);
-    if !io::write_all(STDOUT_FILENO, answer_text(told, buffer, &refusal)) {
-        complain(program, b": the report could not be written\n");
+pub fn answer(rt: &(impl Print + Eprint), program: &str, told: Told, buffer: &[u8]) {
+    if write_answer(&mut io::writer(rt), told, buffer).is_err() {
+        complain(rt, program, "the report could not be written");
     }
 }

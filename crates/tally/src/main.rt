@@ -3,13 +3,13 @@
 
 use answers::Input;
 
-fn main() {
+fn main(rt: HostRuntime) {
     let mut input = [0u8; report::DECK_ROOM];
-    let Input::Read(n) = answers::read_input(&mut input) else {
-        answers::unreadable(b"tally");
+    let Input::Read(n) = answers::read_input(&mut rt.stdin(), &mut input) else {
+        answers::unreadable(&rt, "tally");
         return;
     };
     let mut buffer = [0u8; report::MAX_REPORT];
     let told = report::report_with_room(&input, n, &mut buffer);
-    answers::answer(b"tally", told, &buffer);
+    answers::answer(&rt, "tally", told, &buffer);
 }

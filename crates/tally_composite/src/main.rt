@@ -4,13 +4,13 @@
 
 use answers::Input;
 
-fn main() {
+fn main(rt: HostRuntime) {
     let mut input = [0u8; composite::DECK_ROOM];
-    let Input::Read(n) = answers::read_input(&mut input) else {
-        answers::unreadable(b"tally_composite");
+    let Input::Read(n) = answers::read_input(&mut rt.stdin(), &mut input) else {
+        answers::unreadable(&rt, "tally_composite");
         return;
     };
     let mut buffer = [0u8; composite::MAX_REPORT];
     let told = composite::report_with_room(&input, n, &mut buffer);
-    answers::answer(b"tally_composite", told, &buffer);
+    answers::answer(&rt, "tally_composite", told, &buffer);
 }
