@@ -31,10 +31,7 @@ fn more_if(yes: bool, n: u64) -> u64
 pub fn others(all: u64, some: u64) -> u64
     ensures { result ≡ all - some }
 {
-    if all < some {
-        return 0;
-    }
-    all - some
+    all.saturating_sub(some)
 }
 
 impl Tally {
