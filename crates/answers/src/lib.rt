@@ -61,14 +61,15 @@ fn answer_text<'a>(told: Told, buffer: &'a [u8], refusal: &'a [u8]) -> &'a [u8]
     spelling::front(buffer, told.line)
 }
 
-// On standard error, after the program's name. Where that cannot be written either, nothing is left to say it to.
-fn complain(rt: &impl Eprint, program: &str, what: &str) {
-    let _ = eprintln!(rt; "{program}: {what}");
+// After the program's name. Where that cannot be written either, nothing is left to say it to.
+fn complain<E: Write>(errors: &mut E, program: &[u8], what: &[u8]) {
+    let _ = errors.write_all(program);
+    let _ = errors.write_all(what);
 }
 
 // Says that the deck could not be read; on standard output stands nothing then.
-pub fn unreadable(rt: &impl Eprint, program: &str) {
-    complain(rt, program, "the deck could not be read");
+pub fn unreadable<E: Write>(errors: &mut E, program: &[u8]) {
+    complain(errors, program, b": the deck could not be read\n");
 }
 
 // Writes what the call told, with the buffer that it wrote into.
@@ -80,8 +81,14 @@ pub fn write_answer<W: Write>(to: &mut W, told: Told, buffer: &[u8]) -> io::Resu
 }
 
 // Prints what the call told, with the buffer that it wrote into. Where it cannot be written, the program of this name says so.
-pub fn answer(rt: &(impl Print + Eprint), program: &str, told: Told, buffer: &[u8]) {
-    if write_answer(&mut io::writer(rt), told, buffer).is_err() {
-        complain(rt, program, "the report could not be written");
+pub fn answer<W: Write, E: Write>(
+    to: &mut W,
+    errors: &mut E,
+    program: &[u8],
+    told: Told,
+    buffer: &[u8],
+) {
+    if write_answer(to, told, buffer).is_err() {
+        complain(errors, program, b": the report could not be written\n");
     }
 }

@@ -140,7 +140,7 @@ fn trial<R: Read>(rt: &impl Print, file: &mut R, sort: Sort) -> io::Result<Tally
 
 // The file's decks, each read as one of this sort; none where it cannot be opened.
 fn run(rt: &(impl Files + Print + Eprint), path: &str, sort: Sort) -> io::Result<()> {
-    let all = match trials::open(rt, path) {
+    let all = match trials::open(rt, path.as_bytes()) {
         Some(mut file) => trial(rt, &mut file, sort)?,
         None => Tally::new(),
     };

@@ -71,7 +71,7 @@ fn lines(rt: &impl Print, tallies: Tallies, path: &str, s: &[u8]) -> io::Result<
 // A file that cannot be read, or fills the buffer and so may be cut short, differs as its line 0.
 fn file(rt: &(impl Files + Print + Eprint), tallies: Tallies, path: &str) -> io::Result<Tallies> {
     let mut buffer = [0u8; ROOM];
-    let n = trials::file(rt, path, &mut buffer);
+    let n = trials::file(rt, path.as_bytes(), &mut buffer);
     let next = lines(rt, tallies, path, &buffer[..n])?;
     if 0 < n && n < buffer.len() {
         return Ok(next);

@@ -37,10 +37,10 @@ fn report_length(head: Head) -> u64 {
 
 // Tells the place of a deck that is not answered as stored, and what the call told.
 fn put_difference<W: Write>(to: &mut W, place: u64, told: Told) -> io::Result<()> {
-    said(to, "not as stored: deck ", place, "\n")?;
-    said(to, "  number ", told.number as u64, "\n")?;
-    said(to, "  line ", told.line as u64, "\n")?;
-    said(to, "  field ", told.field as u64, "\n")
+    said(to, b"not as stored: deck ", place, b"\n")?;
+    said(to, b"  number ", told.number as u64, b"\n")?;
+    said(to, b"  line ", told.line as u64, b"\n")?;
+    said(to, b"  field ", told.field as u64, b"\n")
 }
 
 // The call on decks of this sort.
@@ -120,19 +120,19 @@ fn trial<R: Read, W: Write>(file: &mut R, to: &mut W, sort: Sort) -> io::Result<
 // The file's decks, each one of this sort; none where it cannot be opened.
 fn run(rt: &(impl Files + Print + Eprint), path: &str, sort: Sort) -> io::Result<()> {
     let mut out = io::writer(rt);
-    let all = match trials::open(rt, path) {
+    let all = match trials::open(rt, path.as_bytes()) {
         Some(mut file) => trial(&mut file, &mut out, sort)?,
         None => Tally::new(),
     };
-    said(&mut out, "decks ", all.run, "\n")?;
+    said(&mut out, b"decks ", all.run, b"\n")?;
     said(
         &mut out,
-        "accepted ",
+        b"accepted ",
         trials::others(all.run, all.refused),
-        "\n",
+        b"\n",
     )?;
-    said(&mut out, "refused ", all.refused, "\n")?;
-    said(&mut out, "differing ", all.failed, "\n")
+    said(&mut out, b"refused ", all.refused, b"\n")?;
+    said(&mut out, b"differing ", all.failed, b"\n")
 }
 
 fn main(rt: HostRuntime) -> io::Result<()> {

@@ -6,10 +6,10 @@ use answers::Input;
 fn main(rt: HostRuntime) {
     let mut input = [0u8; report::DECK_ROOM];
     let Input::Read(n) = answers::read_input(&mut rt.stdin(), &mut input) else {
-        answers::unreadable(&rt, "tally");
+        answers::unreadable(&mut rt.stderr(), b"tally");
         return;
     };
     let mut buffer = [0u8; report::MAX_REPORT];
     let told = report::report_with_room(&input, n, &mut buffer);
-    answers::answer(&rt, "tally", told, &buffer);
+    answers::answer(&mut rt.stdout(), &mut rt.stderr(), b"tally", told, &buffer);
 }

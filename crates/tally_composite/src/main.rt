@@ -7,10 +7,16 @@ use answers::Input;
 fn main(rt: HostRuntime) {
     let mut input = [0u8; composite::DECK_ROOM];
     let Input::Read(n) = answers::read_input(&mut rt.stdin(), &mut input) else {
-        answers::unreadable(&rt, "tally_composite");
+        answers::unreadable(&mut rt.stderr(), b"tally_composite");
         return;
     };
     let mut buffer = [0u8; composite::MAX_REPORT];
     let told = composite::report_with_room(&input, n, &mut buffer);
-    answers::answer(&rt, "tally_composite", told, &buffer);
+    answers::answer(
+        &mut rt.stdout(),
+        &mut rt.stderr(),
+        b"tally_composite",
+        told,
+        &buffer,
+    );
 }

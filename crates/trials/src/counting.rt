@@ -72,8 +72,10 @@ impl Tally {
 }
 
 // A number between two texts.
-pub fn said<W: Write>(to: &mut W, before: &str, n: u64, after: &str) -> io::Result<()>
+pub fn said<W: Write>(to: &mut W, before: &[u8], n: u64, after: &[u8]) -> io::Result<()>
     ensures { OnOk result (Appends (W.contents to.old) (W.contents to.new) (before.now ++ (decimal n ++ after.now))) }
 {
-    write!(to, "{before}{n}{after}")
+    to.write_all(before)?;
+    write!(to, "{n}")?;
+    to.write_all(after)
 }

@@ -51,12 +51,16 @@ pub fn numbers_in(line: &[u8]) -> Head
     }
 }
 
-// A file to read; none, and told on standard error, where it cannot be opened.
-pub fn open<R: Files + Eprint>(rt: &R, path: &str) -> Option<R::File> {
-    match fs::open(rt, path) {
+// A file to read; none, and told on standard error, where it cannot be opened, as where its path is no text.
+pub fn open<R: Files + Eprint>(rt: &R, path: &[u8]) -> Option<R::File> {
+    let Ok(text) = str::from_utf8(path) else {
+        let _ = eprintln!(rt; "a path that is no text");
+        return None;
+    };
+    match fs::open(rt, text) {
         Ok(file) => Some(file),
         Err(error) => {
-            let _ = eprintln!(rt; "{path}: {error}");
+            let _ = eprintln!(rt; "{text}: {error}");
             None
         }
     }
@@ -79,7 +83,7 @@ fn read_full<R: Read>(from: &mut R, buffer: &mut [u8]) -> usize
 }
 
 // The bytes of a file, as many as the buffer holds; none where it cannot be opened.
-pub fn file<R: Files + Eprint>(rt: &R, path: &str, buffer: &mut [u8]) -> usize
+pub fn file<R: Files + Eprint>(rt: &R, path: &[u8], buffer: &mut [u8]) -> usize
     ensures { IsPrefixLen result buffer.new }
 {
     match open(rt, path) {
