@@ -105,16 +105,16 @@ module _ (stage : ℕ → ℕ → Outcome Pair) (exposure : Outcome Pair) (last 
 
 -- ---- the receptor as it is made
 module _ (case : Case) (blank : Record) (h : 0 < length case.receptors.records) (values' : Values) (exposure : Years) (rounded : Outcome Pair)
-    (exposure-is : exposure ≡ years_together (time_in case.receptors.records) (case.receptors.count - 1)) (rounded_is : rounded ≡ as_pair exposure)
-    (values-are : values'.list ≡ composed_in case.receptors.records rounded (case.receptors.count - 1)) where
+    (exposure_is : exposure ≡ years_together (time_in case.receptors.records) (case.receptors.count - 1)) (rounded_is : rounded ≡ as_pair exposure)
+    (values_are : values'.list ≡ composed_in case.receptors.records rounded (case.receptors.count - 1)) where
   exposure_made : exposure ≡ time_exposed case
   unfolding time_exposed stage_years time_in last_stage receptor_at
-  exposure_made = exposure-is
+  exposure_made = exposure_is
 
   values_made : ◌≡◌ {A = Values} values' (record { list = tabulate slots_per_record (λ k. or_no_pair (pair_composite case k)) })
   unfolding pair_composite composed_in stage_in pair_in pair_stage last_stage receptor_at
   values_made =
-      let e = values-are ∙ ap (λ (o : Outcome Pair). composed_in case.receptors.records o (case.receptors.count - 1)) (rounded_is ∙ ap as_pair exposure_made) in
+      let e = values_are ∙ ap (λ (o : Outcome Pair). composed_in case.receptors.records o (case.receptors.count - 1)) (rounded_is ∙ ap as_pair exposure_made) in
       λ i. record { list = e i }
 
   pub composite_made : (deposition : Years) (receptor none : Receptor) → deposition ≡ deposition_of case.site

@@ -102,9 +102,9 @@ weighted_answered true = refl
 weighted_answered false = refl
 
 -- ---- the composite of stages 0 to last, whose exposure, years and values are good
-module _ (stage : ℕ → ℕ → Outcome Pair) (exact : ℕ → ℕ → Fraction) (exposure : Outcome Pair) (exact-exposure : Fraction) (last : ℕ) (few : last < most_stages) (s : Slot) (e : owner_of s ≡ Receptor)
-    (of-exposure : Good (answered_as 27 1 true) exposure exact-exposure)
-    (of-years : (j : ℕ) → j ≤ last → Good years (stage j (place_of "years")) (exact j (place_of "years")))
+module _ (stage : ℕ → ℕ → Outcome Pair) (exact : ℕ → ℕ → Fraction) (exposure : Outcome Pair) (exact_exposure : Fraction) (last : ℕ) (few : last < most_stages) (s : Slot) (e : owner_of s ≡ Receptor)
+    (of_exposure : Good (answered_as 27 1 true) exposure exact_exposure)
+    (of_years : (j : ℕ) → j ≤ last → Good years (stage j (place_of "years")) (exact j (place_of "years")))
     (of_values : (j : ℕ) → j ≤ last → Good (answered_as 20 1 (never_zero s)) (stage j (place_of s)) (exact j (place_of s))) where
   abbrev b : Bool
   b = never_zero s
@@ -123,7 +123,7 @@ module _ (stage : ℕ → ℕ → Outcome Pair) (exact : ℕ → ℕ → Fractio
 
   total_good : Good (total last) (sum_of_years pairs stage last) (sum_of_years fractions exact last)
   unfolding total sum_of_years
-  total_good = summed_good (λ j. years) (λ j. stage j (place_of "years")) (λ j. exact j (place_of "years")) last of-years checks.1.1.1.1
+  total_good = summed_good (λ j. years) (λ j. stage j (place_of "years")) (λ j. exact j (place_of "years")) last of_years checks.1.1.1.1
 
   days_good : Good (days last) (pairs.times (pairs.number 365 (pos 0)) (sum_of_years pairs stage last)) (fractions.times (fractions.number 365 (pos 0)) (sum_of_years fractions exact last))
   unfolding days of_number pairs fractions call exact_result
@@ -134,17 +134,17 @@ module _ (stage : ℕ → ℕ → Outcome Pair) (exact : ℕ → ℕ → Fractio
   unfolding weights pairs fractions call exact_result
   weights_good =
       summed_good (λ j. joined products years (answered_as 20 1 b)) (λ j. pairs.times (stage j (place_of "years")) (stage j (place_of s))) (λ j. fractions.times (exact j (place_of "years")) (exact j (place_of s))) last
-      (λ j l. good_op products years (answered_as 20 1 b) (of-years j l) (of_values j l) (weighted_answered b)) checks.1.1.1.0
+      (λ j l. good_op products years (answered_as 20 1 b) (of_years j l) (of_values j l) (weighted_answered b)) checks.1.1.1.0
 
   mean_good : Good (average b last) (mean pairs stage last (place_of s)) (mean fractions exact last (place_of s))
   unfolding average mean pairs fractions call exact_result
   mean_good = good_op quotients (weights b last) (total last) weights_good total_good (answered_of b (average b last) checks.1.1.0)
 
   -- every slot of the composite is in range of the exact composite's value
-  pub composed_good : Good (of_slot s) (composed pairs stage exposure last (place_of s)) (composed fractions exact exact-exposure last (place_of s))
+  pub composed_good : Good (of_slot s) (composed pairs stage exposure last (place_of s)) (composed fractions exact exact_exposure last (place_of s))
   unfolding composed taken
   composed_good =
       choose (eqb (place_of s) (place_of "ED")) (of_slot s) _ _ _ _ (fits_slot s e true (total last) checks.0 (λ z. refl) total_good)
       (choose (eqb (place_of s) (place_of "ATc")) (of_slot s) _ _ _ _ (fits_slot s e true (days last) checks.1.0 (λ z. refl) days_good)
-      (choose (eqb (place_of s) (place_of "T2")) (of_slot s) _ _ _ _ (fits_slot s e true (answered_as 27 1 true) refl (λ z. refl) of-exposure)
+      (choose (eqb (place_of s) (place_of "T2")) (of_slot s) _ _ _ _ (fits_slot s e true (answered_as 27 1 true) refl (λ z. refl) of_exposure)
       (fits_slot s e b (average b last) checks.1.1.0 (λ z. z) mean_good)))

@@ -5,7 +5,7 @@ use Rattle.pair.specs.declared.Pair.{Pair}
 use Rattle.pair.specs.Calls.{is}
 use Rattle.lists.proofs.Booleans.{both}
 use Rattle.slots.specs.Slots.{Slot}
-use Rattle.equations.specs.Formula.{Letter, slot, rest, later, g_at_x, h-at-x, g-at-x', Formula, letter, constant, ◌⊕◌, ◌⊗◌, ◌⊘◌, Algebra, read, pairs}
+use Rattle.equations.specs.Formula.{Letter, slot, rest, later, g_at_x, h_at_x, g_at_x', Formula, letter, constant, ◌⊕◌, ◌⊗◌, ◌⊘◌, Algebra, read, pairs}
 use Rattle.equations.specs.Readings.{Inputs, letters, plain_with, plain, as_answers, worked}
 use Rattle.equations.specs.Ahead.{only, a_slot, is_receptors, ahead, read_from, plain_from}
 
@@ -25,8 +25,8 @@ slot_alike ours env env' h (slot s) t = h s t
 slot_alike ours env env' h (rest s) t = absurd (false≢true t)
 slot_alike ours env env' h later t = absurd (false≢true t)
 slot_alike ours env env' h g_at_x t = absurd (false≢true t)
-slot_alike ours env env' h h-at-x t = absurd (false≢true t)
-slot_alike ours env env' h g-at-x' t = absurd (false≢true t)
+slot_alike ours env env' h h_at_x t = absurd (false≢true t)
+slot_alike ours env env' h g_at_x' t = absurd (false≢true t)
 
 pub plain_same : {A : Type 0} (alg : Algebra A) (ours : Slot → Bool) (env env' : Slot → A) → ((s : Slot) → ours s ≡ true → env s ≡ env' s) → (f : Formula) → only (a_slot ours) f ≡ true → plain alg env f ≡ plain alg env' f
 unfolding plain plain_with letters

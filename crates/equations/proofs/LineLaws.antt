@@ -30,7 +30,7 @@ use Rattle.slots.specs.declared.Guidance.TheVariants.{Of2005}
 use Rattle.slots.specs.declared.Owner.{Owner}
 use Rattle.slots.specs.declared.Owner.TheVariants.{Site, Chemical, Receptor}
 use Rattle.slots.specs.Slots.{Slot, table, same, is_in, place_in, entry_rule, owner_of, place_of, rule_of, never_zero, at_most_one}
-use Rattle.equations.specs.Formula.{Letter, slot, rest, later, g_at_x, h-at-x, g-at-x', Formula, read, pairs, fractions}
+use Rattle.equations.specs.Formula.{Letter, slot, rest, later, g_at_x, h_at_x, g_at_x', Formula, read, pairs, fractions}
 use Rattle.equations.specs.Page as page
 use Rattle.equations.specs.Page.{Growth, growth, x, x'}
 use Rattle.equations.specs.Readings.{Inputs, AtBoth, letters, no_growth, plain_with, plain, exponents, growth_at_both, as_answers, paces_of, pair_growing, worked, exact_inputs, exact_growing, exactly, by_owner}
@@ -157,16 +157,16 @@ record GrownGood (P : AtBoth (Growth Profile)) (o : AtBoth (Growth (Outcome Pair
   g' : P.at_x'.g.answered ≡ true → Good P.at_x'.g o.at_x'.g v.at_x'.g
 
 -- Inputs in range: each slot's value, and T2 − tD where the exposure goes beyond the deposition.
-module _ (stay : Stay) (env : Inputs Pair) (vals : Slot → Fraction) (inputs : (s : Slot) → InRange s env (vals s)) (rest-of-time : (of_later stay).answered ≡ true → Good (of_later stay) (is env.later) (exact.minus (vals "T2") (vals "tD"))) where
+module _ (stay : Stay) (env : Inputs Pair) (vals : Slot → Fraction) (inputs : (s : Slot) → InRange s env (vals s)) (rest_of_time : (of_later stay).answered ≡ true → Good (of_later stay) (is env.later) (exact.minus (vals "T2") (vals "tD"))) where
   letter_good : (P : AtBoth (Growth Profile)) (o : AtBoth (Growth (Outcome Pair))) (v : AtBoth (Growth Fraction)) → GrownGood P o v → (l : Letter) →
       (letters (of_slots stay) P l).answered ≡ true → Good (letters (of_slots stay) P l) (letters (as_answers env) o l) (letters (exact_inputs vals) v l)
   unfolding letters as_answers exact_inputs of_slots
   letter_good P o v good (slot s) h = (inputs s).value
   letter_good P o v good (rest s) h = (inputs s).rest h
-  letter_good P o v good later h = rest-of-time h
+  letter_good P o v good later h = rest_of_time h
   letter_good P o v good g_at_x h = good.g h
-  letter_good P o v good h-at-x h = good.h h
-  letter_good P o v good g-at-x' h = good.g' h
+  letter_good P o v good h_at_x h = good.h h
+  letter_good P o v good g_at_x' h = good.g' h
 
   -- a formula with neither g nor h is read alike, whatever stands for them
   plain_good : (f : Formula) → (read profiles (letters (of_slots stay) (no_growth profiles)) f).answered ≡ true →

@@ -18,7 +18,7 @@ use Rattle.equations.specs.declared.Effect.{Effect}
 use Rattle.equations.specs.declared.Stay.{Stay}
 use Rattle.slots.specs.declared.Guidance.{Guidance}
 use Rattle.slots.specs.Slots.{Slot, same}
-use Rattle.equations.specs.Formula.{Letter, slot, rest, later, g_at_x, h-at-x, g-at-x', Formula, letter, constant, ◌⊕◌, ◌⊗◌, ◌⊘◌, read, pairs}
+use Rattle.equations.specs.Formula.{Letter, slot, rest, later, g_at_x, h_at_x, g_at_x', Formula, letter, constant, ◌⊕◌, ◌⊗◌, ◌⊘◌, read, pairs}
 use Rattle.equations.specs.Ahead.{only}
 use Rattle.equations.specs.Page as page
 use Rattle.equations.specs.Page.{Growth, x, x'}
@@ -37,8 +37,8 @@ rising_letter mark (slot s) = true
 rising_letter mark (rest s) = not (mark (rest s))
 rising_letter mark later = not (mark later)
 rising_letter mark g_at_x = not (mark g_at_x)
-rising_letter mark h-at-x = not (mark h-at-x)
-rising_letter mark g-at-x' = not (mark g-at-x')
+rising_letter mark h_at_x = not (mark h_at_x)
+rising_letter mark g_at_x' = not (mark g_at_x')
 
 unfoldable pub rising : (Letter → Bool) → Formula → Bool
 rising mark (letter l) = rising_letter mark l
@@ -126,8 +126,8 @@ module _ (mark : Slot → Bool) (free : (steady (marked mark) x ≡ true) × (st
   letter_same o o' e (rest s) h = ap (λ (p : Pair). is p) (alike.rest s h)
   letter_same o o' e later h = ap (λ (p : Pair). is p) alike.later
   letter_same o o' e g_at_x h = ap (λ (v : AtBoth (Growth (Outcome Pair))). v.at_x.g) e
-  letter_same o o' e h-at-x h = ap (λ (v : AtBoth (Growth (Outcome Pair))). v.at_x.h) e
-  letter_same o o' e g-at-x' h = ap (λ (v : AtBoth (Growth (Outcome Pair))). v.at_x'.g) e
+  letter_same o o' e h_at_x h = ap (λ (v : AtBoth (Growth (Outcome Pair))). v.at_x.h) e
+  letter_same o o' e g_at_x' h = ap (λ (v : AtBoth (Growth (Outcome Pair))). v.at_x'.g) e
 
   same_plain : (f : Formula) → steady (marked mark) f ≡ true → read pairs (letters (as_answers env) (no_growth pairs)) f ≡ read pairs (letters (as_answers env') (no_growth pairs)) f
   same_plain f h =
@@ -164,8 +164,8 @@ module _ (mark : Slot → Bool) (free : (steady (marked mark) x ≡ true) × (st
         rw (same_pair_lem p p' (sym (ap (λ (q : Pair). is q) (alike.rest s (not-true (mark s) t))) ∙ h) h') (ends_itself p')
     letter_risen o o' e later t p p' h h' = rw (same_pair_lem p p' (sym (ap (λ (q : Pair). is q) alike.later) ∙ h) h') (ends_itself p')
     letter_risen o o' e g_at_x t p p' h h' = rw (same_pair_lem p p' (sym (ap (λ (v : AtBoth (Growth (Outcome Pair))). v.at_x.g) e) ∙ h) h') (ends_itself p')
-    letter_risen o o' e h-at-x t p p' h h' = rw (same_pair_lem p p' (sym (ap (λ (v : AtBoth (Growth (Outcome Pair))). v.at_x.h) e) ∙ h) h') (ends_itself p')
-    letter_risen o o' e g-at-x' t p p' h h' = rw (same_pair_lem p p' (sym (ap (λ (v : AtBoth (Growth (Outcome Pair))). v.at_x'.g) e) ∙ h) h') (ends_itself p')
+    letter_risen o o' e h_at_x t p p' h h' = rw (same_pair_lem p p' (sym (ap (λ (v : AtBoth (Growth (Outcome Pair))). v.at_x.h) e) ∙ h) h') (ends_itself p')
+    letter_risen o o' e g_at_x' t p p' h h' = rw (same_pair_lem p p' (sym (ap (λ (v : AtBoth (Growth (Outcome Pair))). v.at_x'.g) e) ∙ h) h') (ends_itself p')
 
     pub worked_rises : (f : Formula) → rising (marked mark) f ≡ true → (r r' : Pair) → worked env f ≡ is r → worked env' f ≡ is r' → ◌≤ₑ◌ r r'
     unfolding worked paces_of grown_from

@@ -106,11 +106,11 @@ growth_at_zero : growth pair_growing Slow (is zero_pair) ≡ record { g = is one
 unfolding growth g_with pair_growing pairs first_pair
 growth_at_zero = rw (series_at_zero phi, series_at_zero psi) (ap₂ (λ (a b : Outcome Pair). record { g = a; h = b }) one_over half_over)
 
-module _ (env : Inputs Pair) (zero-x : plain pairs (as_answers env).value x ≡ is zero_pair) where
+module _ (env : Inputs Pair) (zero_x : plain pairs (as_answers env).value x ≡ is zero_pair) where
   grown_is : growth pair_growing (paces_of env).at_x (plain pairs (as_answers env).value x) ≡ record { g = is one_pair; h = is (first_pair psi) }
   unfolding paces_of exponents
   grown_is =
-      ap (λ (o : Outcome Pair). growth pair_growing (pace_of o) o) zero-x
+      ap (λ (o : Outcome Pair). growth pair_growing (pace_of o) o) zero_x
       ∙ ap (λ (p : Pace). growth pair_growing p (is zero_pair)) slow_at_zero ∙ growth_at_zero
 
   pub g_at_zero : worked env g ≡ is one_pair

@@ -179,7 +179,7 @@ sum_high p q r h =
     le_of_mul-le-mul_right {k = 10 ^ depth * 10 ^ depth} (omega (arith, (near_up (rounds sums p q r h).1).across)) (mul-pos unit_above unit_above)
 
 module _ (s : Series) (P : Profile) {o : Outcome Pair} {x : Fraction} (g : Good P o x) (most : value g.answer.high ≤ᶠ record { num = 64; den = 1 })
-    (last : ℕ) (few-terms : last ≤ 1000) (h : (terms profiles s P last).total.answered ≡ true) (few : (P.width + cost s) * last ≤ 99000) where
+    (last : ℕ) (few_terms : last ≤ 1000) (h : (terms profiles s P last).total.answered ≡ true) (few : (P.width + cost s) * last ≤ 99000) where
   at : (n : ℕ) → n ≤ last →
       Good (terms profiles s P n).term (terms pairs s o n).term (term s x n) × Good (terms profiles s P n).total (terms pairs s o n).total (total s x n)
   at n i =

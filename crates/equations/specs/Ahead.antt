@@ -3,7 +3,7 @@ use Rattle.std.specs.Prelude.{Bool, true, false, cond, ◌&&◌, pos}
 use Rattle.pair.specs.declared.Pair.{Pair}
 use Rattle.pair.specs.Calls.{Outcome}
 use Rattle.slots.specs.Slots.{Slot, owner_of, same}
-use Rattle.equations.specs.Formula.{Letter, slot, rest, later, g_at_x, h-at-x, g-at-x', Formula, letter, constant, ◌⊕◌, ◌⊗◌, ◌⊘◌, Algebra, read, pairs}
+use Rattle.equations.specs.Formula.{Letter, slot, rest, later, g_at_x, h_at_x, g_at_x', Formula, letter, constant, ◌⊕◌, ◌⊗◌, ◌⊘◌, Algebra, read, pairs}
 use Rattle.equations.specs.Readings.{letters, no_growth, plain, by_owner}
 
 -- a letter of no slot, for what is given
@@ -28,8 +28,8 @@ a_slot ours (slot s) = ours s
 a_slot ours (rest s) = false
 a_slot ours later = false
 a_slot ours g_at_x = false
-a_slot ours h-at-x = false
-a_slot ours g-at-x' = false
+a_slot ours h_at_x = false
+a_slot ours g_at_x' = false
 
 -- whether each is a receptor's slot
 unfoldable pub is_receptors : Formula → Bool

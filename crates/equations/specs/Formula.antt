@@ -12,7 +12,7 @@ pub data Letter : Type 0 where
   slot : Slot → Letter
   rest : Slot → Letter
   later : Letter
-  g_at_x h-at-x g-at-x' : Letter
+  g_at_x h_at_x g_at_x' : Letter
 
 -- The written operations: ⊕, ⊗ and ⊘ are document 01's +, × and /.
 infixl 65 ◌⊕◌

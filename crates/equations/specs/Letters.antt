@@ -1,5 +1,5 @@
 -- Document 01's letters, for the page of formulas: each stands for the slot of its own name in the table of slots.
-use Rattle.equations.specs.Formula.{Formula, letter, slot, g_at_x, h-at-x, g-at-x'}
+use Rattle.equations.specs.Formula.{Formula, letter, slot, g_at_x, h_at_x, g_at_x'}
 
 -- Site
 abbrev pub Zs : Formula
@@ -162,8 +162,8 @@ abbrev pub g : Formula
 g = letter g_at_x
 
 abbrev pub h : Formula
-h = letter h-at-x
+h = letter h_at_x
 
 -- at k × (T2 − tD)
 abbrev pub g' : Formula
-g' = letter g-at-x'
+g' = letter g_at_x'

@@ -10,7 +10,7 @@ use Rattle.slots.specs.Slots.{Slot, owner_of, place_of}
 use Rattle.slots.specs.declared.Owner.{Owner}
 use Rattle.slots.specs.declared.Owner.TheVariants.{Site, Chemical, Receptor}
 use Rattle.equations.specs.declared.Values.{Values}
-use Rattle.equations.specs.Formula.{Letter, slot, rest, later, g_at_x, h-at-x, g-at-x', Formula, Algebra, read, pairs, fractions}
+use Rattle.equations.specs.Formula.{Letter, slot, rest, later, g_at_x, h_at_x, g_at_x', Formula, Algebra, read, pairs, fractions}
 use Rattle.equations.specs.Series.{phi, pair_series, exact_series}
 use Rattle.equations.specs.Page.{x, x', Pace, Slow, Fast, Growth, Growing, growth}
 use Rattle.equations.specs.Ranges.{sixty_four, next_to_nothing}
@@ -32,8 +32,8 @@ letters env grown (slot s) = env.value s
 letters env grown (rest s) = env.rest s
 letters env grown later = env.later
 letters env grown g_at_x = grown.at_x.g
-letters env grown h-at-x = grown.at_x.h
-letters env grown g-at-x' = grown.at_x'.g
+letters env grown h_at_x = grown.at_x.h
+letters env grown g_at_x' = grown.at_x'.g
 
 -- a formula with neither g, h nor 1 −: from the slots and T2 − tD, and from the slots alone
 unfoldable pub no_growth : {A : Type 0} → Algebra A → AtBoth (Growth A)

@@ -71,10 +71,10 @@ module _ (tested : Bool) (form : Form) (scenario : Scenario) (buffer : List ℕ)
   too_short_lem h told t = refused (from_room tested) form scenario buffer (Stopped 51 0 0) 51 0 0 told (rw (lt-ltb _ _ h) refl) refl (refusal 51 told t)
 
   -- the report has room
-  module _ (room : length_of (form scenario) ≤ length buffer) (status : Status) (is-status : status ≡ status_by tested scenario) where
+  module _ (room : length_of (form scenario) ≤ length buffer) (status : Status) (is_status : status ≡ status_by tested scenario) where
     status_is : status ≡ written_status (from_room tested) form scenario (length buffer)
     unfolding written_status from_room too_short first status_by
-    status_is = is-status ∙ rw (le-ltb _ _ room) refl
+    status_is = is_status ∙ rw (le-ltb _ _ room) refl
 
     -- the sheet stops
     pub sheet_stops : (number line field : ℕ) (told : Told) → status ≡ Stopped number line field → told ≡ told_of status → Answered (from_room tested) form scenario buffer told buffer
@@ -84,7 +84,7 @@ module _ (tested : Bool) (form : Form) (scenario : Scenario) (buffer : List ℕ)
     pub written : status ≡ Passed → (cells : List ℕ) → cells ≡ cells_by tested scenario → (from : List ℕ → List Row) → (written_status (from_room tested) form scenario (length buffer) ≡ Passed → form scenario ≡ from (cells_of scenario)) → (out : List ℕ) (n : ℕ) → n ≡ length_of (form scenario)
         → out ≡ lines_text (from cells) ++ drop (length_of (form scenario)) buffer → Answered (from_room tested) form scenario buffer (record { number = 0; line = n; field = 0 }) out
     unfolding cells_by cells_for
-    written none cells held = rows_written (from_room tested) form scenario buffer (sym status_is ∙ none) cells (held ∙ ap (λ (x : Status). cells_for x scenario) (sym is-status ∙ none))
+    written none cells held = rows_written (from_room tested) form scenario buffer (sym status_is ∙ none) cells (held ∙ ap (λ (x : Status). cells_for x scenario) (sym is_status ∙ none))
 
 -- where it is written, 53 and 42 hold of no line
 clear_by : (tested : Bool) (scenario : Scenario) → first (conditions_by tested scenario) ≡ Passed → (first (refused_lines scenario) ≡ Passed) × (first (large_lines scenario) ≡ Passed)
@@ -120,8 +120,8 @@ module _ (form : Form) (scenario : Scenario) (buffer : List ℕ) where
   -- 21, 22, 32, 33 of a scenario in memory, whatever its values are
   pub memory_stops : (number : ℕ) → Stopped number 0 0 ≡ first (scenario_conditions scenario) → (told : Told) → (told.number ≡ number) × (told.line ≡ 0) × (told.field ≡ 0) → Answered on_memory form scenario buffer told buffer
   unfolding written_status on_memory
-  memory_stops number is-first told t =
-      refused on_memory form scenario buffer (Stopped number 0 0) number 0 0 told (first_stops (scenario_conditions scenario) _ (Stopped number 0 0) number 0 0 is-first refl) refl (refusal number told t)
+  memory_stops number is_first told t =
+      refused on_memory form scenario buffer (Stopped number 0 0) number 0 0 told (first_stops (scenario_conditions scenario) _ (Stopped number 0 0) number 0 0 is_first refl) refl (refusal number told t)
 
   pub memory_passes : Passed ≡ first (scenario_conditions scenario) → (told : Told) (out : List ℕ) → Answered (from_room false) form scenario buffer told out → Answered on_memory form scenario buffer told out
   unfolding written_status on_memory from_room too_short conditions_by sheet_conditions first
@@ -146,14 +146,14 @@ module _ (call : Call) (deck buffer : List ℕ) where
       (t ∙ rw (← f, q) refl, rw (← f, q) refl)
 
   -- the deck is read, and its scenario handed to the call above
-  module _ (reading : Reading) (of-deck : reading ≡ read_of call.sort deck) (status-read : reading.status ≡ Passed) where
+  module _ (reading : Reading) (of_deck : reading ≡ read_of call.sort deck) (status_read : reading.status ≡ Passed) where
     pub deck_read : first (conditions call.sort deck) ≡ Passed
     unfolding read_of
-    deck_read = sym (ap (λ (r : Reading). r.status) of-deck) ∙ status-read
+    deck_read = sym (ap (λ (r : Reading). r.status) of_deck) ∙ status_read
 
     pub case_is : reading.case ≡ case_of deck
     unfolding read_of case_for
-    case_is = ap (λ (r : Reading). r.case) of-deck ∙ ap (λ (s : Status). case_for s deck) deck_read
+    case_is = ap (λ (r : Reading). r.case) of_deck ∙ ap (λ (s : Status). case_for s deck) deck_read
 
     pub answers : Sound (scenario_of call deck) (exact_of call deck) → (receptors' : Receptors) → receptors' ≡ call.receptors reading.case
         → (told : Told) (out : List ℕ) → told ≡ written_outcome as_read call.form (scenario_with reading.case receptors') (length buffer) → out ≡ written_buffer as_read call.form (scenario_with reading.case receptors') buffer

@@ -8,7 +8,7 @@ use Rattle.slots.specs.Slots.{Slot, table, same, is_in, place_in, entry_rule, ow
 use Rattle.equations.specs.declared.Pathway.{Pathway}
 use Rattle.equations.specs.declared.Effect.{Effect}
 use Rattle.equations.specs.declared.Stay.{Stay}
-use Rattle.equations.specs.Formula.{Letter, slot, rest, later, g_at_x, h-at-x, g-at-x'}
+use Rattle.equations.specs.Formula.{Letter, slot, rest, later, g_at_x, h_at_x, g_at_x'}
 use Rattle.equations.specs.Page as page
 use Rattle.equations.specs.Page.{x, x', reference_slot}
 use Rattle.equations.specs.Ahead.{only}
@@ -24,8 +24,8 @@ is_read own (slot s) = is_needed s || same s own && is_in (table (owner_of s)) s
 is_read own (rest s) = is_needed s
 is_read own later = is_needed "T2" && is_needed "tD"
 is_read own g_at_x = true
-is_read own h-at-x = true
-is_read own g-at-x' = true
+is_read own h_at_x = true
+is_read own g_at_x' = true
 
 -- x and x', from which g and h are worked
 pub loss_read : (only (is_read "") x ≡ true) × (only (is_read "") x' ≡ true)

@@ -191,11 +191,11 @@ module _ (site' : Site) (sources : Sources) (list : List Receptor) (j : ℕ) (be
   pub receptor_held : (r : Values) → r ≡ (get_or list j no_receptor).values → CellsFilled site' sources list j before → SameBelow (receptor_cells * j) before after
       → CellsHold (columns_worked site' sources j r) (sources.count * pathways_per_chemical) after (receptor_cells * j) → CellsEmpty (sources.count * pathways_per_chemical) after (receptor_cells * j)
       → CellsFilled site' sources list (j + 1) after
-  receptor_held r is-receptor filled same held empty i h =
+  receptor_held r is_receptor filled same held empty i h =
       let most : i ≤ j = omega arith in
       ⊎_elim
       (λ z. (
-        λ e w q l. rw z (held e w q l ∙ ap (λ (x : Values). cell_of w (columns_worked site' sources j x q e)) is-receptor),
+        λ e w q l. rw z (held e w q l ∙ ap (λ (x : Values). cell_of w (columns_worked site' sources j x q e)) is_receptor),
         λ e w q l m. rw z (empty e w q l m),
       ))
       (λ m. (

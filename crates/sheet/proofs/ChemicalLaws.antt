@@ -63,17 +63,17 @@ module _ (site' chemical' : Values) (list : List Receptor) (the_ground : Ground)
   mean_stops e count l = any_of_lem means j count (sym (ap is_refused mean_is) ∙ e) l
 
 -- ---- a chemical's source
-module _ (site' : Values) (receptors' : Receptors) (chemical' : Record) (values' : Values) (of-chemical : values' ≡ values_of chemical') where
+module _ (site' : Values) (receptors' : Receptors) (chemical' : Record) (values' : Values) (of_chemical : values' ≡ values_of chemical') where
   -- from its ground
   module _ (the_ground : Ground) (w : Bool) (list : List Media)
       (worked : w ≡ not (any_of (λ j. is_refused (mean_with site' values' (get_or receptors'.list j no_receptor) the_ground)) receptors'.count)) (made : w ≡ true → list ≡ means_of site' values' receptors' the_ground)
-      (a : Absorbed) (a-is : a ≡ absorbed_of values') (refs : References) (refs-are : refs ≡ references_of chemical') where
+      (a : Absorbed) (a_is : a ≡ absorbed_of values') (refs : References) (refs_are : refs ≡ references_of chemical') where
     pub from_worked : w ≡ not (any_of (λ j. is_refused (mean_with site' (values_of chemical') (get_or receptors'.list j no_receptor) the_ground)) receptors'.count)
-    from_worked = worked ∙ ap (λ (v : Values). not (any_of (λ j. is_refused (mean_with site' v (get_or receptors'.list j no_receptor) the_ground)) receptors'.count)) of-chemical
+    from_worked = worked ∙ ap (λ (v : Values). not (any_of (λ j. is_refused (mean_with site' v (get_or receptors'.list j no_receptor) the_ground)) receptors'.count)) of_chemical
 
     pub from_made : w ≡ true → record { absorbed = a; media = the_ground.highest; means = list; references = refs } ≡ source_from site' chemical' receptors' (is the_ground)
     unfolding source_from source_with
-    from_made e = rw (a-is, refs-are, made e, of-chemical) refl
+    from_made e = rw (a_is, refs_are, made e, of_chemical) refl
 
   -- a needed value is missing
   pub lacks_worked : lacks Ordinary Chemical chemical' ≡ true → (w : Bool) → w ≡ false → w ≡ not (stops_with site' receptors' chemical')
@@ -81,10 +81,10 @@ module _ (site' : Values) (receptors' : Receptors) (chemical' : Record) (values'
   lacks_worked h w e = e ∙ sym (rw h refl)
 
   -- from what the media call told
-  module _ (particles' : Pair) (share : particles' ≡ particles_of chemical') (r : Grounded) (is-told : grounded r ≡ ground_of (media_inputs site' values' particles')) where
+  module _ (particles' : Pair) (share : particles' ≡ particles_of chemical') (r : Grounded) (is_told : grounded r ≡ ground_of (media_inputs site' values' particles')) where
     ground_is : grounded r ≡ ground_with site' chemical'
     unfolding ground_with
-    ground_is = is-told ∙ ap₂ (λ (v : Values) (q : Pair). ground_of (media_inputs site' v q)) of-chemical share
+    ground_is = is_told ∙ ap₂ (λ (v : Values) (q : Pair). ground_of (media_inputs site' v q)) of_chemical share
 
     module _ (the_ground : Ground) (e : r ≡ Grounds.Is the_ground) where
       laid : ground_with site' chemical' ≡ is the_ground
@@ -111,7 +111,7 @@ module _ (site' : Values) (receptors' : Receptors) (chemical' : Record) (values'
 
 -- ---- a chemical after another
 module _ (site' : Values) (receptors' : Receptors) (records : List Record) (blank : Record) (i : ℕ) (here : i < length records) (worked : Bool) (s : Source)
-    (worked-is : worked ≡ not (stops_with site' receptors' (get_or records i blank))) (made : worked ≡ true → s ≡ source_of site' receptors' (get_or records i blank)) where
+    (worked_is : worked ≡ not (stops_with site' receptors' (get_or records i blank))) (made : worked ≡ true → s ≡ source_of site' receptors' (get_or records i blank)) where
   record_is : get_or records i blank ≡ get_or records i no_record
   record_is = read_any records i here blank no_record
 
@@ -119,7 +119,7 @@ module _ (site' : Values) (receptors' : Receptors) (records : List Record) (blan
   source_is w = made w ∙ ap (source_of site' receptors') record_is
 
   stops_is : (b : Bool) → worked ≡ b → stops_with site' receptors' (get_or records i no_record) ≡ not b
-  stops_is b w = sym (not-not (stops_with site' receptors' (get_or records i no_record))) ∙ ap not (sym (worked-is ∙ ap (λ (c : Record). not (stops_with site' receptors' c)) record_is) ∙ w)
+  stops_is b w = sym (not-not (stops_with site' receptors' (get_or records i no_record))) ∙ ap not (sym (worked_is ∙ ap (λ (c : Record). not (stops_with site' receptors' c)) record_is) ∙ w)
 
   module _ (none : first (chained (refused_source site' receptors' records) i) ≡ Passed) where
     pub goes_on : worked ≡ true → first (chained (refused_source site' receptors' records) (i + 1)) ≡ Passed

@@ -83,11 +83,11 @@ module _ (scenario : Scenario) (site' : Site) (sources : Sources) (cells : List 
       (λ k h. filled_at_place k (omega arith) ∙ sym (tabulated (cell_at scenario) 0 all_cells k (omega arith)))
 
 -- ---- the lines of a scenario of which no chemical stops
-module _ (scenario : Scenario) (site' : Site) (sources : Sources) (capped : Bool) (at-site : site' ≡ site_of scenario.site) (sources-are : sources ≡ sources_of site'.values scenario.receptors scenario.chemicals)
+module _ (scenario : Scenario) (site' : Site) (sources : Sources) (capped : Bool) (at_site : site' ≡ site_of scenario.site) (sources_are : sources ≡ sources_of site'.values scenario.receptors scenario.chemicals)
     (none : first (chained (no_media_at scenario) scenario.chemicals.count) ≡ Passed) where
   count_is : sources.count ≡ scenario.chemicals.count
   unfolding sources_of
-  count_is = ap (λ (x : Sources). x.count) sources-are
+  count_is = ap (λ (x : Sources). x.count) sources_are
 
   media_found : (i : ℕ) → i < scenario.chemicals.count → stops_at (ground_for scenario i) (mean_for scenario i) scenario.receptors.count ≡ false
   unfolding no_media_at
@@ -102,9 +102,9 @@ module _ (scenario : Scenario) (site' : Site) (sources : Sources) (capped : Bool
     unfolding chemical_in site_of
     figures_are =
         let r : Values = (receptor_in scenario j).values in
-        ap (λ (x : Sources). figures_from site' j r (source_at x i) (pathway_at p)) sources-are
+        ap (λ (x : Sources). figures_from site' j r (source_at x i) (pathway_at p)) sources_are
         ∙ ap (λ (s : Source). figures_from site' j r s (pathway_at p)) (source_at_lem site'.values scenario.receptors scenario.chemicals i h)
-        ∙ ap (λ (v : Site). figures_from v j r (source_of v.values scenario.receptors (chemical_in scenario i)) (pathway_at p)) at-site
+        ∙ ap (λ (v : Site). figures_from v j r (source_of v.values scenario.receptors (chemical_in scenario i)) (pathway_at p)) at_site
 
     figure_columns : (e : Effect) → columns_of e (figure_for e (figures_from site' j (receptor_in scenario j).values (source_at sources i) (pathway_at p))) ≡ columns_at e scenario j i (pathway_at p)
     figure_columns e = ap (λ (f : Figured). columns_of e (figure_for e f)) figures_are ∙ (line_figures scenario j i (pathway_at p) l (media_found i h) e).0
@@ -155,7 +155,7 @@ module _ (scenario : Scenario) where
 
   stopped : (conditions : List Condition) (s : Status) (number line field : ℕ) → s ≡ Stopped number line field → s ≡ first conditions → (cells : List ℕ) → cells ≡ no_cells → Told conditions s cells
   unfolding cells_for
-  stopped conditions s number line field stop is-first cells none = (is-first, none ∙ sym (ap (λ (t : Status). cells_for t scenario) stop))
+  stopped conditions s number line field stop is_first cells none = (is_first, none ∙ sym (ap (λ (t : Status). cells_for t scenario) stop))
 
   -- as they are worked
   module _ (capped : Bool) where
@@ -164,7 +164,7 @@ module _ (scenario : Scenario) where
     unfolding worked_by unmade first
     site_stops h cells none = stopped (worked_by capped scenario) (Stopped 53 0 0) 53 0 0 refl (rw h refl) cells none
 
-    module _ (few_chemicals : scenario.chemicals.count ≤ max_chemicals) (whole : lacks Ordinary OfSite scenario.site ≡ false) (site' : Site) (at-site : site' ≡ site_of scenario.site) where
+    module _ (few_chemicals : scenario.chemicals.count ≤ max_chemicals) (whole : lacks Ordinary OfSite scenario.site ≡ false) (site' : Site) (at_site : site' ≡ site_of scenario.site) where
       conditions_are : first (worked_by capped scenario) ≡ or_else (first (chained (no_media_at scenario) scenario.chemicals.count)) (first (lines_faulty capped scenario))
       unfolding worked_by unmade first
       conditions_are = rw whole (first_append (chained (no_media_at scenario) scenario.chemicals.count) (lines_faulty capped scenario))
@@ -173,31 +173,31 @@ module _ (scenario : Scenario) where
       unfolding refused_source stops_with no_media_at ground_with ground_for mean_for chemical_in receptor_in site_of
       chemicals_agree =
           chained_same (refused_source site'.values scenario.receptors scenario.chemicals.records) (no_media_at scenario) scenario.chemicals.count
-          (λ i h. ap (λ (v : Site). refused_source v.values scenario.receptors scenario.chemicals.records i) at-site)
+          (λ i h. ap (λ (v : Site). refused_source v.values scenario.receptors scenario.chemicals.records i) at_site)
 
       -- 53 by chemical
       pub chemical_stops : (s : Status) → s ≡ first (chained (refused_source site'.values scenario.receptors scenario.chemicals.records) scenario.chemicals.count) → (number line field : ℕ)
           → s ≡ Stopped number line field → (cells : List ℕ) → cells ≡ no_cells → Told (worked_by capped scenario) s cells
       unfolding or_else
-      chemical_stops s is-first number line field stop cells none =
-          let here : first (chained (no_media_at scenario) scenario.chemicals.count) ≡ Stopped number line field = sym (is-first ∙ ap first chemicals_agree) ∙ stop in
+      chemical_stops s is_first number line field stop cells none =
+          let here : first (chained (no_media_at scenario) scenario.chemicals.count) ≡ Stopped number line field = sym (is_first ∙ ap first chemicals_agree) ∙ stop in
           stopped (worked_by capped scenario) s number line field stop (stop ∙ sym (conditions_are ∙ ap (λ (t : Status). or_else t (first (lines_faulty capped scenario))) here)) cells none
 
-      module _ (sources : Sources) (sources-are : sources ≡ sources_of site'.values scenario.receptors scenario.chemicals)
+      module _ (sources : Sources) (sources_are : sources ≡ sources_of site'.values scenario.receptors scenario.chemicals)
           (ready : first (chained (refused_source site'.values scenario.receptors scenario.chemicals.records) scenario.chemicals.count) ≡ Passed) where
         pub sources_few : sources.count ≤ max_chemicals
         unfolding sources_of
-        sources_few = rw sources-are few_chemicals
+        sources_few = rw sources_are few_chemicals
 
         none : first (chained (no_media_at scenario) scenario.chemicals.count) ≡ Passed
         none = sym (ap first chemicals_agree) ∙ ready
 
-        module _ (s : Status) (is-first : s ≡ first (all_faulty capped site' sources scenario.receptors.list scenario.receptors.count)) where
+        module _ (s : Status) (is_first : s ≡ first (all_faulty capped site' sources scenario.receptors.list scenario.receptors.count)) where
           fault_first : s ≡ first (worked_by capped scenario)
           unfolding or_else
           fault_first =
-              is-first
-              ∙ ap first (lines_agree scenario site' sources capped at-site sources-are none)
+              is_first
+              ∙ ap first (lines_agree scenario site' sources capped at_site sources_are none)
               ∙ sym (conditions_are ∙ ap (λ (t : Status). or_else t (first (lines_faulty capped scenario))) none)
 
           -- 53 or 42 by line
@@ -211,7 +211,7 @@ module _ (scenario : Scenario) where
           unfolding cells_for
           all_counted read cells long held =
               let c : cells ≡ cells_of scenario =
-              filled_cells scenario site' sources cells (count_is scenario site' sources capped at-site sources-are none) (columns_agree scenario site' sources capped at-site sources-are none) held.0 held.1 long in
+              filled_cells scenario site' sources cells (count_is scenario site' sources capped at_site sources_are none) (columns_agree scenario site' sources capped at_site sources_are none) held.0 held.1 long in
               (fault_first, c ∙ sym (ap (λ (t : Status). cells_for t scenario) read))
 
   -- ---- every 53 before 42
@@ -293,21 +293,21 @@ module _ (scenario : Scenario) where
 
   pub memory_stops : (s : Status) → s ≡ first (scenario_conditions scenario) → (number line field : ℕ) → s ≡ Stopped number line field → (cells : List ℕ) → cells ≡ no_cells → Called (sheet_conditions scenario) s cells
   unfolding sheet_conditions refusals strictly or_else
-  memory_stops s is-first number line field stop cells none =
+  memory_stops s is_first number line field stop cells none =
       called (sheet_conditions scenario) s cells
       (stopped (sheet_conditions scenario) s number line field stop
-      (stop ∙ sym (first_append (scenario_conditions scenario) _ ∙ ap (λ (t : Status). or_else t (first (at 53 0 0 (unpaired_in scenario.site scenario.chemicals) ∷ strictly scenario))) (sym is-first ∙ stop))) cells none)
+      (stop ∙ sym (first_append (scenario_conditions scenario) _ ∙ ap (λ (t : Status). or_else t (first (at 53 0 0 (unpaired_in scenario.site scenario.chemicals) ∷ strictly scenario))) (sym is_first ∙ stop))) cells none)
 
-  module _ (s : Status) (is-first : s ≡ first (scenario_conditions scenario)) (passed : s ≡ Passed) where
+  module _ (s : Status) (is_first : s ≡ first (scenario_conditions scenario)) (passed : s ≡ Passed) where
     rest_is : first (sheet_conditions scenario) ≡ first (at 53 0 0 (unpaired_in scenario.site scenario.chemicals) ∷ strictly scenario)
     unfolding sheet_conditions refusals or_else strictly
-    rest_is = first_append (scenario_conditions scenario) _ ∙ ap (λ (t : Status). or_else t (first (at 53 0 0 (unpaired_in scenario.site scenario.chemicals) ∷ strictly scenario))) (sym is-first ∙ passed)
+    rest_is = first_append (scenario_conditions scenario) _ ∙ ap (λ (t : Status). or_else t (first (at 53 0 0 (unpaired_in scenario.site scenario.chemicals) ∷ strictly scenario))) (sym is_first ∙ passed)
 
     -- there is room for its records
     pub room_in_memory : (scenario.chemicals.count ≤ max_chemicals) × (scenario.receptors.count ≤ most_receptors)
     unfolding scenario_conditions memory_conditions ids_of
     room_in_memory =
-        let counts = (first_read _ _ (sym is-first ∙ passed)).0 in
+        let counts = (first_read _ _ (sym is_first ∙ passed)).0 in
         let t = counts_inside Ordinary scenario.chemicals.count scenario.receptors.count counts in
         (t.1, t.3)
 

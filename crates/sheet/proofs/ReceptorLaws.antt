@@ -74,10 +74,10 @@ module _ (capped : Bool) (site' : Site) (j : ℕ) (r : Values) (sources : Source
       ap (λ (s : Source). columns_of e (figure_for e (figures_from site' j r s (pathway_at p)))) (source_is ∙ ap (source_at sources) d)
       ∙ ap (λ (k : ℕ). columns_of e (figure_for e (figures_from site' j r (source_at sources ((i * pathways_per_chemical + p) / pathways_per_chemical)) (pathway_at k)))) m
 
-  module _ (before : ℕ) (s : Status) (is-first : s ≡ first (faulty_chemical capped site' j r (get_or sources.list i blank) (before + i * pathways_per_chemical)))
+  module _ (before : ℕ) (s : Status) (is_first : s ≡ first (faulty_chemical capped site' j r (get_or sources.list i blank) (before + i * pathways_per_chemical)))
       (none : first (chained (λ k. faulty_chemical capped site' j r (source_at sources k) (before + k * pathways_per_chemical)) i) ≡ Passed) where
     chemical_is : s ≡ first (faulty_chemical capped site' j r (source_at sources i) (before + i * pathways_per_chemical))
-    chemical_is = is-first ∙ ap (λ (x : Source). first (faulty_chemical capped site' j r x (before + i * pathways_per_chemical))) source_is
+    chemical_is = is_first ∙ ap (λ (x : Source). first (faulty_chemical capped site' j r x (before + i * pathways_per_chemical))) source_is
 
     pub chemical_on : s ≡ Passed → first (chained (λ k. faulty_chemical capped site' j r (source_at sources k) (before + k * pathways_per_chemical)) (i + 1)) ≡ Passed
     chemical_on read = goes_on (λ k. faulty_chemical capped site' j r (source_at sources k) (before + k * pathways_per_chemical)) i none s chemical_is read
@@ -89,13 +89,13 @@ module _ (capped : Bool) (site' : Site) (j : ℕ) (r : Values) (sources : Source
 
 -- Receptor after receptor.
 module _ (capped : Bool) (site' : Site) (sources : Sources) (list : List Receptor) (blank : Receptor) (j : ℕ) (here : j < length list) (r : Values)
-    (is-receptor : r ≡ (get_or list j blank).values) where
+    (is_receptor : r ≡ (get_or list j blank).values) where
   pub receptor_is : r ≡ (get_or list j no_receptor).values
-  receptor_is = is-receptor ∙ ap (λ (x : Receptor). x.values) (read_any list j here blank no_receptor)
+  receptor_is = is_receptor ∙ ap (λ (x : Receptor). x.values) (read_any list j here blank no_receptor)
 
-  module _ (s : Status) (is-first : s ≡ first (faulty_worked capped site' sources j r (j * per_receptor sources.count))) (none : first (all_faulty capped site' sources list j) ≡ Passed) where
+  module _ (s : Status) (is_first : s ≡ first (faulty_worked capped site' sources j r (j * per_receptor sources.count))) (none : first (all_faulty capped site' sources list j) ≡ Passed) where
     fault_is_here : s ≡ first (faulty_worked capped site' sources j (get_or list j no_receptor).values (j * per_receptor sources.count))
-    fault_is_here = is-first ∙ ap (λ (x : Values). first (faulty_worked capped site' sources j x (j * per_receptor sources.count))) receptor_is
+    fault_is_here = is_first ∙ ap (λ (x : Values). first (faulty_worked capped site' sources j x (j * per_receptor sources.count))) receptor_is
 
     pub fault_on : s ≡ Passed → first (all_faulty capped site' sources list (j + 1)) ≡ Passed
     unfolding all_faulty

@@ -179,12 +179,12 @@ most_more m n Cols.Absent l h = tt
 most_more m n (Cols.Counted a b) l h = (omega arith, omega arith)
 
 module _ (scenario : Scenario) {exact : Exact} (sound : Sound scenario exact) (small : first (large_lines scenario) ≡ Passed) where
-  module _ (e : Effect) (j i p : ℕ) (j-small : j < scenario.receptors.count) (i-small : i < scenario.chemicals.count) (p-small : p < pathways_per_chemical) where
+  module _ (e : Effect) (j i p : ℕ) (j-small : j < scenario.receptors.count) (i-small : i < scenario.chemicals.count) (p_small : p < pathways_per_chemical) where
     figure : has_reference e scenario i (pathway_at p) ≡ true → Figure scenario exact j i e (pathway_at p)
     unfolding over_cap
     figure h =
         figure_counted scenario sound j i j-small i-small e (pathway_at p)
-        (capped (has_reference e scenario i (pathway_at p)) (high_above (cap_of e) (figure_at e scenario j i (pathway_at p))) h (not_large scenario small e j i p j-small i-small p-small))
+        (capped (has_reference e scenario i (pathway_at p)) (high_above (cap_of e) (figure_at e scenario j i (pathway_at p))) h (not_large scenario small e j i p j-small i-small p_small))
 
     pub line_by_rule : has_reference e scenario i (pathway_at p) ≡ true → ByRule e scenario j i (pathway_at p)
     unfolding figure_at columns_at
@@ -270,14 +270,14 @@ lines_figured scenario few_chemicals few_receptors none =
 
 -- ---- where no line is refused and none too large, all counts and totals are small
 module _ (scenario : Scenario) (figured : Figured scenario) (small : first (large_lines scenario) ≡ Passed) where
-  module _ (e : Effect) (j i p : ℕ) (j-small : j < scenario.receptors.count) (i-small : i < scenario.chemicals.count) (p-small : p < pathways_per_chemical) where
+  module _ (e : Effect) (j i p : ℕ) (j-small : j < scenario.receptors.count) (i-small : i < scenario.chemicals.count) (p_small : p < pathways_per_chemical) where
     pub columns_small : CountsMost (10 ^ 16) (columns_at e scenario j i (pathway_at p))
     unfolding columns_at counted_in counted CountsMost over_cap
     columns_small =
         most_if (has_reference e scenario i (pathway_at p)) e (figure_at e scenario j i (pathway_at p))
         (λ h.
-        let f = figured.told e j i p j-small i-small p-small h in
-        let c = capped (has_reference e scenario i (pathway_at p)) (high_above (cap_of e) (figure_at e scenario j i (pathway_at p))) h (not_large scenario small e j i p j-small i-small p-small) in
+        let f = figured.told e j i p j-small i-small p_small h in
+        let c = capped (has_reference e scenario i (pathway_at p)) (high_above (cap_of e) (figure_at e scenario j i (pathway_at p))) h (not_large scenario small e j i p j-small i-small p_small) in
         let n = pair_counted e f.0 f.2 (subst (λ (o : Outcome Pair). high_above (cap_of e) o ≡ false) f.1 c) in
         rw (f.1, n.told) n.small)
 
@@ -285,8 +285,8 @@ module _ (scenario : Scenario) (figured : Figured scenario) (small : first (larg
     pub never_dash : has_reference e scenario i (pathway_at p) ≡ true → (u : Units) × (columns_at e scenario j i (pathway_at p) ≡ Cols.Counted u.low u.high)
     unfolding columns_at over_cap
     never_dash h =
-        let f = figured.told e j i p j-small i-small p-small h in
-        let c = capped (has_reference e scenario i (pathway_at p)) (high_above (cap_of e) (figure_at e scenario j i (pathway_at p))) h (not_large scenario small e j i p j-small i-small p-small) in
+        let f = figured.told e j i p j-small i-small p_small h in
+        let c = capped (has_reference e scenario i (pathway_at p)) (high_above (cap_of e) (figure_at e scenario j i (pathway_at p))) h (not_large scenario small e j i p j-small i-small p_small) in
         let n = pair_counted e f.0 f.2 (subst (λ (o : Outcome Pair). high_above (cap_of e) o ≡ false) f.1 c) in
         (n.units, columns_counted (has_reference e scenario i (pathway_at p)) e (figure_at e scenario j i (pathway_at p)) f.0 n.units h f.1 n.told)
 

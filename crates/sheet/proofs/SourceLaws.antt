@@ -127,7 +127,7 @@ factor_read e p scenario j i = plain_worked (pairs_at scenario j i) (page.factor
 
 -- ---- a dose
 -- the dose as a pair is the page's intake
-module _ (scenario : Scenario) (j i : ℕ) (e : Effect) (p : Pathway) (m : Media) (medium-is : worked (pairs_at scenario j i) (page.medium e (stay_in scenario j) p) ≡ is (medium_in p m)) where
+module _ (scenario : Scenario) (j i : ℕ) (e : Effect) (p : Pathway) (m : Media) (medium_is : worked (pairs_at scenario j i) (page.medium e (stay_in scenario j) p) ≡ is (medium_in p m)) where
   factor : Outcome Factor
   factor = factor_of e p (values_of scenario.site) (values_of (chemical_in scenario i)) (receptor_in scenario j).values
 
@@ -137,7 +137,7 @@ module _ (scenario : Scenario) (j i : ℕ) (e : Effect) (p : Pathway) (m : Media
       dose_pair p factor m
       ∙ ap (λ (o : Outcome Pair). after product o (is (medium_in p m)))
       (pair_back (λ (g : Factor). g.0) (λ (q : Pair). record { 0 = q }) (λ q. refl) (worked_for (values_of scenario.site) (values_of (chemical_in scenario i)) (receptor_in scenario j).values (page.factor e p)) ∙ factor_read e p scenario j i)
-      ∙ ap (λ (o : Outcome Pair). after product (worked (pairs_at scenario j i) (page.factor e p)) o) (sym medium-is)
+      ∙ ap (λ (o : Outcome Pair). after product (worked (pairs_at scenario j i) (page.factor e p)) o) (sym medium_is)
 
 -- ---- a figure
 line_by : (e : Effect) (stay : Stay) (p : Pathway) (v : Inputs Pair) → worked v (page.intake_line e stay p) ≡ of_two (figure_by e) (worked v (page.intake e stay p)) (is (v.value (reference_slot e p)))
@@ -203,7 +203,7 @@ broken_some (is p) = refl
 broken_some (refused n) = refl
 
 -- a figure that is worked from its reference value, where there is one
-module _ (e : Effect) (f : Optional Pair → Outcome (Optional Pair)) (o : Pair → Outcome Pair) (without : f none ≡ is none) (with-one : (v : Pair) → f (some v) ≡ mapped (λ (q : Pair). some q) (o v)) where
+module _ (e : Effect) (f : Optional Pair → Outcome (Optional Pair)) (o : Pair → Outcome Pair) (without : f none ≡ is none) (with_one : (v : Pair) → f (some v) ≡ mapped (λ (q : Pair). some q) (o v)) where
   figure_columns : (v : Value) →
       (columns_of e (f (optional v)) ≡ cond (is_given v) (counted_in (unit_of e) (o (pair_of v))) Cols.Absent)
       × (above_cap e (f (optional v)) ≡ (is_given v && high_above (cap_of e) (o (pair_of v))))
@@ -212,7 +212,7 @@ module _ (e : Effect) (f : Optional Pair → Outcome (Optional Pair)) (o : Pair 
   figure_columns Absent = (rw without refl, rw without refl, rw without refl)
   figure_columns (Given power digits) =
       let v : Pair = pair_of (Given power digits) in
-      (ap (columns_of e) (with-one v) ∙ columns_some e (o v), ap (above_cap e) (with-one v) ∙ cap_some e (o v), ap is_refused (with-one v) ∙ broken_some (o v))
+      (ap (columns_of e) (with_one v) ∙ columns_some e (o v), ap (above_cap e) (with_one v) ∙ cap_some e (o v), ap is_refused (with_one v) ∙ broken_some (o v))
 
 -- ---- pathway 1 by the guidance of 2009
 time_read : (e : Effect) (scenario : Scenario) (j i : ℕ) → worked_of (receptor_in scenario j).values (page.time_share e) ≡ worked (pairs_at scenario j i) (page.time_share e)

@@ -98,13 +98,13 @@ never_41 =
       composite_read = read_never Composite;
       total = λ list before. left_never 52 (λ e. omega arith) (λ k. k) (total_of list) before (total_by list);
       entry = λ digits power before. by_53 numbers_of _ before (entry_by digits power);
-      one_minus_entry_lem = λ digits power before. by_53 numbers_of _ before (one_minus_entry_by digits power);
+      one_minus_entry = λ digits power before. by_53 numbers_of _ before (one_minus_entry_by digits power);
       sum = two_never calls.sum sum_by;
       product = two_never calls.product product_by;
       quotient = two_never calls.quotient quotient_by;
-      one_minus_lem = one_never calls.one_minus one_minus_by;
+      one_minus = one_never calls.one_minus one_minus_by;
       series = one_never (λ p. pair_series phi (is p)) (series_by phi);
-      mean_series_lem = one_never (λ p. pair_series psi (is p)) (series_by psi);
+      mean_series = one_never (λ p. pair_series psi (is p)) (series_by psi);
       compare = compare_never;
-      in_units_lem = units_never;
+      in_units = units_never;
     }

@@ -19,12 +19,12 @@ pub record Never (n : ℕ) : Type 0 where
   pub composite_read : (deck : List ℕ) → (read_told Composite deck).number ≢ n
   pub total : (list : List ℕ) (before : ℕ) → (leaves (λ k. k) (total_of list) before).number ≢ n
   pub entry : (digits : ℕ) (power : ℤ) (before : List ℤ) → (leaves numbers_of (calls.entry digits power) before).number ≢ n
-  pub one_minus_entry_lem : (digits : ℕ) (power : ℤ) (before : List ℤ) → (leaves numbers_of (calls.one_minus_entry digits power) before).number ≢ n
+  pub one_minus_entry : (digits : ℕ) (power : ℤ) (before : List ℤ) → (leaves numbers_of (calls.one_minus_entry digits power) before).number ≢ n
   pub sum : (a b before : List ℤ) → (on_two_pairs calls.sum a b before).number ≢ n
   pub product : (a b before : List ℤ) → (on_two_pairs calls.product a b before).number ≢ n
   pub quotient : (a b before : List ℤ) → (on_two_pairs calls.quotient a b before).number ≢ n
-  pub one_minus_lem : (f before : List ℤ) → (on_one_pair calls.one_minus f before).number ≢ n
+  pub one_minus : (f before : List ℤ) → (on_one_pair calls.one_minus f before).number ≢ n
   pub series : (x before : List ℤ) → (on_one_pair (λ p. pair_series phi (calls.is p)) x before).number ≢ n
-  pub mean_series_lem : (x before : List ℤ) → (on_one_pair (λ p. pair_series psi (calls.is p)) x before).number ≢ n
+  pub mean_series : (x before : List ℤ) → (on_one_pair (λ p. pair_series psi (calls.is p)) x before).number ≢ n
   pub compare : (a b : List ℤ) (before : ℕ) → (comparison a b before).number ≢ n
-  pub in_units_lem : (p : List ℤ) (unit : ℤ) (before : Units) → (units_left p unit before).number ≢ n
+  pub in_units : (p : List ℤ) (unit : ℤ) (before : Units) → (units_left p unit before).number ≢ n
