@@ -2,10 +2,8 @@
 -- and a line feed: 19 bytes.
 -- Bytes: 10 is a line feed.
 -- Assumes nothing.
-use Rattle.std.specs.Prelude.{ℕ, ◌<◌, ◌≤◌, cond, List, [], ◌∷◌, ◌++◌, eqb, length, take, Option, ⊤}
+use Rattle.std.specs.Prelude.{ℕ, ◌<◌, ◌≤◌, cond, List, [], ◌∷◌, ◌++◌, eqb, length, take, Option, Result, Ok, Err, ⊤}
 use Rattle.std.specs.Io.KnownBytes.{Consumes, IsAtEnd}
-use Rattle.answers.specs.declared.Input.{Input}
-use Rattle.answers.specs.declared.Input.TheVariants.{Read, Failed}
 use Rattle.cases.specs.declared.Told.{Told}
 use Rattle.spelling.specs.Columns.{number}
 
@@ -21,6 +19,6 @@ unfoldable pub answer_text : Told → List ℕ → List ℕ
 answer_text told buffer = cond (eqb told.number 0) (take told.line buffer) (refusal_text told)
 
 -- what was read into a room: as many bytes as are told, the next ones of the input, which has no more where the room has
-abbrev pub IsRead : Option (List ℕ) → Option (List ℕ) → Input → List ℕ → Type 0
-IsRead old new (Read n) room = (n ≤ length room) × Consumes old new (take n room) × (n < length room → IsAtEnd new)
-IsRead old new Failed room = ⊤
+abbrev pub IsRead : {E : Type 0} → Option (List ℕ) → Option (List ℕ) → Result ℕ E → List ℕ → Type 0
+IsRead old new (Ok n) room = (n ≤ length room) × Consumes old new (take n room) × (n < length room → IsAtEnd new)
+IsRead old new (Err e) room = ⊤

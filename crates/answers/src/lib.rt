@@ -15,28 +15,22 @@ const COLUMNS: usize = 6;
 
 const REFUSAL_WIDTH: usize = 3 * COLUMNS + 1;
 
-const LINE_FEED: u8 = 10;
+const LINE_FEED: u8 = b'\n';
 
-// How many bytes were read, to the end of the input or of the room for them; or that a read failed.
-#[derive(Clone, Copy)]
-pub enum Input {
-    Read(usize),
-    Failed,
-}
-
-// Reads the input into the room.
-pub fn read_input<R: Read>(from: &mut R, room: &mut [u8]) -> Input
+// Reads the input into the room: how many bytes, to the end of the input or of the room for them; or the failure of a read. The loop is written
+// out: `read_exact` does not tell how many bytes an input has that ends before the room, and `read_to_end` needs a heap.
+pub fn read_input<R: Read>(from: &mut R, room: &mut [u8]) -> io::Result<usize>
     ensures { IsRead (R.remaining from.old) (R.remaining from.new) result room.new }
 {
     let mut done: usize = 0;
     while done < room.len() {
-        match from.read(&mut room[done..]) {
-            Ok(0) => return Input::Read(done),
-            Ok(more) => done += more,
-            Err(_) => return Input::Failed,
+        let more = from.read(&mut room[done..])?;
+        if more == 0 {
+            break;
         }
+        done += more;
     }
-    Input::Read(done)
+    Ok(done)
 }
 
 // The three numbers in their columns; the last byte stays the line feed.
@@ -51,6 +45,7 @@ fn refusal(told: Told) -> [u8; REFUSAL_WIDTH]
 }
 
 // The bytes to print: the buffer's first, as many as the report has, or the refusal's.
+#[tactic(auto, unfolding(crate::specs::Answers::answer_text))]
 fn answer_text<'a>(told: Told, buffer: &'a [u8], refusal: &'a [u8]) -> &'a [u8]
     requires { refusal.now ≡ refusal_text told }
     ensures { result.now ≡ answer_text told buffer.now }
@@ -61,15 +56,10 @@ fn answer_text<'a>(told: Told, buffer: &'a [u8], refusal: &'a [u8]) -> &'a [u8]
     spelling::front(buffer, told.line)
 }
 
-// After the program's name. Where that cannot be written either, nothing is left to say it to.
-fn complain<E: Write>(errors: &mut E, program: &[u8], what: &[u8]) {
+// After the program's name, which may be any bytes. Where that cannot be written either, nothing is left to say it to.
+fn complain<E: Write>(errors: &mut E, program: &[u8], what: &str) {
     let _ = errors.write_all(program);
-    let _ = errors.write_all(what);
-}
-
-// Says that the deck could not be read; on standard output stands nothing then.
-pub fn unreadable<E: Write>(errors: &mut E, program: &[u8]) {
-    complain(errors, program, b": the deck could not be read\n");
+    let _ = writeln!(errors, ": {what}");
 }
 
 // Writes what the call told, with the buffer that it wrote into.
@@ -80,15 +70,20 @@ pub fn write_answer<W: Write>(to: &mut W, told: Told, buffer: &[u8]) -> io::Resu
     to.write_all(answer_text(told, buffer, &refusal))
 }
 
-// Prints what the call told, with the buffer that it wrote into. Where it cannot be written, the program of this name says so.
+// Prints what the call told, with the buffer that it wrote into. Where the deck could not be read, or the answer cannot be written, the program of
+// this name says so; of a deck that could not be read nothing else is printed.
 pub fn answer<W: Write, E: Write>(
     to: &mut W,
     errors: &mut E,
     program: &[u8],
-    told: Told,
+    told: io::Result<Told>,
     buffer: &[u8],
 ) {
-    if write_answer(to, told, buffer).is_err() {
-        complain(errors, program, b": the report could not be written\n");
+    match told {
+        Err(_) => complain(errors, program, "the deck could not be read"),
+        Ok(told) if write_answer(to, told, buffer).is_err() => {
+            complain(errors, program, "the report could not be written");
+        }
+        Ok(_) => {}
     }
 }

@@ -1,6 +1,6 @@
 -- The conditions of a case in memory, part by part. Assumes nothing.
 use mathlib.Core.Path.{◌≡◌, refl, sym, ◌∙◌, ap, ap₂}
-use mathlib.Core.Bool.{Bool, true, false, cond, not, ◌||◌}
+use mathlib.Core.Bool.{Bool, true, false, ◌||◌}
 use Prim.Native.Nat.{ℕ, ◌+◌, ◌≤◌, ◌<◌}
 use native.Mathlib.Nat.{eq-zero-or-pos}
 use native.Mathlib.Numerals.{add-one}
@@ -8,10 +8,12 @@ use native.Mathlib.Omega.{arith}
 use mathlib.Core.Logic.{⊎_elim}
 use borrow.Author.Tests.{eqb-false, ltb-false, ne_eqb, le-ltb}
 use lib.Dec.{leb, ltb, eqb}
-use lib.IntN.{ℤ}
-use lib.ListN.{get_or}
-use Rattle.lists.specs.Lists.{any_of}
+use lib.ListN.{length, get_or, take}
+use Rattle.std.proofs.lemmas.List.{get_or-take, length-take-le}
+use Rattle.std.specs.Prelude.{Err}
+use Rattle.lists.specs.Lists.{any_of, chained}
 use Rattle.lists.proofs.AnyOf.{any_of_lem, none_more}
+use Rattle.lists.proofs.Chained.{chained_same}
 use Rattle.lists.proofs.Booleans.{neither}
 use Rattle.sizes.specs.Sizes.{max_chemicals, most_stages, slots_per_record}
 use Rattle.slots.specs.declared.Owner.{Owner}
@@ -20,17 +22,14 @@ use Rattle.slots.specs.declared.Sort.{Sort}
 use Rattle.slots.specs.declared.Sort.TheVariants.{Ordinary, Composite}
 use Rattle.cases.specs.Cases.{no_record, max_receptors}
 use Rattle.slots.specs.declared.Rule.{Rule}
-use Rattle.cases.specs.CaseConditions.{outside, counts_outside, most_id, id_before, id_wrong, ids_wrong, is_missing, is_stray, some_id_wrong, is_out_of_range, slot_conditions, record_conditions, chemical_conditions, source_conditions, memory_conditions}
-use Rattle.cases.specs.Conditions.{Nowhere, first}
-use Rattle.cases.proofs.FirstMet.{or_else, first_append, each_append, each_chained}
-use Rattle.cases.specs.Ranges.{in_range}
+use Rattle.cases.specs.CaseConditions.{outside, counts_outside, most_id, id_before, id_wrong, ids_wrong, some_id_wrong, slot_conditions, record_conditions, chemical_conditions, source_conditions, memory_conditions}
+use Rattle.cases.specs.Conditions.{Nowhere, Status, stopped, Verdict, accepted, first, verdict_of}
+use Rattle.cases.proofs.FirstMet.{or_else, first_append, each_append, each_chained, refused_stops, verdict_passed}
+use Rattle.cases.specs.declared.Refusal.{Refusal}
 use Rattle.cases.specs.declared.Chemicals.{Chemicals}
 use Rattle.cases.specs.declared.Ids.{Ids}
 use Rattle.cases.specs.declared.Record.{Record}
-use Rattle.cases.specs.declared.Status.{Status}
-use Rattle.cases.specs.declared.Status.TheVariants.{Passed, Stopped}
 use Rattle.cases.specs.declared.Value.{Value}
-use Rattle.cases.specs.declared.Value.TheVariants.{Absent, Given}
 
 -- ---- ids, record after record: id is that of record i, and before the one before it
 module _ (ids : ℕ → ℕ) (i id' before : ℕ) (is-id : id' ≡ ids i) (is_before : before ≡ id_before ids i) (wrong : Bool) (told : wrong ≡ (leb id' before || ltb most_id id')) where
@@ -46,52 +45,9 @@ module _ (ids : ℕ → ℕ) (i id' before : ℕ) (is-id : id' ≡ ids i) (is_be
   unfolding id_before
   id_on h none = (rw (add-one i) is-id, none_more (id_wrong ids) i none (sym wrong_is ∙ h))
 
--- ---- a slot, by its value
-module _ (rule : Rule) (v : Value) where
-  pub slot_missing : is_missing rule v ≡ true → Stopped 32 0 0 ≡ first (slot_conditions rule v)
-  unfolding slot_conditions first
-  slot_missing h = rw h refl
-
-  pub slot_absent : v ≡ Absent → is_missing rule v ≡ false → Passed ≡ first (slot_conditions rule v)
-  unfolding slot_conditions first is_stray is_out_of_range
-  slot_absent e h = rw (h, e) refl
-
-  module _ (power : ℤ) (digits : ℕ) (e : v ≡ Given power digits) where
-    pub slot_stray : rule.used ≡ false → Stopped 32 0 0 ≡ first (slot_conditions rule v)
-    unfolding slot_conditions first is_missing is_stray
-    slot_stray u = rw (e, u) refl
-
-    -- a slot of the record: in its range or not
-    ranged : (t : Bool) → in_range rule digits power ≡ t → rule.used ≡ true → cond t Passed (Stopped 33 0 0) ≡ first (slot_conditions rule v)
-    unfolding slot_conditions first is_missing is_stray is_out_of_range
-    ranged true r u = rw e (sym (ap₂ (λ (a b : Bool). cond (not a) (Stopped 32 0 0) (cond (not b) (Stopped 33 0 0) Passed)) u r))
-    ranged false r u = rw e (sym (ap₂ (λ (a b : Bool). cond (not a) (Stopped 32 0 0) (cond (not b) (Stopped 33 0 0) Passed)) u r))
-
-    pub slot_far : rule.used ≡ true → in_range rule digits power ≡ false → Stopped 33 0 0 ≡ first (slot_conditions rule v)
-    slot_far u r = ranged false r u
-
-    pub slot_near : rule.used ≡ true → in_range rule digits power ≡ true → Passed ≡ first (slot_conditions rule v)
-    slot_near u r = ranged true r u
-
--- ---- lists of slots and records as the loops go through them
-module _ (f : ℕ → Bool) (k : ℕ) (b : Bool) (told : b ≡ f k) where
-  pub any_stops : b ≡ true → (n : ℕ) → k < n → true ≡ any_of f n
-  any_stops h n l = sym (any_of_lem f k n (sym told ∙ h) l)
-
-  pub any_on : b ≡ false → any_of f k ≡ false → any_of f (k + 1) ≡ false
-  any_on h none = none_more f k none (sym told ∙ h)
-
--- a slot with a value is not missing
-pub given_there : (rule : Rule) (v : Value) (power : ℤ) (digits : ℕ) → v ≡ Given power digits → false ≡ is_missing rule v
-unfolding is_missing
-given_there rule v power digits e = rw e refl
-
--- under a rule that is the same
-pub missing_under : (r s : Rule) (v : Value) (b : Bool) → b ≡ is_missing r v → r ≡ s → b ≡ is_missing s v
-missing_under r s v b h e = h ∙ ap (λ (x : Rule). is_missing x v) e
-
-pub slot_under : (r t : Rule) (v : Value) (s : Status) → s ≡ first (slot_conditions r v) → r ≡ t → s ≡ first (slot_conditions t v)
-slot_under r t v s h e = h ∙ ap (λ (x : Rule). first (slot_conditions x v)) e
+-- ---- a slot under a rule that is the same
+pub slot_under : (r t : Rule) (v : Value) (s : Verdict) → s ≡ verdict_of (first (slot_conditions r v)) → r ≡ t → s ≡ verdict_of (first (slot_conditions t v))
+slot_under r t v s h e = h ∙ ap (λ (x : Rule). verdict_of (first (slot_conditions x v))) e
 
 -- ---- counts that are not outside
 not_outside : (most n : ℕ) → outside most n ≡ false → (1 ≤ n) × (n ≤ most)
@@ -130,14 +86,21 @@ unfolding memory_conditions source_conditions chemical_conditions
 memory_nowhere sort site chemicals receptors =
     ((refl, refl), ((refl, refl), each_append _ (record_conditions Ordinary Site site) _ (record_nowhere Site site) (each_chained _ _ (λ i. record_nowhere Chemical (get_or chemicals.records i no_record)) chemicals.count)))
 
+-- the chemicals' conditions, of the part of the records that has them
+pub taken_conditions : (c : Chemicals) → c.count ≤ length c.records → chained (λ i. record_conditions Ordinary Chemical (get_or (take c.count c.records) i no_record)) (length (take c.count c.records)) ≡ chemical_conditions c
+unfolding chemical_conditions
+taken_conditions c h =
+    rw (length-take-le c.count c.records h)
+    (chained_same _ _ c.count (λ i l. ap (record_conditions Ordinary Chemical) (get_or-take c.count c.records i no_record l)))
+
 -- ---- the whole list
 module _ (sort : Sort) (site : Record) (chemicals : Chemicals) (receptors : Ids) where
-  pub counts_stop : counts_outside sort chemicals.count receptors.count ≡ true → Stopped 21 0 0 ≡ first (memory_conditions sort site chemicals receptors)
+  pub counts_stop : counts_outside sort chemicals.count receptors.count ≡ true → stopped 21 0 0 ≡ first (memory_conditions sort site chemicals receptors)
   unfolding memory_conditions first
   counts_stop h = rw h refl
 
   module _ (counts : counts_outside sort chemicals.count receptors.count ≡ false) where
-    pub ids_stop : some_id_wrong site chemicals receptors ≡ true → Stopped 22 0 0 ≡ first (memory_conditions sort site chemicals receptors)
+    pub ids_stop : some_id_wrong site chemicals receptors ≡ true → stopped 22 0 0 ≡ first (memory_conditions sort site chemicals receptors)
     unfolding memory_conditions first
     ids_stop h = rw (counts, h) refl
 
@@ -146,11 +109,13 @@ module _ (sort : Sort) (site : Record) (chemicals : Chemicals) (receptors : Ids)
       unfolding memory_conditions source_conditions first
       slots_are = rw (counts, ids) (first_append (record_conditions Ordinary Site site) (chemical_conditions chemicals))
 
-      module _ (s : Status) (is-site : s ≡ first (record_conditions Ordinary Site site)) where
-        pub site_stops : (number line field : ℕ) → s ≡ Stopped number line field → s ≡ first (memory_conditions sort site chemicals receptors)
+      module _ (v : Verdict) (is-site : v ≡ verdict_of (first (record_conditions Ordinary Site site))) where
+        pub site_refuses : (r : Refusal) → v ≡ Err r → Err r ≡ verdict_of (first (memory_conditions sort site chemicals receptors))
         unfolding or_else
-        site_stops number line field e = e ∙ sym (slots_are ∙ ap (λ (t : Status). or_else t (first (chemical_conditions chemicals))) (sym is-site ∙ e))
+        site_refuses r e =
+            let t = refused_stops (first (record_conditions Ordinary Site site)) r (sym is-site ∙ e) in
+            sym e ∙ is-site ∙ ap verdict_of (t.1 ∙ sym (slots_are ∙ ap (λ (u : Status). or_else u (first (chemical_conditions chemicals))) t.1))
 
-        pub site_passes : s ≡ Passed → (t : Status) → t ≡ first (chemical_conditions chemicals) → t ≡ first (memory_conditions sort site chemicals receptors)
+        pub site_accepts : v ≡ accepted → (w : Verdict) → w ≡ verdict_of (first (chemical_conditions chemicals)) → w ≡ verdict_of (first (memory_conditions sort site chemicals receptors))
         unfolding or_else
-        site_passes e t h = h ∙ sym (slots_are ∙ ap (λ (u : Status). or_else u (first (chemical_conditions chemicals))) (sym is-site ∙ e))
+        site_accepts e w h = h ∙ ap verdict_of (sym (slots_are ∙ ap (λ (u : Status). or_else u (first (chemical_conditions chemicals))) (verdict_passed (first (record_conditions Ordinary Site site)) (sym is-site ∙ e))))

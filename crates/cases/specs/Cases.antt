@@ -14,7 +14,6 @@ use Rattle.slots.specs.declared.Guidance.{Guidance}
 use Rattle.slots.specs.declared.Guidance.TheVariants.{Of2005, Of2009}
 use Rattle.cases.specs.declared.Value.{Value}
 use Rattle.cases.specs.declared.Value.TheVariants.{Absent, Given}
-use Rattle.cases.specs.declared.Filled.{Filled}
 use Rattle.cases.specs.declared.Record.{Record}
 use Rattle.cases.specs.declared.Case.{Case}
 
@@ -23,12 +22,9 @@ abbrev pub max_receptors : Sort → ℕ
 max_receptors Ordinary = most_receptors
 max_receptors Composite = most_stages
 
--- a slot past those of the site's two lines, or of a place that has no record
-abbrev pub no_slot : Filled
-no_slot = record { value = Absent }
-
+-- every slot is without a value, as those past the site's two lines are, and those of a place that has no record
 abbrev pub no_record : Record
-no_record = record { id = 0; slots = replicate slots_per_record no_slot }
+no_record = record { id = 0; slots = replicate slots_per_record Absent }
 
 -- no site, chemical or receptor
 unfoldable pub no_case : Case
@@ -42,7 +38,7 @@ no_case =
 -- ---- its values, by name
 -- slot k of a record, from 0
 unfoldable pub value_at : Record → ℕ → Value
-value_at r k = (get_or r.slots k no_slot).value
+value_at r k = get_or r.slots k Absent
 
 -- chemical i and receptor j, from 0
 unfoldable pub chemical_at : Case → ℕ → Record
@@ -72,7 +68,7 @@ is_other_year (Given power digits) = not (is_year digits power)
 
 -- a site's record and a case with no value in the year's slot
 unfoldable pub clear_year : Record → Record
-clear_year r = record { id = r.id; slots = set r.slots (place_of "year") no_slot }
+clear_year r = record { id = r.id; slots = set r.slots (place_of "year") Absent }
 
 unfoldable pub case_without_year : Case → Case
 case_without_year case = record { site = clear_year case.site; chemicals = case.chemicals; receptors = case.receptors }

@@ -7,24 +7,24 @@ use crate::ranges::{is_year, is_year_of};
 use slots::Guidance;
 
 // The guidance of a printed year; no value means 2005, and so does a year of neither.
+#[tactic(auto, unfolding(crate::specs::Cases::guidance_of))]
 pub fn guidance_of(v: Value) -> Guidance
     ensures { result ≡ guidance_of v }
 {
-    let Value::Given { digits, power } = v else {
-        return Guidance::Of2005;
-    };
-    if is_year_of(Guidance::Of2009, digits, power) {
-        return Guidance::Of2009;
+    match v {
+        Value::Given { power, digits } if is_year_of(Guidance::Of2009, digits, power) =>
+            Guidance::Of2009,
+        _ => Guidance::Of2005,
     }
-    Guidance::Of2005
 }
 
 // A number that is the year of neither, which no deck that is read has.
+#[tactic(auto, unfolding(crate::specs::Cases::is_other_year))]
 pub fn is_other_year(v: Value) -> bool
     ensures { result ≡ is_other_year v }
 {
-    let Value::Given { digits, power } = v else {
-        return false;
-    };
-    !is_year(digits, power)
+    match v {
+        Value::Given { power, digits } => !is_year(digits, power),
+        Value::Absent => false,
+    }
 }

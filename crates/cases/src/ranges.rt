@@ -1,19 +1,11 @@
 // The range of a slot's value, by exact comparison.
-ghost use Rattle.std.specs.Prelude.{◌≡◌, ◌^◌, ◌<◌, ◌≤◌};
+ghost use Rattle.std.specs.Prelude.{◌≡◌, ◌<◌};
 ghost use Rattle.cases.specs.Ranges.{value_at_most, value_at_least, within_bounds, is_year_of, is_year, in_range};
 
-use powers::{lowered, raised};
+use powers::{lowered, raised, ten_to};
 use slots::{Guidance, Rule};
 
-// 10 ^ n.
-fn ten_to(n: u32) -> u64
-    requires { n ≤ 19 }
-    ensures { result ≡ 10 ^ n }
-{
-    powers::ten_to(n)
-}
-
-// digits × 10 ^ power is at most `most`, which has at most ten figures; the digits have at most twenty. Where a product may not fit, a power
+// No order of a type: digits × 10 ^ power is at most `most`, which has at most ten figures; the digits have at most twenty. Where a product may not fit, a power
 // above 0 divides `most`, and one below 0 the digits. These lose one first, so that a remainder counts.
 fn at_most(most: u32, digits: u64, power: i32) -> bool
     requires { 0 < digits }
@@ -52,16 +44,14 @@ fn at_least(digits: u64, power: i32) -> bool
     ten_to(short) <= digits
 }
 
+#[tactic(auto, unfolding(crate::specs::Ranges::within_bounds))]
 fn within_bounds(rule: Rule, digits: u64, power: i32) -> bool
     ensures { result ≡ within_bounds rule digits power }
 {
     if digits == 0 {
         return rule.zero;
     }
-    if !at_least(digits, power) {
-        return false;
-    }
-    at_most(rule.most, digits, power)
+    at_least(digits, power) && at_most(rule.most, digits, power)
 }
 
 // digits × 10 ^ power is the year of this guidance. Neither year ends in 0, and a year × 10 ^ 16 is more than the digits can be.
@@ -79,23 +69,16 @@ pub(crate) fn is_year_of(guidance: Guidance, digits: u64, power: i32) -> bool
 }
 
 // The year of either.
+#[tactic(auto, unfolding(crate::specs::Ranges::is_year))]
 pub(crate) fn is_year(digits: u64, power: i32) -> bool
     ensures { result ≡ is_year digits power }
 {
-    if is_year_of(Guidance::Of2005, digits, power) {
-        return true;
-    }
-    is_year_of(Guidance::Of2009, digits, power)
+    is_year_of(Guidance::Of2005, digits, power) || is_year_of(Guidance::Of2009, digits, power)
 }
 
+#[tactic(auto, unfolding(crate::specs::Ranges::in_range))]
 pub fn in_range(rule: Rule, digits: u64, power: i32) -> bool
     ensures { result ≡ in_range rule digits power }
 {
-    if !within_bounds(rule, digits, power) {
-        return false;
-    }
-    if rule.year {
-        return is_year(digits, power);
-    }
-    true
+    within_bounds(rule, digits, power) && (!rule.year || is_year(digits, power))
 }

@@ -13,25 +13,18 @@ const MOST_ZEROS: u32 = 19;
 const FARTHEST: u32 = 999;
 
 // The zeros at the end of the digits, at most so many.
+#[tactic(auto, using(crate::proofs::ZeroLaws::zero_start, crate::proofs::ZeroLaws::zero_more, crate::proofs::ZeroLaws::zero_less, crate::proofs::ZeroLaws::zero_last))]
 fn zeros_at_end(most: u32, digits: u64) -> u32
     ensures { (result ≡ zeros_at_end most digits) × (result ≤ most) }
 {
     let mut left = digits;
-    let mut n: u32 = 0;
-    while n < most {
+    for n in 0..most {
         if left % 10 != 0 {
             return n;
         }
-        left = left / 10;
-        n += 1;
+        left /= 10;
     }
-    n
-}
-
-fn fewer(down: u32) -> u32
-    ensures { (result ≡ min down 19) × (result ≤ down) × (result ≤ 19) }
-{
-    if down < MOST_ZEROS { down } else { MOST_ZEROS }
+    most
 }
 
 // So far behind the point, as a power of ten.
@@ -39,10 +32,11 @@ fn below_point(down: u32) -> i32
     requires { down < 1000 }
     ensures { result ≡ sub_ℕ 0 down }
 {
-    0 - down as i32
+    -(down as i32)
 }
 
 // The same number without zeros at the end of what stands behind the point.
+#[tactic(auto, using(crate::proofs::ZeroLaws::tens_above), unfolding(crate::specs::Cases::plain))]
 pub fn plain(v: Value) -> Value
     ensures { result ≡ plain v }
 {
@@ -56,13 +50,10 @@ pub fn plain(v: Value) -> Value
         };
     }
     let down = lowered(power);
-    if down == 0 {
+    if down == 0 || FARTHEST < down {
         return v;
     }
-    if FARTHEST < down {
-        return v;
-    }
-    let n = zeros_at_end(fewer(down), digits);
+    let n = zeros_at_end(down.min(MOST_ZEROS), digits);
     Value::Given {
         power: below_point(down - n),
         digits: digits / ten_to(n),

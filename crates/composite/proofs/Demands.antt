@@ -1,4 +1,5 @@
 -- Demands 1 to 3 of the composite call: its receptor is sound for every deck that it reads, and so they are those of any call. Assumes nothing.
+use Rattle.std.specs.Prelude.{Ok}
 use mathlib.Core.Path.{◌≡◌, refl, sym, ap, ◌∙◌, subst}
 use mathlib.Core.Bool.{Bool, true}
 use mathlib.Core.List.{List}
@@ -28,9 +29,8 @@ use Rattle.equations.proofs.LineLaws.{of_printed, of_slot, of_later}
 use Rattle.cases.specs.declared.Case.{Case}
 use Rattle.cases.specs.declared.Value.{Value}
 use Rattle.cases.specs.declared.Value.TheVariants as Values
-use Rattle.deck.specs.declared.Reading.{Reading}
-use Rattle.cases.specs.declared.Status.TheVariants.{Passed}
-use Rattle.deck.specs.DeckCase.{read_of, case_of}
+use Rattle.cases.specs.Conditions.{passed}
+use Rattle.deck.specs.DeckCase.{Reading, read_of, case_of}
 use Rattle.cases.specs.Cases.{value_at, chemical_at, receptor_at, owners_record, given}
 use Rattle.cases.specs.Ranged.{Fits, Ranged}
 use Rattle.deck.proofs.Accepted.{accepted}
@@ -202,12 +202,11 @@ composite_sounds =
     }
 
 -- a deck that is read has one to eight stages
-pub stages_few : (deck buffer : List ℕ) (reading : Reading) → reading ≡ read_of composite.sort deck → reading.status ≡ Passed
-    → (1 ≤ reading.case.receptors.count) × (reading.case.receptors.count ≤ most_stages)
+pub stages_few : (deck buffer : List ℕ) (case : Case) → ◌≡◌ {A = Reading} (Ok case) (read_of composite.sort deck) → (1 ≤ case.receptors.count) × (case.receptors.count ≤ most_stages)
 unfolding composite
-stages_few deck buffer reading e read =
-    let ranged = accepted Composite deck (deck_read composite deck buffer reading e read) in
-    rw (case_is composite deck buffer reading e read) (ranged.some_receptors, ranged.few_receptors)
+stages_few deck buffer case e =
+    let ranged = accepted Composite deck (deck_read composite deck buffer case e) in
+    rw (case_is composite deck buffer case e) (ranged.some_receptors, ranged.few_receptors)
 
 pub demand_2 : Demand2 composite Composed
 demand_2 = demand_2_of composite Composed composite_sounds

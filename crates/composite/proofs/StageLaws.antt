@@ -7,8 +7,9 @@ use native.Mathlib.Numerals.{add-one}
 use lib.IntN.{pos}
 use lib.ListN.{length, get_or}
 use borrow.Author.Tests.{ne_eqb}
+use Rattle.std.specs.Prelude.{Result}
 use Rattle.pair.specs.declared.Pair.{Pair}
-use Rattle.pair.specs.declared.Answer.{Answer}
+use Rattle.pair.specs.declared.Refused.{Refused}
 use Rattle.pair.specs.Calls.{Outcome, is, one_pair, answer, after, entry, sum, product, quotient}
 use Rattle.times.specs.declared.Years.{Years}
 use Rattle.times.specs.Times.{together, as_pair}
@@ -66,7 +67,7 @@ module _ (records : List Record) (years : List Pair) (entered : years ≡ years_
       (λ j l. ap (λ (o : Outcome Pair). after product o (stage_in records j k)) (year_entered j (omega arith)))
 
 -- one stage more
-pub next_sum : (f : ℕ → Outcome Pair) (so_far new : Answer) (term : Outcome Pair) (n : ℕ) → answer so_far ≡ summed pairs f n → term ≡ f (n + 1) → answer new ≡ after sum (answer so_far) term
+pub next_sum : (f : ℕ → Outcome Pair) (so_far new : Result Pair Refused) (term : Outcome Pair) (n : ℕ) → answer so_far ≡ summed pairs f n → term ≡ f (n + 1) → answer new ≡ after sum (answer so_far) term
     → answer new ≡ summed pairs f (n + 1)
 unfolding summed pairs
 next_sum f so_far new term n a b e = e ∙ ap₂ (after sum) a (b ∙ ap f (add-one n)) ∙ sym (ap (summed pairs f) (add-one n))
@@ -81,14 +82,14 @@ unfolding years_together
 next_years f so_far new term n a b e = e ∙ ap or_no_time (ap₂ together a (b ∙ ap f (add-one n))) ∙ sym (ap (years_together f) (add-one n))
 
 -- ---- the composite's value at a place
-module _ (stage : ℕ → ℕ → Outcome Pair) (exposure : Outcome Pair) (last k : ℕ) (total : Answer) (total_is : answer total ≡ sum_of_years pairs stage last) where
+module _ (stage : ℕ → ℕ → Outcome Pair) (exposure : Outcome Pair) (last k : ℕ) (total : Result Pair Refused) (total_is : answer total ≡ sum_of_years pairs stage last) where
   -- ED
   pub total_years : k ≡ 1 → answer total ≡ composed pairs stage exposure last k
   unfolding composed place_of owner_of place_in is_in same table
   total_years e = total_is ∙ rw e refl
 
   -- ATc
-  pub total_days : k ≡ 2 → (days r : Answer) → answer days ≡ entry 365 (pos 0) → answer r ≡ after product (answer days) (answer total) → answer r ≡ composed pairs stage exposure last k
+  pub total_days : k ≡ 2 → (days r : Result Pair Refused) → answer days ≡ entry 365 (pos 0) → answer r ≡ after product (answer days) (answer total) → answer r ≡ composed pairs stage exposure last k
   unfolding composed pairs place_of owner_of place_in is_in same table
   total_days e days r d t = t ∙ ap₂ (after product) d total_is ∙ rw e refl
 
@@ -98,7 +99,7 @@ module _ (stage : ℕ → ℕ → Outcome Pair) (exposure : Outcome Pair) (last 
   total_exposure e = rw e refl
 
   -- any other slot
-  pub weighted_mean : (k ≡ 1 → ⊥) → (k ≡ 2 → ⊥) → (k ≡ 21 → ⊥) → (w r : Answer) → answer w ≡ summed pairs (λ j. after product (stage j (place_of "years")) (stage j k)) last
+  pub weighted_mean : (k ≡ 1 → ⊥) → (k ≡ 2 → ⊥) → (k ≡ 21 → ⊥) → (w r : Result Pair Refused) → answer w ≡ summed pairs (λ j. after product (stage j (place_of "years")) (stage j k)) last
       → answer r ≡ after quotient (answer w) (answer total) → answer r ≡ composed pairs stage exposure last k
   unfolding composed mean pairs place_of owner_of place_in is_in same table
   weighted_mean a b c w r s q = q ∙ ap₂ (after quotient) s total_is ∙ rw (ne_eqb k 1 a, ne_eqb k 2 b, ne_eqb k 21 c) refl

@@ -19,7 +19,8 @@ use Rattle.lists.specs.Lists.{tabulate}
 use Rattle.cases.specs.Cases.{value_at, receptor_at}
 use Rattle.scenario.specs.declared.Receptor.{Receptor}
 use Rattle.scenario.specs.declared.Receptors.{Receptors}
-use Rattle.scenario.specs.Scenario.{Scenario, or_no_pair, pair_of, no_receptor, fraction_of, receptor_in, stay_in, pairs_at, scenario_with, or_no_time, time_given, deposition_of, receptor_with}
+use Rattle.scenario.specs.declared.Scenario.{Scenario}
+use Rattle.scenario.specs.Scenario.{or_no_pair, pair_of, no_receptor, fraction_of, receptor_in, stay_in, pairs_at, scenario_with, or_no_time, time_given, deposition_of, receptor_with}
 use Rattle.report.specs.Forms.{Call}
 use Rattle.report.specs.Report.{rows_of}
 use Rattle.report.specs.DemandTwo.{Timed, Exposed}

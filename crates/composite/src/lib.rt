@@ -11,7 +11,8 @@ ghost use Rattle.report.specs.Rooms.{deck_room, longest_for};
 ghost use Rattle.composite.specs.Composite.{composite};
 
 use crate::stages::composite_of;
-use cases::{Status, Told};
+use cases::Told;
+use scenario::Scenario;
 use slots::Sort;
 
 // The longest report, of one receptor: 97 lines.
@@ -20,19 +21,23 @@ pub const MAX_REPORT: usize = report::MAX_REPORT / sizes::MAX_RECEPTORS;
 // A byte more than the longest deck: input that fills it is no deck, whatever is in it.
 pub const DECK_ROOM: usize = deck::MAX_COMPOSITE_LENGTH + 1;
 
+// Not one function with `report::report`: what makes the receptor takes a case with one to eight stages, as only a deck of this sort has.
 // The composite's report into the buffer: 0, the report's length, 0; or the number, line and field of the first condition that stops it, and
 // the buffer as it was.
 pub fn report(deck: &[u8], out: &mut [u8]) -> Told
     ensures value { result ≡ outcome_of composite deck.now (length out.old) }
     ensures out_after { out.new ≡ buffer_of composite deck.now out.old }
 {
-    let reading = deck::read(deck, Sort::Composite);
-    let status = reading.status;
-    let Status::Passed = status else {
-        return cases::tell(status);
+    let case = match deck::read(deck, Sort::Composite) {
+        Ok(case) => case,
+        Err(stop) => return cases::tell(Err(stop)),
     };
-    let receptors = composite_of(reading.case);
-    report::write_entered(reading.case.site, reading.case.chemicals, receptors, out)
+    let scenario = Scenario {
+        site: case.site,
+        chemicals: case.chemicals,
+        receptors: composite_of(&case),
+    };
+    report::write_entered(&scenario, out)
 }
 
 // The report of the first n bytes of the input, with room for every composite's deck and a byte more and for every report of one receptor, as

@@ -1,5 +1,5 @@
 // One receptor made of life stages.
-ghost use Rattle.std.specs.Prelude.{◌≡◌, ◌<◌, ◌≤◌};
+ghost use Rattle.std.specs.Prelude.{◌≡◌, ◌-◌, ◌<◌, ◌≤◌};
 ghost use Rattle.sizes.specs.Sizes.{most_stages, slots_per_record};
 ghost use Rattle.pair.specs.Calls.{answer};
 ghost use Rattle.times.specs.Times.{together};
@@ -8,87 +8,29 @@ ghost use Rattle.equations.specs.Formula.{pairs};
 ghost use Rattle.cases.specs.Cases.{value_at};
 ghost use Rattle.scenario.specs.Scenario.{pair_of, no_receptor, or_no_time, time_given};
 ghost use Rattle.composite.specs.Composite.{summed, sum_of_years, composed, years_together, composite_from};
-ghost use Rattle.composite.specs.Inner.{stage_in, years_in, year_at, weight_at, time_in, composed_in};
+ghost use Rattle.composite.specs.Inner.{stage_in, years_in, weight_at, time_in, composed_in};
 
 use cases::{Case, Receptors, Record};
 use equations::{Stay, Values};
-use pair::{Answer, Pair};
+use pair::{Answer, Chain, Pair};
 use scenario::Receptor;
 use sizes::{MAX_STAGES, SLOTS};
 use slots::{ATC, ED, T2, YEARS};
 use times::Years;
 
-// The years of each stage as pairs, entered once.
-#[derive(Clone, Copy)]
-struct YearPairs {
-    list: [Pair; MAX_STAGES],
-}
-
-// A stage's value at place k.
+// A stage's value at place k, a slot's as everywhere here.
 fn value_in(stage: Record, k: usize) -> Pair
     requires { k < slots_per_record }
     ensures { result ≡ pair_of (value_at stage k) }
 {
-    let slot = stage.slots[k];
-    let v = slot.value;
-    scenario::pair_of(v)
-}
-
-fn years_of(stages: Receptors) -> YearPairs
-    ensures { result.list ≡ years_in stages.records }
-{
-    let mut list = [Pair::ONE; MAX_STAGES];
-    let mut j: usize = 0;
-    while j < MAX_STAGES {
-        let stage = stages.records[j];
-        list[j] = value_in(stage, YEARS);
-        j += 1;
-    }
-    YearPairs { list }
-}
-
-// The sum of the years of stages 0 to last, in deck order.
-fn sum_of_years(years: YearPairs, last: usize) -> Answer
-    requires { last < most_stages }
-    ensures { answer result ≡ summed pairs (year_at years.list) last }
-{
-    let first = years.list[0];
-    let mut sum = first.answer();
-    let mut j: usize = 0;
-    while j < last {
-        let next = j + 1;
-        let year = years.list[next];
-        sum = sum.plus(year.answer());
-        j = next;
-    }
-    sum
-}
-
-// The sum of years × value at place k, of stages 0 to last. A stage is copied out for its turn; all of them are passed on once for each place.
-fn weighted_sum(stages: Receptors, years: YearPairs, last: usize, k: usize) -> Answer
-    requires { (last < most_stages) × (k < slots_per_record) }
-    ensures { answer result ≡ summed pairs (weight_at stages.records years.list k) last }
-{
-    let first = stages.records[0];
-    let year = years.list[0];
-    let mut sum = year.product(value_in(first, k));
-    let mut j: usize = 0;
-    while j < last {
-        let next = j + 1;
-        let stage = stages.records[next];
-        sum = sum.plus_product(years.list[next], value_in(stage, k));
-        j = next;
-    }
-    sum
+    scenario::pair_of(stage.slots[k])
 }
 
 // A stage's years as printed.
 fn time_in(stage: Record) -> Years
     ensures { result ≡ time_given (value_at stage (place_of "years")) }
 {
-    let slot = stage.slots[YEARS];
-    let v = slot.value;
-    scenario::time_given(v)
+    scenario::time_given(stage.slots[YEARS])
 }
 
 // The sum of two times, which printed years in range always have.
@@ -98,57 +40,87 @@ fn added(sum: Years, next: Years) -> Years
     scenario::or_no_time(sum.together(next))
 }
 
-// The exposure of stages 0 to last, exact.
-fn time_exposed(stages: Receptors, last: usize) -> Years
-    requires { last < most_stages }
-    ensures { result ≡ years_together (time_in stages.records) last }
-{
-    let first = stages.records[0];
-    let mut sum = time_in(first);
-    let mut j: usize = 0;
-    while j < last {
-        let next = j + 1;
-        let stage = stages.records[next];
-        sum = added(sum, time_in(stage));
-        j = next;
-    }
-    sum
-}
-
-// The composite's value at place k.
-fn composed_at(
-    stages: Receptors,
-    years: YearPairs,
-    total: Answer,
-    exposure: Answer,
+// A person's life stages in deck order: the records, the years of each as a pair, entered once, and the place of the last one.
+#[derive(Clone, Copy)]
+struct Stages {
+    records: [Record; MAX_STAGES],
+    years: [Pair; MAX_STAGES],
     last: usize,
-    k: usize,
-) -> Answer
-    requires last_lt_most_stages { (last < most_stages) × (k < slots_per_record) × (years.list ≡ years_in stages.records) }
-    requires total_value { answer total ≡ sum_of_years pairs (stage_in stages.records) last }
-    ensures { answer result ≡ composed pairs (stage_in stages.records) (answer exposure) last k }
-{
-    match k {
-        ED => total,
-        ATC => Pair::entry(365, 0).times(total),
-        T2 => exposure,
-        _ => weighted_sum(stages, years, last, k).over(total),
-    }
+    ghost in_range: { last < most_stages },
+    ghost entered: { years ≡ years_in records },
 }
 
-fn composed_values(stages: Receptors, exposure: Answer, last: usize) -> Values
-    requires { last < most_stages }
-    ensures { result.list ≡ composed_in stages.records (answer exposure) last }
-{
-    let years = years_of(stages);
-    let total = sum_of_years(years, last);
-    let mut list = [Pair::ONE; SLOTS];
-    let mut k: usize = 0;
-    while k < SLOTS {
-        list[k] = scenario::or_no_pair(composed_at(stages, years, total, exposure, last, k));
-        k += 1;
+impl Stages {
+    fn of(stages: Receptors) -> Stages
+        requires { (1 ≤ stages.count) × (stages.count ≤ most_stages) }
+        ensures { (result.records ≡ stages.records) × (result.last ≡ stages.count - 1) }
+    {
+        let records = stages.records;
+        let years = records.map(|stage| value_in(stage, YEARS));
+        Stages {
+            records,
+            years,
+            last: stages.count - 1,
+        }
     }
-    Values { list }
+
+    fn sum_of_years(&self) -> Answer
+        ensures { answer result ≡ sum_of_years pairs (stage_in self.now.records) self.now.last }
+    {
+        let mut sum = self.years[0].answer();
+        for j in 0..self.last {
+            sum = sum.plus(self.years[j + 1].answer());
+        }
+        sum
+    }
+
+    // The sum of years × value at place k.
+    fn weighted_sum(&self, k: usize) -> Answer
+        requires { k < slots_per_record }
+        ensures { answer result ≡ summed pairs (weight_at self.now.records self.now.years k) self.now.last }
+    {
+        let mut sum = self.years[0].product(value_in(self.records[0], k));
+        for j in 0..self.last {
+            sum = sum.plus_product(self.years[j + 1], value_in(self.records[j + 1], k));
+        }
+        sum
+    }
+
+    // The exposure, exact.
+    fn time_exposed(&self) -> Years
+        ensures { result ≡ years_together (time_in self.now.records) self.now.last }
+    {
+        let mut sum = time_in(self.records[0]);
+        for j in 0..self.last {
+            sum = added(sum, time_in(self.records[j + 1]));
+        }
+        sum
+    }
+
+    // The composite's value at place k.
+    fn composed_at(&self, total: Answer, exposure: Answer, k: usize) -> Answer
+        requires k_lt_slots_per_record { k < slots_per_record }
+        requires total_value { answer total ≡ sum_of_years pairs (stage_in self.now.records) self.now.last }
+        ensures { answer result ≡ composed pairs (stage_in self.now.records) (answer exposure) self.now.last k }
+    {
+        match k {
+            ED => total,
+            ATC => Pair::entry(365, 0).times(total),
+            T2 => exposure,
+            _ => self.weighted_sum(k).over(total),
+        }
+    }
+
+    fn composed_values(&self, exposure: Answer) -> Values
+        ensures { result.list ≡ composed_in self.now.records (answer exposure) self.now.last }
+    {
+        let total = self.sum_of_years();
+        let mut list = [Pair::ONE; SLOTS];
+        for k in 0..SLOTS {
+            list[k] = scenario::or_no_pair(self.composed_at(total, exposure, k));
+        }
+        Values { list }
+    }
 }
 
 fn no_receptor() -> Receptor
@@ -163,15 +135,14 @@ fn no_receptor() -> Receptor
 }
 
 // A single receptor, made of all of the deck's, under the first one's id.
-pub(crate) fn composite_of(case: Case) -> scenario::Receptors
-    requires { (1 ≤ case.receptors.count) × (case.receptors.count ≤ most_stages) }
-    ensures { result ≡ composite_from case }
+pub(crate) fn composite_of(case: &Case) -> scenario::Receptors
+    requires { (1 ≤ case.now.receptors.count) × (case.now.receptors.count ≤ most_stages) }
+    ensures { result ≡ composite_from case.now }
 {
-    let stages = case.receptors;
-    let first = stages.records[0];
-    let last = stages.count - 1;
-    let exposure = time_exposed(stages, last);
-    let values = composed_values(stages, exposure.pair(), last);
+    let first = case.receptors.records[0];
+    let stages = Stages::of(case.receptors);
+    let exposure = stages.time_exposed();
+    let values = stages.composed_values(exposure.pair());
     let deposition = scenario::deposition_of(case.site);
     let receptor = scenario::receptor_with(first.id, values, exposure, deposition);
     let none = no_receptor();

@@ -1,6 +1,6 @@
 pub mod Accepted
 pub mod Exactly
-pub mod Packed
+pub mod Kept
 pub mod ReadLaws
 pub mod Scan
 pub mod WithoutYear

@@ -1,150 +1,113 @@
 -- Laws of a line's conditions: one for each way out of the functions that test them.
 -- Assumes nothing.
-use Prim.Native.Nat.{ℕ, ◌+◌, ◌-◌, ◌≤◌, ◌<◌}
-use native.Mathlib.Nat.{eq-or-lt_of_le}
+use Prim.Native.Nat.{ℕ, ◌+◌, ◌<◌}
 use native.Mathlib.Omega.{arith}
-use mathlib.Core.Path.{◌≡◌, refl, sym, ap, ◌∙◌, subst}
-use mathlib.Core.Logic.{⊎_elim}
-use mathlib.Core.Bool.{Bool, true, false, cond, not, ◌&&◌, or-false}
+use mathlib.Core.Path.{◌≡◌, refl, sym, ap, ◌∙◌}
+use mathlib.Core.Bool.{Bool, true, false, false≢true, not, ◌&&◌}
 use mathlib.Core.List.{List}
-use borrow.Author.Tests.{eq-eqb, ne_eqb, eqb-true, not-true, not-false}
+use borrow.Author.Tests.{eq-eqb, ne_eqb, eqb-true, le-leb, lt-leb, leb-true, leb-false}
 use lib.Dec.{leb, eqb}
-use lib.ListN.{length, get_or, take, drop}
+use lib.ListN.{length, get_or}
 use Rattle.spelling.specs.Columns.{within, leading}
-use Rattle.deck.specs.Parts.{kind_width, columns, deck_line_width, kind_of}
-use Rattle.kinds.specs.Kinds.{is_line, is_end, begins, letter_of, may_follow}
-use Rattle.cases.specs.Cases.{max_receptors}
-use Rattle.sizes.specs.Sizes.{fields_per_line, max_chemicals}
-use Rattle.slots.specs.declared.Owner.TheVariants.{Chemical, Receptor}
-use Rattle.slots.specs.declared.Sort.{Sort}
+use Rattle.deck.specs.Parts.{columns, deck_line_width}
+use Rattle.kinds.specs.declared.Kind.TheVariants.{Start, Line, End, Other}
+use Rattle.kinds.specs.Kinds.{letter, letter_of, is_line, line_owner}
+use Rattle.std.specs.Prelude.{Option, Some, None}
+use Rattle.slots.specs.declared.Owner.{Owner}
+use Rattle.slots.specs.declared.Owner.TheVariants.{Site, Chemical, Receptor}
 use Rattle.kinds.specs.declared.Kind.{Kind}
-use Rattle.deck.specs.declared.lines.Seen.{Seen}
-use Rattle.cases.specs.Conditions.{first, up_to}
-use Rattle.deck.specs.DeckConditions.{field_at, bad_bytes, bad_kind, id_of, same_letter, wrong_id, bad_id, line_conditions_after}
-use Rattle.deck.specs.Inner.{Printable}
-use Rattle.cases.specs.declared.Status.{Status}
-use Rattle.cases.specs.declared.Status.TheVariants.{Stopped}
+use Rattle.deck.specs.DeckConditions.{bad_bytes, same_letter}
 use Rattle.lists.proofs.Booleans.{and-false}
 use Rattle.spelling.proofs.Leading.{within_low, leads_on, leads_off}
-use Rattle.lists.proofs.ListLaws.{tail_part}
 use Rattle.kinds.proofs.KindLaws.{is_line_lem}
 
 -- ---- 12
-module _ (line : List ℕ) where
-  pub printable_none : Printable line 0 0
-  printable_none = record { few = omega arith; all = λ e. omega arith; some = λ l. absurd (omega arith) }
+-- the first i + 1 bytes print where the first i do, and the one after them
+step : (s : List ℕ) (i : ℕ) → i < length s → (t u : Bool) → leb i (leading 32 126 s) ≡ t → within 32 126 (get_or s i 0) ≡ u → (t && u) ≡ leb (i + 1) (leading 32 126 s)
+step s i h true true p q = sym (le-leb (i + 1) (leading 32 126 s) (leads_on 32 126 s i h (leb-true i (leading 32 126 s) p) q))
+step s i h true false p q = sym (lt-leb (i + 1) (leading 32 126 s) (omega (arith, leads_off 32 126 s i h (leb-true i (leading 32 126 s) p) q)))
+step s i h false u p q = sym (lt-leb (i + 1) (leading 32 126 s) (omega (arith, leb-false i (leading 32 126 s) p)))
 
-  more : (i count : ℕ) → i < length line → Printable line i count → (t : Bool) → within 32 126 (get_or line i 0) ≡ t → Printable line (i + 1) (count + cond t 1 0)
-  more i count h p true e = record {
-    few = omega (arith, p.few);
-    all = λ q. leads_on 32 126 line i h (p.all (omega arith)) e;
-    some = λ l. omega (arith, p.some (omega arith));
-  }
-  more i count h p false e = record {
-    few = omega (arith, p.few);
-    all = λ q. absurd (omega (arith, p.few));
-    some = λ l.
-        ⊎_elim
-        (λ q. omega (arith, leads_off 32 126 line i h (p.all q) e))
-        (λ k. omega (arith, p.some k))
-        (eq-or-lt_of_le p.few);
-  }
+pub prints_on : (s : List ℕ) (i : ℕ) → i < length s → leb (i + 1) (leading 32 126 s) ≡ (leb i (leading 32 126 s) && within 32 126 (get_or s i 0))
+prints_on s i h = sym (step s i h (leb i (leading 32 126 s)) (within 32 126 (get_or s i 0)) refl refl)
 
-  pub printable_more : (i count n : ℕ) → i < length line → Printable line i count → n ≡ cond (within 32 126 (get_or line i 0)) 1 0 → Printable line (i + 1) (count + n)
-  printable_more i count n h p e = subst (λ (k : ℕ). Printable line (i + 1) (count + k)) (sym e) (more i count h p (within 32 126 (get_or line i 0)) refl)
+-- a line feed does not print, so no more than the columns before it do
+feed : (line : List ℕ) → length line ≡ deck_line_width → (t : Bool) → eqb (get_or line columns 0) 10 ≡ t
+    → (leb columns (leading 32 126 line) && t) ≡ (eqb (leading 32 126 line) columns && t)
+feed line long false e = and-false _ ∙ sym (and-false _)
+feed line long true e = go (leb columns (leading 32 126 line)) refl
+  where
+    b : get_or line columns 0 ≡ 10
+    b = eqb-true (get_or line columns 0) 10 e
 
-  module _ (long : length line ≡ deck_line_width) (n : ℕ) (p : Printable line columns n) where
-    pub bytes_count : (n ≡ columns → ⊥) → true ≡ bad_bytes line
-    unfolding bad_bytes
-    bytes_count h = simp (ne_eqb (leading 32 126 line) columns (λ q. omega (arith, p.few, p.some (omega (arith, p.few)))))
+    go : (u : Bool) → leb columns (leading 32 126 line) ≡ u → (u && true) ≡ (eqb (leading 32 126 line) columns && true)
+    go true p =
+        let most = leads_off 32 126 line columns (omega arith) (leb-true columns (leading 32 126 line) p) (within_low 32 126 (get_or line columns 0) (omega (arith, b))) in
+        simp (eq-eqb (leading 32 126 line) columns (omega (arith, leb-true columns (leading 32 126 line) p)))
+    go false p = simp (ne_eqb (leading 32 126 line) columns (λ q. omega (arith, leb-false columns (leading 32 126 line) p)))
 
-    feed : (t : Bool) → eqb (get_or line columns 0) 10 ≡ t → columns ≤ leading 32 126 line → not t ≡ not (eqb (leading 32 126 line) columns && t)
-    feed true e h =
-        let b : get_or line columns 0 ≡ 10 = eqb-true (get_or line columns 0) 10 e in
-        let u : leading 32 126 line ≤ columns = leads_off 32 126 line columns (omega arith) h (within_low 32 126 (get_or line columns 0) (omega arith)) in
-        simp (eq-eqb (leading 32 126 line) columns (omega arith))
-    feed false e h = simp and-false
-
-    pub bytes_feed : n ≡ columns → not (eqb (get_or line columns 0) 10) ≡ bad_bytes line
-    unfolding bad_bytes
-    bytes_feed h = feed (eqb (get_or line columns 0) 10) refl (p.all h)
+pub bytes_are : (line : List ℕ) → length line ≡ deck_line_width
+    → bad_bytes line ≡ not (leb columns (leading 32 126 line) && eqb (get_or line columns 0) 10)
+unfolding bad_bytes
+bytes_are line long = ap not (sym (feed line long (eqb (get_or line columns 0) 10) refl))
 
 -- ---- 21
 -- a line begins a record of one owner
-one_owner : (k : Kind) → is_line Chemical 0 k ≡ true → is_line Receptor 0 k ≡ false
+pub one_owner : (k : Kind) → is_line Chemical 0 k ≡ true → is_line Receptor 0 k ≡ false
 unfolding is_line
 one_owner k h = ap (is_line Receptor 0) (is_line_lem Chemical 0 k h)
 
-module _ (sort : Sort) (seen : Seen) (kind : Kind) (r : Bool) (e : r ≡ may_follow seen.kind kind) where
-  pub kind_out : not r ≡ true → true ≡ bad_kind sort seen kind
-  unfolding bad_kind
-  kind_out h = simp (sym e ∙ not-true r h)
-
-  module _ (h : not r ≡ false) (c : Bool) (f : c ≡ is_line Chemical 0 kind) where
-    pub many_chemicals : c ≡ true → leb max_chemicals seen.chemicals ≡ bad_kind sort seen kind
-    unfolding bad_kind
-    many_chemicals g = simp (sym e ∙ not-false r h, sym f ∙ g, one_owner kind (sym f ∙ g), or-false)
-
-    module _ (g : c ≡ false) (d : Bool) (i : d ≡ is_line Receptor 0 kind) where
-      pub many_receptors : d ≡ true → (m : ℕ) → m ≡ max_receptors sort → leb m seen.receptors ≡ bad_kind sort seen kind
-      unfolding bad_kind
-      many_receptors j m q = simp (sym e ∙ not-false r h, sym f ∙ g, sym i ∙ j) (ap (λ (x : ℕ). leb x seen.receptors) q)
-
-      pub kind_right : d ≡ false → false ≡ bad_kind sort seen kind
-      unfolding bad_kind
-      kind_right j = simp (sym e ∙ not-false r h, sym f ∙ g, sym i ∙ j)
-
 -- ---- 22
-module _ (seen : Seen) (kind : Kind) (id : ℕ) where
-  pub id_none : id ≡ 0 → true ≡ wrong_id seen kind id
-  unfolding wrong_id
-  id_none h = simp (eq-eqb id 0 h)
+same_of : (o p : Owner) → eqb (letter o) (letter p) ≡ true → o ≡ p
+same_of Site Site h = refl
+same_of Site Chemical h = absurd (false≢true h)
+same_of Site Receptor h = absurd (false≢true h)
+same_of Chemical Site h = absurd (false≢true h)
+same_of Chemical Chemical h = refl
+same_of Chemical Receptor h = absurd (false≢true h)
+same_of Receptor Site h = absurd (false≢true h)
+same_of Receptor Chemical h = absurd (false≢true h)
+same_of Receptor Receptor h = refl
 
-  module _ (some : id ≡ 0 → ⊥) (r : Bool) (e : r ≡ begins kind) where
-    module _ (h : r ≡ true) (a b : ℕ) (p : a ≡ letter_of seen.kind) (q : b ≡ letter_of kind) where
-      pub id_rises : a ≡ b → leb id seen.id ≡ wrong_id seen kind id
-      unfolding wrong_id same_letter
-      id_rises l = simp (ne_eqb id 0 some, sym e ∙ h, eq-eqb (letter_of seen.kind) (letter_of kind) (sym p ∙ l ∙ q))
+letter_none : (o : Owner) → (eqb (letter o) 0 ≡ false) × (eqb 0 (letter o) ≡ false)
+letter_none Site = (refl, refl)
+letter_none Chemical = (refl, refl)
+letter_none Receptor = (refl, refl)
 
-      pub id_first : (a ≡ b → ⊥) → false ≡ wrong_id seen kind id
-      unfolding wrong_id same_letter
-      id_first l = simp (ne_eqb id 0 some, sym e ∙ h, ne_eqb (letter_of seen.kind) (letter_of kind) (λ m. l (p ∙ m ∙ sym q)))
+-- two kinds of one letter stand in records of one owner, or in none
+owners : (a b : Kind) → same_letter a b ≡ true → line_owner a ≡ line_owner b
+unfolding same_letter
+owners (Line o n) (Line p m) h = ap Some (same_of o p h)
+owners (Line o n) Start h = absurd (false≢true (sym (letter_none o).0 ∙ h))
+owners (Line o n) End h = absurd (false≢true (sym (letter_none o).0 ∙ h))
+owners (Line o n) Other h = absurd (false≢true (sym (letter_none o).0 ∙ h))
+owners Start (Line o n) h = absurd (false≢true (sym (letter_none o).1 ∙ h))
+owners End (Line o n) h = absurd (false≢true (sym (letter_none o).1 ∙ h))
+owners Other (Line o n) h = absurd (false≢true (sym (letter_none o).1 ∙ h))
+owners Start Start h = refl
+owners Start End h = refl
+owners Start Other h = refl
+owners End Start h = refl
+owners End End h = refl
+owners End Other h = refl
+owners Other Start h = refl
+owners Other End h = refl
+owners Other Other h = refl
 
-    pub id_same : r ≡ false → not (eqb id seen.id) ≡ wrong_id seen kind id
-    unfolding wrong_id
-    id_same h = simp (ne_eqb id 0 some, sym e ∙ h)
+letters : (a : Kind) → letter_of a ≡ elim (line_owner a) [ Some o ↦ letter o | None ↦ 0 ]
+letters (Line o n) = refl
+letters Start = refl
+letters End = refl
+letters Other = refl
 
-module _ (seen : Seen) (kind : Kind) (line : List ℕ) (r : Bool) (e : r ≡ is_end kind) where
-  pub end_blank : r ≡ true → (n : ℕ) → n ≡ leading 32 32 (take (length line - kind_width) (drop kind_width line)) → not (eqb n (columns - kind_width)) ≡ bad_id seen kind line
-  unfolding bad_id
-  end_blank h n f = simp (sym e ∙ h) (ap (λ (m : ℕ). not (eqb m (columns - kind_width))) (f ∙ ap (leading 32 32) (tail_part line kind_width)))
+pub same_owner : (a b : Kind) → line_owner a ≡ line_owner b → same_letter a b ≡ true
+unfolding same_letter
+same_owner a b e =
+    eq-eqb (letter_of a) (letter_of b) (letters a ∙ ap (λ (o : Option Owner). elim o [ Some o ↦ letter o | None ↦ 0 ]) e ∙ sym (letters b))
 
-  pub other_id : r ≡ false → (id : ℕ) → id ≡ id_of line → (q : Bool) → q ≡ wrong_id seen kind id → q ≡ bad_id seen kind line
-  unfolding bad_id
-  other_id h id i q f = simp (sym e ∙ h) (f ∙ ap (wrong_id seen kind) i)
-
--- ---- a line
-module _ (sort : Sort) (seen : Seen) (n : ℕ) (kind : Kind) (line : List ℕ) (k : kind ≡ kind_of line) where
-  pub line_bytes : (r : Bool) → r ≡ bad_bytes line → r ≡ true → Stopped 12 n 0 ≡ first (line_conditions_after sort seen line n)
-  unfolding first line_conditions_after
-  line_bytes r e h = simp (sym e ∙ h)
-
-  module _ (r : Bool) (e : r ≡ bad_bytes line) (h : r ≡ false) (q : Bool) (f : q ≡ bad_kind sort seen kind) where
-    kind_is : q ≡ bad_kind sort seen (kind_of line)
-    kind_is = f ∙ ap (bad_kind sort seen) k
-
-    pub line_kind : q ≡ true → Stopped 21 n 0 ≡ first (line_conditions_after sort seen line n)
-    unfolding first line_conditions_after
-    line_kind g = simp (sym e ∙ h, sym kind_is ∙ g)
-
-    module _ (g : q ≡ false) (p : Bool) (i : p ≡ bad_id seen kind line) where
-      id_is : p ≡ bad_id seen (kind_of line) line
-      id_is = i ∙ ap (λ (m : Kind). bad_id seen m line) k
-
-      pub line_id : p ≡ true → Stopped 22 n 0 ≡ first (line_conditions_after sort seen line n)
-      unfolding first line_conditions_after
-      line_id j = simp (sym e ∙ h, sym kind_is ∙ g, sym id_is ∙ j)
-
-      pub line_fields : p ≡ false → (s : Status) → s ≡ first (up_to (field_at sort kind line n) fields_per_line) → s ≡ first (line_conditions_after sort seen line n)
-      unfolding first line_conditions_after
-      line_fields j s t = simp (sym e ∙ h, sym kind_is ∙ g, sym id_is ∙ j) (t ∙ ap (λ (m : Kind). first (up_to (field_at sort m line n) fields_per_line)) k)
+pub other_owner : (a b : Kind) → (line_owner a ≡ line_owner b → ⊥) → same_letter a b ≡ false
+other_owner a b h = go (same_letter a b) refl
+  where
+    go : (t : Bool) → same_letter a b ≡ t → t ≡ false
+    go true e = absurd (h (owners a b e))
+    go false e = refl

@@ -19,10 +19,9 @@ use Rattle.kinds.specs.declared.Kind.TheVariants.{Start, Line, End, Other}
 use Rattle.deck.specs.Parts.{lines_of, line_of, kind_of}
 use Rattle.kinds.specs.Kinds.{owner_lines, is_line, is_last, is_end, may_begin, may_follow}
 use Rattle.cases.specs.Cases.{max_receptors}
-use Rattle.cases.specs.Conditions.{at, first, up_to}
+use Rattle.cases.specs.Conditions.{passed, at, first, up_to}
 use Rattle.deck.specs.DeckConditions.{bad_length, no_end, begun_with, seen_with, seen_in, line_conditions, conditions}
 use Rattle.deck.specs.DeckCase.{chemicals_start}
-use Rattle.cases.specs.declared.Status.TheVariants.{Passed}
 use Rattle.lists.proofs.Booleans.{and-false}
 use Rattle.cases.proofs.FirstMet.{first_read, append_read, chained_each}
 use Rattle.kinds.proofs.KindLaws.{Within, kind_within, is_line_lem, is_start_lem, is_end_lem}
@@ -141,8 +140,8 @@ module _ (most n c r chemicals receptors i j : ℕ) (few : c ≤ chemicals) (all
   found Receptor (Line Receptor m) s e p h l = ap (Line Receptor) (omega (arith, all s.4))
 
 -- ---- an accepted deck
-module _ (sort : Sort) (deck : List ℕ) (e : first (conditions sort deck) ≡ Passed) where
-  parts : (bad_length sort deck ≡ false) × ((first (up_to (line_conditions sort deck) (lines_of deck)) ≡ Passed) × (no_end deck ≡ false))
+module _ (sort : Sort) (deck : List ℕ) (e : first (conditions sort deck) ≡ passed) where
+  parts : (bad_length sort deck ≡ false) × ((first (up_to (line_conditions sort deck) (lines_of deck)) ≡ passed) × (no_end deck ≡ false))
   unfolding conditions
   parts =
       let a = first_read (at 11 0 0 (bad_length sort deck)) (up_to (line_conditions sort deck) (lines_of deck) ++ (at 21 (lines_of deck + 1) 0 (no_end deck) ∷ [])) e in

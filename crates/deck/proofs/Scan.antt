@@ -7,9 +7,13 @@ use native.Mathlib.Omega.{arith}
 use mathlib.Core.Path.{◌≡◌, refl, sym, ap, ◌∙◌, subst}
 use mathlib.Core.Bool.{Bool, true, false, cond, not, ◌&&◌, ◌||◌}
 use mathlib.Core.List.{List, [], ◌∷◌, ◌++◌}
-use borrow.Author.Tests.{not-false, eq-eqb, ne_eqb, lt-ltb, le-ltb, leb-false, ltb-false}
+use borrow.Author.Tests.{not-false, leb-false, ltb-false}
 use lib.Dec.{leb, ltb, eqb}
-use lib.ListN.{length, take, drop, length-take, length-drop}
+use lib.ListN.{length, get_or, take, drop}
+use Rattle.std.specs.Prelude.{Option, None, Err}
+use Rattle.cases.specs.declared.Stop.{Stop}
+use Rattle.std.specs.Simd.{first_chunks}
+use Rattle.std.proofs.lemmas.List.{drop-drop}
 use Rattle.spelling.specs.Columns.{within}
 use Rattle.deck.specs.Parts.{deck_line_width, lines_of, line_of, kind_of}
 use Rattle.kinds.specs.Kinds.{kind_in, is_line, is_end, may_follow}
@@ -22,12 +26,9 @@ use Rattle.kinds.specs.declared.Kind.TheVariants.{Start}
 use Rattle.deck.specs.declared.lines.Seen.{Seen}
 use Rattle.slots.specs.declared.Sort.TheVariants.{Ordinary, Composite}
 use Rattle.lists.specs.Lists.{chained}
-use Rattle.cases.specs.Conditions.{Condition, at, first, up_to}
+use Rattle.cases.specs.Conditions.{Status, passed, stopped, Condition, at, first, up_to}
 use Rattle.deck.specs.DeckConditions.{field_at, bad_bytes, bad_kind, bad_id, id_of, line_conditions_after, begun_with, seen_with, seen_in, line_conditions, max_length, bad_length, no_end}
-use Rattle.cases.specs.declared.Status.{Status}
-use Rattle.cases.specs.declared.Status.TheVariants.{Passed, Stopped}
 use Rattle.deck.proofs.PartLaws.{line_is}
-use Rattle.deck.proofs.DeckCaseLaws.{line_full}
 use Rattle.cases.proofs.FirstMet.{or_else, first_append, goes_on, stops, first_read}
 use Rattle.lists.proofs.Booleans.{neither}
 
@@ -36,9 +37,9 @@ pub record LineRead (sort : Sort) (seen : Seen) (n : ℕ) (line : List ℕ) : Ty
   pub bytes : bad_bytes line ≡ false
   pub kind : bad_kind sort seen (kind_of line) ≡ false
   pub id : bad_id seen (kind_of line) line ≡ false
-  pub fields : first (up_to (field_at sort (kind_of line) line n) fields_per_line) ≡ Passed
+  pub fields : first (up_to (field_at sort (kind_of line) line n) fields_per_line) ≡ passed
 
-pub line_read : (sort : Sort) (seen : Seen) (n : ℕ) (line : List ℕ) → first (line_conditions_after sort seen line n) ≡ Passed → LineRead sort seen n line
+pub line_read : (sort : Sort) (seen : Seen) (n : ℕ) (line : List ℕ) → first (line_conditions_after sort seen line n) ≡ passed → LineRead sort seen n line
 unfolding line_conditions_after
 line_read sort seen n line e =
     let a = first_read _ _ e in
@@ -81,12 +82,12 @@ module _ (sort : Sort) (seen : Seen) (kind : Kind) (e : bad_kind sort seen kind 
 -- ---- what the code carries after n lines
 pub record Scanned (sort : Sort) (deck : List ℕ) (n : ℕ) (seen : Seen) : Type 0 where
   pub bound : n ≤ length deck / deck_line_width
-  pub reads : first (up_to (line_conditions sort deck) n) ≡ Passed
+  pub reads : first (up_to (line_conditions sort deck) n) ≡ passed
   pub told : seen ≡ seen_in deck n
   pub few_c : seen.chemicals ≤ max_chemicals
   pub few_r : seen.receptors ≤ max_receptors sort
 
-pub scanned_start : (sort : Sort) (deck : List ℕ) → Scanned sort deck 0 (record { kind = Start; id = 0; chemicals = 0; receptors = 0 })
+pub scanned_start : (sort : Sort) (deck : List ℕ) → Scanned sort deck 0 (record { kind = Start; id = None; chemicals = 0; receptors = 0 })
 unfolding first chained seen_in
 scanned_start sort deck = record { bound = omega arith; reads = refl; told = refl; few_c = omega arith; few_r = omega arith }
 
@@ -96,14 +97,14 @@ module _ (sort : Sort) (deck l : List ℕ) (n : ℕ) (seen : Seen) (s : Scanned 
   unfolding line_conditions
   here = rw (add-sub_cancel n 1, ← s.told, ← e) f
 
-  pub scan_out : n < length deck / deck_line_width → (number line field : ℕ) → t ≡ Stopped number line field → (last : List Condition)
-      → t ≡ first (up_to (line_conditions sort deck) (lines_of deck) ++ last)
+  pub scan_out : n < length deck / deck_line_width → (stop : Stop) → t ≡ Err stop → (last : List Condition)
+      → Err stop ≡ first (up_to (line_conditions sort deck) (lines_of deck) ++ last)
   unfolding lines_of or_else
-  scan_out h number line field q last =
-      let r = stops (λ k. line_conditions sort deck (k + 1)) n s.reads t here (length deck / deck_line_width) h number line field q in
-      q ∙ sym (first_append (up_to (line_conditions sort deck) (length deck / deck_line_width)) last ∙ ap (λ (u : Status). or_else u (first last)) (sym r ∙ q))
+  scan_out h stop q last =
+      let r = stops (λ k. line_conditions sort deck (k + 1)) n s.reads t here (length deck / deck_line_width) h stop q in
+      sym (first_append (up_to (line_conditions sort deck) (length deck / deck_line_width)) last ∙ ap (λ (u : Status). or_else u (first last)) (sym r ∙ q))
 
-  pub scan_on : n < length deck / deck_line_width → t ≡ Passed → (kind : Kind) (id : ℕ) (next : Seen) → kind ≡ kind_of l → id ≡ id_of l → next ≡ seen_with seen kind id
+  pub scan_on : n < length deck / deck_line_width → t ≡ passed → (kind : Kind) (id : Option ℕ) (next : Seen) → kind ≡ kind_of l → id ≡ id_of l → next ≡ seen_with seen kind id
       → Scanned sort deck (n + 1) next
   unfolding seen_in seen_with
   scan_on h q kind id next k i w =
@@ -119,7 +120,7 @@ module _ (sort : Sort) (deck l : List ℕ) (n : ℕ) (seen : Seen) (s : Scanned 
       }
 
 -- ---- the end
-ending : (b : Bool) (s : Status) → cond b Passed s ≡ cond (not b) s Passed
+ending : (b : Bool) (s : Status) → cond b passed s ≡ cond (not b) s passed
 ending true s = refl
 ending false s = refl
 
@@ -137,37 +138,24 @@ module _ (sort : Sort) (deck : List ℕ) (n : ℕ) (seen : Seen) (s : Scanned so
   pub all_told : seen ≡ seen_in deck (lines_of deck)
   all_told = s.told ∙ ap (seen_in deck) all
 
-  pub scan_end : (t : Status) → t ≡ cond (is_end seen.kind) Passed (Stopped 21 (length deck / deck_line_width + 1) 0)
+  pub scan_end : (t : Status) → t ≡ cond (is_end seen.kind) passed (stopped 21 (length deck / deck_line_width + 1) 0)
       → t ≡ first (up_to (line_conditions sort deck) (lines_of deck) ++ (at 21 (lines_of deck + 1) 0 (no_end deck) ∷ []))
   unfolding lines_of first or_else no_end
   scan_end t e =
       let m = length deck / deck_line_width in
       e
-      ∙ ap (λ (b : Bool). cond b Passed (Stopped 21 (m + 1) 0)) (ap (λ (x : Seen). is_end x.kind) all_told ∙ end_seen deck m)
-      ∙ ending (is_end (kind_of (line_of deck m))) (Stopped 21 (m + 1) 0)
+      ∙ ap (λ (b : Bool). cond b passed (stopped 21 (m + 1) 0)) (ap (λ (x : Seen). is_end x.kind) all_told ∙ end_seen deck m)
+      ∙ ending (is_end (kind_of (line_of deck m))) (stopped 21 (m + 1) 0)
       ∙ sym
       (first_append (up_to (line_conditions sort deck) m) (at 21 (m + 1) 0 (no_end deck) ∷ [])
       ∙ ap (λ (u : Status). or_else u (first (at 21 (m + 1) 0 (no_end deck) ∷ [])))
-      (subst (λ (k : ℕ). first (up_to (line_conditions sort deck) k) ≡ Passed) all s.reads))
+      (subst (λ (k : ℕ). first (up_to (line_conditions sort deck) k) ≡ passed) all s.reads))
 
   pub scan_counts : (c d : ℕ) → (c ≡ seen.chemicals) × (d ≡ seen.receptors)
       → (c ≡ (seen_in deck (lines_of deck)).chemicals) × (d ≡ (seen_in deck (lines_of deck)).receptors)
   scan_counts c d e = (e.0 ∙ ap (λ (x : Seen). x.chemicals) all_told, e.1 ∙ ap (λ (x : Seen). x.receptors) all_told)
 
 -- ---- 11
-pub length_none : (sort : Sort) (deck : List ℕ) → length deck ≡ 0 → true ≡ bad_length sort deck
-unfolding bad_length
-length_none sort deck h = simp (eq-eqb (length deck) 0 h)
-
-module _ (sort : Sort) (deck : List ℕ) (h : length deck ≡ 0 → ⊥) (m : ℕ) (e : m ≡ max_length sort) where
-  pub length_long : m < length deck → true ≡ bad_length sort deck
-  unfolding bad_length
-  length_long k = simp (ne_eqb (length deck) 0 h, ap (λ (x : ℕ). ltb x (length deck)) (sym e) ∙ lt-ltb m (length deck) k)
-
-  pub length_rest : length deck ≤ m → not (eqb (length deck % deck_line_width) 0) ≡ bad_length sort deck
-  unfolding bad_length
-  length_rest k = simp (ne_eqb (length deck) 0 h, ap (λ (x : ℕ). ltb x (length deck)) (sym e) ∙ le-ltb m (length deck) k)
-
 longest : (sort : Sort) → max_length sort ≤ max_length Composite
 longest Ordinary = omega arith
 longest Composite = omega arith
@@ -179,14 +167,20 @@ length_held sort deck b e h =
     let long = ltb-false (max_length sort) (length deck) (neither (eqb (length deck) 0) (ltb (max_length sort) (length deck)) none).1 in
     omega (arith, longest sort)
 
--- a line that the deck has is not empty
-line_some : (deck : List ℕ) (n : ℕ) → n < length deck / deck_line_width → (l : List ℕ) → l ≡ line_of deck (n + 1) → length l ≡ 0 → ⊥
-line_some deck n h l e z =
-    let k : deck_line_width * (n + 1 - 1) + deck_line_width ≤ length deck = omega arith in
-    let m : length (take deck_line_width (drop (deck_line_width * (n + 1 - 1)) deck)) ≡ deck_line_width =
-    length-take deck_line_width (drop (deck_line_width * (n + 1 - 1)) deck) ∙ omega (arith, length-drop (deck_line_width * (n + 1 - 1)) deck) in
-    let q : length l ≡ deck_line_width = ap length (e ∙ line_is deck (n + 1) (omega arith) (omega arith)) ∙ m in
-    omega arith
+-- a deck in parts of one line's width
+chunk_is : (k : ℕ) (s : List ℕ) (i : ℕ) (d : List ℕ) → i < k → get_or (first_chunks deck_line_width k s) i d ≡ take deck_line_width (drop (deck_line_width * i) s)
+chunk_is zero s i d h = absurd (omega arith)
+chunk_is (suc k) s zero d h = refl
+chunk_is (suc k) s (suc i) d h =
+    let past : deck_line_width + deck_line_width * i ≡ deck_line_width * suc i = omega arith in
+    chunk_is k (drop deck_line_width s) i d (omega arith)
+    ∙ ap (take deck_line_width) (drop-drop (deck_line_width * i) deck_line_width s ∙ ap (λ (m : ℕ). drop m s) past)
 
-pub line_whole : (deck : List ℕ) (n : ℕ) → n < length deck / deck_line_width → (l : List ℕ) → l ≡ line_of deck (n + 1) → length l ≡ deck_line_width
-line_whole deck n h l e = line_full deck (n + 1) l e (line_some deck n h l e)
+pub line_chunk : (deck : List ℕ) (n : ℕ) (parts : List (List ℕ)) (d : List ℕ) → parts ≡ first_chunks deck_line_width (length deck / deck_line_width) deck
+    → n < length deck / deck_line_width → get_or parts n d ≡ line_of deck (n + 1)
+line_chunk deck n parts d e h =
+    let here : n ≡ n + 1 - 1 = omega arith in
+    ap (λ (p : List (List ℕ)). get_or p n d) e
+    ∙ chunk_is (length deck / deck_line_width) deck n d h
+    ∙ ap (λ (m : ℕ). take deck_line_width (drop (deck_line_width * m) deck)) here
+    ∙ sym (line_is deck (n + 1) (omega arith) (omega arith))

@@ -16,13 +16,20 @@ use Rattle.deck.specs.Parts.{field_in}
 use Rattle.spelling.specs.Spelling.{unspaced, exponent_spelled, power_of, digits_read, max_digits, ended_of, pointed_of, spelled_of, lone_dash, word_of}
 use Rattle.powers.specs.Powers.{above, below}
 use Rattle.slots.proofs.SlotLaws.{places}
-use Rattle.deck.specs.Inner.{Small}
+use Rattle.cases.specs.Ranged.{Spelled}
 use Rattle.spelling.specs.declared.Word.{Word}
-use Rattle.spelling.specs.declared.Word.TheVariants.{Blank, Dash, Other}
+use Rattle.spelling.specs.declared.Word.TheVariants.{Blank, Dash, Number, Other}
 use Rattle.lists.proofs.Booleans.{both}
 use Rattle.spelling.proofs.DigitLaws.{leading_le, leading_take, digits_value_append, digits_value_below}
 use Rattle.spelling.proofs.WordLaws.{digits_room, exponent_four, exponent_small, power_plain}
 use Rattle.deck.proofs.FieldWidths.{field_short}
+
+-- a word that is a number is one that a field may spell
+abbrev pub Small : Word → Type 0
+Small Blank = Unit {0}
+Small Dash = Unit {0}
+Small (Number digits power) = Spelled digits power
+Small Other = Unit {0}
 
 -- ---- every field that holds a number is as `Spelled` says
 pub choose : (P : Word → Type 0) (t : Bool) (v w : Word) → (t ≡ true → P v) → (t ≡ false → P w) → P (cond t v w)

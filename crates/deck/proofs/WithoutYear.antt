@@ -14,11 +14,13 @@ use lib.Dec.{leb, ltb, eqb, lit≤, lit<}
 use lib.IntN.{ℤ}
 use lib.ListN.{length, get_or, take, drop, set, replicate, length-append, length-drop, take-append-drop}
 use lib.Seq.{length-take-le, take_at, drop_at, take-take, take-add, take-suc, drop-drop, get_or-take, get_or-drop, set_at, append_snoc}
+use Rattle.std.specs.Prelude.{Ok, Err}
 use Rattle.slots.specs.Slots.{unused, guidance_year, year_of, table, same, is_in, place_in, owner_of, place_of, rule_in, rule_at, line_rules}
 use Rattle.slots.specs.declared.Guidance.{Guidance}
 use Rattle.slots.specs.declared.Guidance.TheVariants.{Of2005, Of2009}
 use Rattle.slots.specs.declared.Sort.{Sort}
 use Rattle.sizes.specs.Sizes.{fields_per_line, site_lines, record_lines, slots_per_record, max_chemicals, most_stages}
+use Rattle.std.specs.Option.{unwrap_or}
 use Rattle.spelling.specs.Columns.{within, leading, field_width, id_width}
 use Rattle.deck.specs.Parts.{kind_width, fields_start, columns, deck_line_width, lines_of, line_of, field_in, field_of, kind_of}
 use Rattle.spelling.specs.Spelling.{digits_of, unspaced, sign_spelled, exponent_spelled, ended_of, pointed_of, spelled_of, lone_dash, word_of, id_in}
@@ -29,18 +31,16 @@ use Rattle.kinds.specs.declared.Kind.TheVariants.{Start, Line, End, Other}
 use Rattle.deck.specs.declared.lines.Seen.{Seen}
 use Rattle.powers.specs.Powers.{above, below}
 use Rattle.cases.specs.Ranges.{value_at_most, value_at_least, within_bounds, is_year_of, is_year, in_range}
-use Rattle.cases.specs.Conditions.{Condition, at, first, up_to}
+use Rattle.cases.specs.Conditions.{Status, passed, stopped, Condition, at, first, up_to}
 use Rattle.deck.specs.DeckConditions.{misspelled, misplaced, out_of_range, field_conditions, field_at, bad_bytes, bad_kind, id_of, wrong_id, bad_id, line_conditions_after, seen_with, seen_in, line_conditions, max_length, bad_length, no_end, conditions}
 use Rattle.lists.specs.Lists.{tabulate, chained}
 use Rattle.deck.specs.DeckCase.{chemicals_start, value_of, slot_spelled, record_of, records_of, case_with, case_of}
-use Rattle.cases.specs.Cases.{no_slot, no_record, value_at, guidance_of, clear_year, case_without_year}
+use Rattle.cases.specs.Cases.{no_record, value_at, guidance_of, clear_year, case_without_year}
 use Rattle.deck.specs.Guidance.{year_word, is2005, is2009, year_column, year_start, year_end, without_year}
 use Rattle.spelling.specs.declared.Word.{Word}
 use Rattle.spelling.specs.declared.Word.TheVariants.{Blank, Dash, Number, Other}
-use Rattle.cases.specs.declared.Filled.{Filled}
+use Rattle.cases.specs.declared.Value.TheVariants.{Absent}
 use Rattle.cases.specs.declared.Record.{Record}
-use Rattle.cases.specs.declared.Status.{Status}
-use Rattle.cases.specs.declared.Status.TheVariants.{Passed, Stopped}
 use Rattle.spelling.proofs.Leading.{within_yes}
 use Rattle.lists.proofs.Booleans.{both}
 use Rattle.spelling.proofs.DigitLaws.{within_bounds_lem, digit_first, leading_le, leading_take}
@@ -343,31 +343,31 @@ module _ (deck : List ℕ) (long : deck_line_width * site_lines ≤ length deck)
   slot_same n k =
       let f = k % fields_per_line + 1 in
       by_line
-      (λ m. (m ≡ site_lines → f < fields_per_line) → ◌≡◌ {A = Filled} (record { value = value_of (word_of (field_in (line_of (without_year deck) m) f)) }) (record { value = value_of (word_of (field_in (line_of deck m) f)) }))
-      (λ h i. record { value = value_of (word_of (field_same (line_of deck site_lines) (line_of (without_year deck) site_lines) (second_blanked deck long) f (h refl) i)) })
-      (λ m q h i. record { value = value_of (word_of (field_in (line_same deck long m q i) f)) })
+      (λ m. (m ≡ site_lines → f < fields_per_line) → value_of (word_of (field_in (line_of (without_year deck) m) f)) ≡ value_of (word_of (field_in (line_of deck m) f)))
+      (λ h i. value_of (word_of (field_same (line_of deck site_lines) (line_of (without_year deck) site_lines) (second_blanked deck long) f (h refl) i)))
+      (λ m q h i. value_of (word_of (field_in (line_same deck long m q i) f)))
       (n + k / fields_per_line)
 
-  year_cleared : slot_spelled (without_year deck) 1 year_slot ≡ no_slot
+  year_cleared : slot_spelled (without_year deck) 1 year_slot ≡ Absent
   unfolding slot_spelled field_of value_of
-  year_cleared = λ i. record { value = value_of (sixth_blank (line_of deck site_lines) (line_of (without_year deck) site_lines) (second_blanked deck long) i) }
+  year_cleared = λ i. value_of (sixth_blank (line_of deck site_lines) (line_of (without_year deck) site_lines) (second_blanked deck long) i)
 
   site_cleared : record_of (without_year deck) 1 site_lines ≡ clear_year (record_of deck 1 site_lines)
   unfolding record_of clear_year place_of owner_of is_in place_in same table
   site_cleared =
-      let none = replicate (slots_per_record - site_slots) no_slot in
+      let none = replicate (slots_per_record - site_slots) Absent in
       let e = ids_same deck long 1 in
       let t = tabulate_same (slot_spelled (without_year deck) 1) (slot_spelled deck 1) year_slot (λ k h. slot_same 1 k (λ q. omega arith)) in
-      let s : tabulate site_slots (slot_spelled (without_year deck) 1) ++ none ≡ set (tabulate site_slots (slot_spelled deck 1) ++ none) year_slot no_slot =
-      tabulate_last (slot_spelled (without_year deck) 1) year_slot none ∙ (λ i. t i ++ (year_cleared i ∷ none)) ∙ sym (tabulate_set (slot_spelled deck 1) year_slot none no_slot) in
-      λ i. record { id = e i; slots = s i }
+      let s : tabulate site_slots (slot_spelled (without_year deck) 1) ++ none ≡ set (tabulate site_slots (slot_spelled deck 1) ++ none) year_slot Absent =
+      tabulate_last (slot_spelled (without_year deck) 1) year_slot none ∙ (λ i. t i ++ (year_cleared i ∷ none)) ∙ sym (tabulate_set (slot_spelled deck 1) year_slot none Absent) in
+      λ i. record { id = unwrap_or (e i) 0; slots = s i }
 
   record_same : (n : ℕ) → chemicals_start ≤ n → record_of (without_year deck) n record_lines ≡ record_of deck n record_lines
   unfolding record_of
   record_same n h =
       let e = ids_same deck long n in
       let s = tabulate_same (slot_spelled (without_year deck) n) (slot_spelled deck n) (record_lines * fields_per_line) (λ k l. slot_same n k (λ q. absurd (omega arith))) in
-      λ i. record { id = e i; slots = s i ++ replicate (slots_per_record - record_lines * fields_per_line) no_slot }
+      λ i. record { id = unwrap_or (e i) 0; slots = s i ++ replicate (slots_per_record - record_lines * fields_per_line) Absent }
 
   records_same : (n count room : ℕ) → chemicals_start ≤ n → records_of (without_year deck) n count room ≡ records_of deck n count room
   unfolding records_of
@@ -390,12 +390,12 @@ case_without deck long =
     (λ i. case_with (without_year deck) (s i).chemicals (s i).receptors) ∙ case_with_lem deck long (seen_in deck (lines_of deck)).chemicals (seen_in deck (lines_of deck)).receptors
 
 -- ---- the first condition of two lists, where those before it agree
-same_next : (s t u : Status) → (s ≡ Passed → t ≡ u) → or_else s t ≡ or_else s u
+same_next : (s t u : Status) → (s ≡ passed → t ≡ u) → or_else s t ≡ or_else s u
 unfolding or_else
-same_next Passed t u h = h refl
-same_next (Stopped number line field) t u h = refl
+same_next (Ok done) t u h = h refl
+same_next (Err stop) t u h = refl
 
-same_chained : (f g : ℕ → List Condition) (m : ℕ) → ((k : ℕ) → k < m → first (chained g k) ≡ Passed → first (f k) ≡ first (g k))
+same_chained : (f g : ℕ → List Condition) (m : ℕ) → ((k : ℕ) → k < m → first (chained g k) ≡ passed → first (f k) ≡ first (g k))
     → first (chained f m) ≡ first (chained g m)
 unfolding chained
 same_chained f g zero h = refl
@@ -466,14 +466,14 @@ unfolding in_range is_year_of year_of
 year_in Of2005 digits z h = simp (year_bounds 2005 (lit≤ tt) (lit≤ tt) digits z (eqb-true (digits * 10 ^ above z) (2005 * 10 ^ below z) h), either_year Of2005 digits z h)
 year_in Of2009 digits z h = simp (year_bounds 2009 (lit≤ tt) (lit≤ tt) digits z (eqb-true (digits * 10 ^ above z) (2009 * 10 ^ below z) h), either_year Of2009 digits z h)
 
-year_read : (w : Word) (n f : ℕ) → is2005 w ≡ true → first (field_conditions guidance_year w n f) ≡ Passed
+year_read : (w : Word) (n f : ℕ) → is2005 w ≡ true → first (field_conditions guidance_year w n f) ≡ passed
 unfolding is2005 first field_conditions misspelled misplaced out_of_range
 year_read Blank n f h = refl
 year_read Dash n f h = absurd (false≢true h)
 year_read (Number digits power) n f h = simp (year_in Of2005 digits power h)
 year_read Other n f h = absurd (false≢true h)
 
-pub read_2009 : (w : Word) (n f : ℕ) → is2009 w ≡ true → first (field_conditions guidance_year w n f) ≡ Passed
+pub read_2009 : (w : Word) (n f : ℕ) → is2009 w ≡ true → first (field_conditions guidance_year w n f) ≡ passed
 unfolding is2009 first field_conditions misspelled misplaced out_of_range
 read_2009 Blank n f h = absurd (false≢true h)
 read_2009 Dash n f h = absurd (false≢true h)
@@ -482,7 +482,7 @@ read_2009 Other n f h = absurd (false≢true h)
 
 -- ---- the second line, after the site's first: past 21 it is the site's second, so it is no EN and its sixth field is the year's
 module _ (sort : Sort) (seen : Seen) (l m : List ℕ) (b : Blanked l m) (y : is2005 (word_of (field_in l fields_per_line)) ≡ true) where
-  sixth_read : (s : List ℕ) → is2005 (word_of (field_in s fields_per_line)) ≡ true → first (field_at sort year_line s site_lines fields_per_line) ≡ Passed
+  sixth_read : (s : List ℕ) → is2005 (word_of (field_in s fields_per_line)) ≡ true → first (field_at sort year_line s site_lines fields_per_line) ≡ passed
   unfolding field_at
   sixth_read s h = rw (year_rule sort) (year_read (word_of (field_in s fields_per_line)) site_lines fields_per_line h)
 
@@ -501,15 +501,15 @@ module _ (sort : Sort) (seen : Seen) (l m : List ℕ) (b : Blanked l m) (y : is2
   id_agrees = ap (wrong_id seen year_line) (id_same l m b)
 
   kind_agrees : (k : Kind) → k ≡ year_line
-      → cond (bad_id seen k m) (Stopped 22 site_lines 0) (first (up_to (field_at sort k m site_lines) fields_per_line))
-      ≡ cond (bad_id seen k l) (Stopped 22 site_lines 0) (first (up_to (field_at sort k l site_lines) fields_per_line))
+      → cond (bad_id seen k m) (stopped 22 site_lines 0) (first (up_to (field_at sort k m site_lines) fields_per_line))
+      ≡ cond (bad_id seen k l) (stopped 22 site_lines 0) (first (up_to (field_at sort k l site_lines) fields_per_line))
   kind_agrees k e =
       let f = same_chained (λ k. field_at sort year_line m site_lines (k + 1)) (λ k. field_at sort year_line l site_lines (k + 1)) fields_per_line (λ j h r. field_agrees j h) in
       subst
       (λ (n : Kind).
-      cond (bad_id seen n m) (Stopped 22 site_lines 0) (first (up_to (field_at sort n m site_lines) fields_per_line))
-      ≡ cond (bad_id seen n l) (Stopped 22 site_lines 0) (first (up_to (field_at sort n l site_lines) fields_per_line)))
-      (sym e) (λ i. cond (id_agrees i) (Stopped 22 site_lines 0) (f i))
+      cond (bad_id seen n m) (stopped 22 site_lines 0) (first (up_to (field_at sort n m site_lines) fields_per_line))
+      ≡ cond (bad_id seen n l) (stopped 22 site_lines 0) (first (up_to (field_at sort n l site_lines) fields_per_line)))
+      (sym e) (λ i. cond (id_agrees i) (stopped 22 site_lines 0) (f i))
 
   second_agrees : length l ≡ deck_line_width → seen.kind ≡ Line Site 0
       → first (line_conditions_after sort seen m site_lines) ≡ first (line_conditions_after sort seen l site_lines)
@@ -518,22 +518,22 @@ module _ (sort : Sort) (seen : Seen) (l m : List ℕ) (b : Blanked l m) (y : is2
       let p = bytes_same l m b long (plain_2005 (field_in l fields_per_line) y) in
       let k = kind_same l m b in
       (λ i.
-      cond (p i) (Stopped 12 site_lines 0)
-      (cond (bad_kind sort seen (k i)) (Stopped 21 site_lines 0)
-      (cond (bad_id seen (k i) m) (Stopped 22 site_lines 0) (first (up_to (field_at sort (k i) m site_lines) fields_per_line)))))
-      ∙ same_else (bad_bytes l) (Stopped 12 site_lines 0) _ _
+      cond (p i) (stopped 12 site_lines 0)
+      (cond (bad_kind sort seen (k i)) (stopped 21 site_lines 0)
+      (cond (bad_id seen (k i) m) (stopped 22 site_lines 0) (first (up_to (field_at sort (k i) m site_lines) fields_per_line)))))
+      ∙ same_else (bad_bytes l) (stopped 12 site_lines 0) _ _
       (λ u.
-      same_else (bad_kind sort seen (kind_of l)) (Stopped 21 site_lines 0) _ _
+      same_else (bad_kind sort seen (kind_of l)) (stopped 21 site_lines 0) _ _
       (λ v. kind_agrees (kind_of l) (after_first (kind_of l) (subst (λ (x : Kind). may_follow x (kind_of l) ≡ true) before (may_follow_lem sort seen (kind_of l) v)))))
 
 -- ---- the deck's conditions
 in_order : (sort : Sort) (s : List ℕ) → first (conditions sort s)
-    ≡ cond (bad_length sort s) (Stopped 11 0 0) (or_else (first (up_to (line_conditions sort s) (lines_of s))) (cond (no_end s) (Stopped 21 (lines_of s + 1) 0) Passed))
+    ≡ cond (bad_length sort s) (stopped 11 0 0) (or_else (first (up_to (line_conditions sort s) (lines_of s))) (cond (no_end s) (stopped 21 (lines_of s + 1) 0) passed))
 unfolding first conditions
-in_order sort s = ap (λ (t : Status). cond (bad_length sort s) (Stopped 11 0 0) t) (first_append (up_to (line_conditions sort s) (lines_of s)) (at 21 (lines_of s + 1) 0 (no_end s) ∷ []))
+in_order sort s = ap (λ (t : Status). cond (bad_length sort s) (stopped 11 0 0) t) (first_append (up_to (line_conditions sort s) (lines_of s)) (at 21 (lines_of s + 1) 0 (no_end s) ∷ []))
 
 module _ (sort : Sort) (deck : List ℕ) (long : deck_line_width * site_lines ≤ length deck) (y : is2005 (year_word deck) ≡ true) where
-  first_kind : first (up_to (line_conditions sort deck) 1) ≡ Passed → (seen_in deck 1).kind ≡ Line Site 0
+  first_kind : first (up_to (line_conditions sort deck) 1) ≡ passed → (seen_in deck 1).kind ≡ Line Site 0
   unfolding line_conditions seen_in seen_with
   first_kind e =
       let r = line_read sort (seen_in deck 0) 1 (line_of deck 1) (chained_each (λ k. line_conditions sort deck (k + 1)) 1 e 0 (lit≤ tt)) in
@@ -548,10 +548,10 @@ module _ (sort : Sort) (deck : List ℕ) (long : deck_line_width * site_lines �
   unfolding line_conditions
   carried n = ap (λ (s : Seen). line_conditions_after sort s (line_of (without_year deck) n) n) (seen_same deck long (n - 1))
 
-  line_agrees : (n : ℕ) → first (up_to (line_conditions sort deck) (n - 1)) ≡ Passed → first (line_conditions sort (without_year deck) n) ≡ first (line_conditions sort deck n)
+  line_agrees : (n : ℕ) → first (up_to (line_conditions sort deck) (n - 1)) ≡ passed → first (line_conditions sort (without_year deck) n) ≡ first (line_conditions sort deck n)
   unfolding line_conditions
   line_agrees =
-      by_line (λ n. first (up_to (line_conditions sort deck) (n - 1)) ≡ Passed → first (line_conditions sort (without_year deck) n) ≡ first (line_conditions sort deck n))
+      by_line (λ n. first (up_to (line_conditions sort deck) (n - 1)) ≡ passed → first (line_conditions sort (without_year deck) n) ≡ first (line_conditions sort deck n))
       (λ e.
       ap first (carried site_lines)
       ∙ second_agrees sort (seen_in deck 1) (line_of deck site_lines) (line_of (without_year deck) site_lines) (second_blanked deck long) sixth_2005 (second_length deck long) (first_kind e))
@@ -560,7 +560,7 @@ module _ (sort : Sort) (deck : List ℕ) (long : deck_line_width * site_lines �
   lines_agree : (m : ℕ) → first (up_to (line_conditions sort (without_year deck)) m) ≡ first (up_to (line_conditions sort deck) m)
   lines_agree m =
       same_chained (λ k. line_conditions sort (without_year deck) (k + 1)) (λ k. line_conditions sort deck (k + 1)) m
-      (λ k h e. line_agrees (k + 1) (subst (λ (n : ℕ). first (up_to (line_conditions sort deck) n) ≡ Passed) (omega arith) e))
+      (λ k h e. line_agrees (k + 1) (subst (λ (n : ℕ). first (up_to (line_conditions sort deck) n) ≡ passed) (omega arith) e))
 
   end_agrees : no_end (without_year deck) ≡ no_end deck
   unfolding no_end
@@ -579,13 +579,13 @@ status_without sort deck long y =
     let l = ap (λ (m : ℕ). first (up_to (line_conditions sort (without_year deck)) m)) b ∙ lines_agree sort deck long y (lines_of deck) in
     let e = end_agrees sort deck long y in
     in_order sort (without_year deck)
-    ∙ (λ i. cond (n i) (Stopped 11 0 0) (or_else (l i) (cond (e i) (Stopped 21 (b i + 1) 0) Passed)))
+    ∙ (λ i. cond (n i) (stopped 11 0 0) (or_else (l i) (cond (e i) (stopped 21 (b i + 1) 0) passed)))
     ∙ sym (in_order sort deck)
 
 -- ---- the guidance of such a deck
 pub year_printed : (deck : List ℕ) → value_at (case_of deck).site (place_of "year") ≡ value_of (year_word deck)
 unfolding value_at case_of case_with record_of year_word slot_spelled place_of place_in owner_of is_in same table
-year_printed deck = ap (λ (x : Filled). x.value) (filled_at (slot_spelled deck 1) no_slot site_slots (replicate (slots_per_record - site_slots) no_slot) year_slot (lit< tt))
+year_printed deck = filled_at (slot_spelled deck 1) Absent site_slots (replicate (slots_per_record - site_slots) Absent) year_slot (lit< tt)
 
 pub guidance_2005 : (w : Word) → is2005 w ≡ true → guidance_of (value_of w) ≡ Of2005
 unfolding is2005 value_of guidance_of

@@ -1,7 +1,7 @@
 -- Where a deck stops (document 01): the conditions 11 to 33 as one ordered list, for a deck of either sort. A deck is read exactly where none
 -- holds. Later stages append their own conditions to this list.
 -- Assumes nothing.
-use Rattle.std.specs.Prelude.{ℕ, zero, suc, ◌+◌, ◌*◌, ◌-◌, ◌%◌, Bool, true, false, cond, not, ◌&&◌, ◌||◌, List, [], ◌∷◌, ◌++◌, leb, ltb, eqb, length, get_or, take, drop}
+use Rattle.std.specs.Prelude.{ℕ, zero, suc, ◌+◌, ◌*◌, ◌-◌, ◌%◌, Bool, true, false, cond, not, ◌&&◌, ◌||◌, List, [], ◌∷◌, ◌++◌, leb, ltb, eqb, length, get_or, take, drop, Option, Some, None}
 use Rattle.deck.specs.Parts.{deck_line_width, columns, kind_width, lines_of, line_of, field_in, kind_of}
 use Rattle.spelling.specs.Columns.{id_width, leading}
 use Rattle.spelling.specs.Spelling.{id_in, word_of}
@@ -61,16 +61,26 @@ bad_kind sort seen kind =
     || is_line Receptor 0 kind && leb (max_receptors sort) seen.receptors
 
 -- columns 3-8
-unfoldable pub id_of : List ℕ → ℕ
+unfoldable pub id_of : List ℕ → Option ℕ
 id_of line = id_in (take id_width (drop kind_width line))
 
 -- two kinds have one letter
 unfoldable pub same_letter : Kind → Kind → Bool
 same_letter a b = eqb (letter_of a) (letter_of b)
 
+-- an id is not above the one before, if there is one, and is unlike it
+unfoldable pub not_above : ℕ → Option ℕ → Bool
+not_above id None = false
+not_above id (Some before) = leb id before
+
+unfoldable pub unlike : ℕ → Option ℕ → Bool
+unlike id None = true
+unlike id (Some before) = not (eqb id before)
+
 -- an id misspelled, unlike its record's, or not above the one before
-unfoldable pub wrong_id : Seen → Kind → ℕ → Bool
-wrong_id seen kind id = eqb id 0 || cond (begins kind) (same_letter seen.kind kind && leb id seen.id) (not (eqb id seen.id))
+unfoldable pub wrong_id : Seen → Kind → Option ℕ → Bool
+wrong_id seen kind None = true
+wrong_id seen kind (Some id) = cond (begins kind) (same_letter seen.kind kind && not_above id seen.id) (unlike id seen.id)
 
 -- a wrong id, or EN not blank
 unfoldable pub bad_id : Seen → Kind → List ℕ → Bool
@@ -90,7 +100,7 @@ unfoldable pub begun_with : Owner → Kind → ℕ → ℕ
 begun_with o kind n = cond (is_line o 0 kind) (suc n) n
 
 -- with a line of this kind and id more
-unfoldable pub seen_with : Seen → Kind → ℕ → Seen
+unfoldable pub seen_with : Seen → Kind → Option ℕ → Seen
 seen_with seen kind id =
     record {
       kind = kind;
@@ -101,7 +111,7 @@ seen_with seen kind id =
 
 -- what the lines 1 to n tell: the kind and id of the last, and how many chemicals and receptors began
 unfoldable pub seen_in : List ℕ → ℕ → Seen
-seen_in deck zero = record { kind = Start; id = 0; chemicals = 0; receptors = 0 }
+seen_in deck zero = record { kind = Start; id = None; chemicals = 0; receptors = 0 }
 seen_in deck (suc n) = seen_with (seen_in deck n) (kind_of (line_of deck (suc n))) (id_of (line_of deck (suc n)))
 
 unfoldable pub line_conditions : Sort → List ℕ → ℕ → List Condition

@@ -4,20 +4,19 @@
 
 mod fields;
 mod lines;
-mod packing;
 mod records;
 mod scanning;
 
-ghost use Rattle.std.specs.Prelude.{◌≡◌};
-ghost use Rattle.deck.specs.Parts.{line_of, field_of};
-ghost use Rattle.cases.specs.Conditions.{first, told_of};
+ghost use Rattle.std.specs.Prelude.{◌≡◌, ◌≢◌, length, MatchOption};
+ghost use Rattle.deck.specs.Parts.{deck_line_width, line_of, field_of};
+ghost use Rattle.cases.specs.Conditions.{first, told_of, status_of};
 ghost use Rattle.deck.specs.DeckConditions.{conditions};
-ghost use Rattle.cases.specs.Cases.{no_case};
 ghost use Rattle.deck.specs.DeckCase.{read_of};
 
-use cases::{Case, Status};
+use cases::numbers::WRONG_LENGTH;
+use cases::{Case, Stop, Value};
 use fields::field_part;
-use records::case_with;
+use records::Fields;
 use scanning::{bad_length, scan_lines};
 use sizes::{FIELDS, MAX_CHEMICALS, MAX_RECEPTORS, MAX_STAGES, RECORD_LINES, SITE_LINES};
 use slots::Sort;
@@ -33,6 +32,8 @@ const COLUMNS: usize = FIELDS_START + FIELD_WIDTH * FIELDS;
 // A line: its columns and a line feed.
 pub const LINE_WIDTH: usize = COLUMNS + 1;
 
+type Bytes = [u8; LINE_WIDTH];
+
 // The site, all chemicals and receptors, and EN.
 pub const MAX_LENGTH: usize = LINE_WIDTH
     * (SITE_LINES + RECORD_LINES * (MAX_CHEMICALS + MAX_RECEPTORS) + 1);
@@ -43,12 +44,7 @@ pub const MAX_COMPOSITE_LENGTH: usize = LINE_WIDTH
 // The fields of the longest deck.
 const MAX_VALUES: usize = FIELDS * (MAX_COMPOSITE_LENGTH / LINE_WIDTH);
 
-// The case is empty where the deck is stopped.
-#[derive(Clone, Copy)]
-pub struct Reading {
-    pub status: Status,
-    pub case: Case,
-}
+pub type Reading = Result<Case, Stop>;
 
 // Line n, counted from 1: 81 bytes, or nothing where the deck lacks it.
 pub fn line(deck: &[u8], n: usize) -> &[u8]
@@ -64,40 +60,37 @@ pub fn line(deck: &[u8], n: usize) -> &[u8]
     &deck[at..at + LINE_WIDTH]
 }
 
+// Line n, if the deck has it.
+fn full_line(deck: &[u8], n: usize) -> Option<&Bytes>
+    ensures { MatchOption result (length (line_of deck.now n) ≢ deck_line_width) (λ l. l.now ≡ line_of deck.now n) }
+{
+    line(deck, n).as_array()
+}
+
 // Field f of line n, both counted from 1: twelve bytes, or nothing where the deck lacks it.
+#[tactic(auto, unfolding(crate::specs::Parts::field_of))]
 pub fn field(deck: &[u8], n: usize, f: usize) -> &[u8]
     ensures { result.now ≡ field_of deck.now n f }
 {
-    let l = line(deck, n);
-    if l.len() == 0 {
-        return l;
+    match full_line(deck, n) {
+        Some(l) => field_part(l, f),
+        None => &deck[..0],
     }
-    field_part(l, f)
-}
-
-// A stopped deck has the case of an empty one. One function makes every case: it is large, and made in two ways it is copied slot by slot.
-fn stopped(deck: &[u8], status: Status) -> Reading
-    ensures { (result.status ≡ status) × (result.case ≡ no_case) }
-{
-    let values = [0u64; MAX_VALUES];
-    let case = case_with(&deck[..0], &values, 0, 0);
-    Reading { status, case }
 }
 
 // The case that a deck of this sort spells, or the first condition that holds, in document 01's order.
 pub fn read(deck: &[u8], sort: Sort) -> Reading
     ensures value { result ≡ read_of sort deck.now }
-    ensures status_value { told_of result.status ≡ told_of (first (conditions sort deck.now)) }
+    ensures status_value { told_of (status_of result) ≡ told_of (first (conditions sort deck.now)) }
 {
     if bad_length(deck, sort) {
-        return stopped(deck, Status::Stopped(11, 0, 0));
+        return Err(Stop::at(WRONG_LENGTH, 0, 0));
     }
-    let mut values = [0u64; MAX_VALUES];
-    let scan = scan_lines(deck, sort, &mut values);
-    let status = scan.status;
-    let Status::Passed = status else {
-        return stopped(deck, status);
+    let mut values = [Value::Absent; MAX_VALUES];
+    let scan = scan_lines(deck, sort, &mut values)?;
+    let fields = Fields {
+        deck,
+        values: &values,
     };
-    let case = case_with(deck, &values, scan.chemicals, scan.receptors);
-    Reading { status, case }
+    Ok(fields.case_with(scan.chemicals, scan.receptors))
 }

@@ -1,23 +1,24 @@
 // The conditions of a deck's lines in turn.
-ghost use Rattle.std.specs.Prelude.{◌≡◌, cond, [], ◌∷◌, ◌++◌, ◌+◌, ◌≤◌, length, replicate};
+ghost use Rattle.std.specs.Prelude.{◌≡◌, cond, [], ◌∷◌, ◌++◌, ◌+◌, ◌≤◌, length, replicate, IfOk};
+ghost use Rattle.std.specs.Result.{OnOk};
 ghost use Rattle.deck.specs.Parts.{lines_of};
 ghost use Rattle.kinds.specs.Kinds.{is_end};
 ghost use Rattle.sizes.specs.Sizes.{max_chemicals, most_stages};
-ghost use Rattle.cases.specs.Conditions.{at, first, up_to};
+ghost use Rattle.cases.specs.Conditions.{at, first, up_to, passed, stopped, status_of};
 ghost use Rattle.deck.specs.DeckConditions.{line_conditions, no_end, seen_in, max_lines, max_length, bad_length};
-ghost use Rattle.deck.specs.Inner.{max_fields, packed_fields};
+ghost use Rattle.deck.specs.Inner.{max_fields, values_of};
 
-use crate::lines::{Seen, id_of, kind_of, line_status};
-use crate::{LINE_WIDTH, MAX_COMPOSITE_LENGTH, MAX_LENGTH, line};
-use cases::Status;
+use crate::lines::{Line, Seen, id_of, kind_of, line_status};
+use crate::{LINE_WIDTH, MAX_COMPOSITE_LENGTH, MAX_LENGTH};
+use cases::numbers::MISCOUNTED;
+use cases::{Stop, Value};
 use kinds::{Kind, is_end};
 use sizes::FIELDS;
 use slots::Sort;
 
-// The first condition of the lines and the deck's end that holds; where none does, how many chemicals and receptors there are.
+// How many chemicals and receptors a deck has.
 #[derive(Clone, Copy)]
 pub(crate) struct Scan {
-    pub(crate) status: Status,
     pub(crate) chemicals: usize,
     pub(crate) receptors: usize,
 }
@@ -31,6 +32,7 @@ fn max_length(sort: Sort) -> usize
     }
 }
 
+#[tactic(auto, unfolding(crate::specs::DeckConditions::bad_length))]
 pub(crate) fn bad_length(deck: &[u8], sort: Sort) -> bool
     ensures { result ≡ bad_length sort deck.now }
 {
@@ -43,63 +45,52 @@ pub(crate) fn bad_length(deck: &[u8], sort: Sort) -> bool
     deck.len() % LINE_WIDTH != 0
 }
 
-// Where the lines are read, the values of their fields are kept, so that each field is read once.
-pub(crate) fn scan_lines(deck: &[u8], sort: Sort, values: &mut [u64]) -> Scan
-    requires { (length deck.now ≤ max_length Sort.Composite) × (values.old ≡ replicate max_fields 0) }
-    ensures status_value { result.status
+// The first condition of the lines and the deck's end that holds, or how many records there are. Where the lines are read, the values of their
+// fields are kept, so that each field is read once.
+pub(crate) fn scan_lines(deck: &[u8], sort: Sort, values: &mut [Value]) -> Result<Scan, Stop>
+    requires { (length deck.now ≤ max_length Sort.Composite) × (values.old ≡ replicate max_fields Value.Absent) }
+    ensures status_value { status_of result
         ≡ first
         (up_to (line_conditions sort deck.now) (lines_of deck.now)
         ++ (at 21 (lines_of deck.now + 1) 0 (no_end deck.now) ∷ [])) }
-    ensures chemicals_value { result.status ≡ Status.Passed
-        → (result.chemicals ≡ (seen_in deck.now (lines_of deck.now)).chemicals)
-        × (result.receptors ≡ (seen_in deck.now (lines_of deck.now)).receptors) }
-    ensures chemicals_le_max_chemicals { (result.chemicals ≤ max_chemicals) × (result.receptors ≤ most_stages) }
-    ensures values_after { result.status ≡ Status.Passed → values.new ≡ packed_fields deck.now }
+    ensures counts_value { IfOk result (λ scan. (scan.chemicals ≡ (seen_in deck.now (lines_of deck.now)).chemicals)
+        × (scan.receptors ≡ (seen_in deck.now (lines_of deck.now)).receptors)) }
+    ensures counts_few { IfOk result (λ scan. (scan.chemicals ≤ max_chemicals) × (scan.receptors ≤ most_stages)) }
+    ensures values_after { OnOk result (values.new ≡ values_of deck.now) }
 {
-    let lines = deck.len() / LINE_WIDTH;
+    let (lines, _) = deck.as_chunks::<LINE_WIDTH>();
     let mut seen = Seen {
         kind: Kind::Start,
-        id: 0,
+        id: None,
         chemicals: 0,
         receptors: 0,
     };
-    let mut n: usize = 0;
-    while n < lines {
-        let l = line(deck, n + 1);
-        let kind = kind_of(l);
-        let id = id_of(l);
-        let at = FIELDS * n;
-        let status = line_status(sort, l, n + 1, seen, kind, id, &mut values[at..at + FIELDS]);
-        let Status::Passed = status else {
-            return Scan {
-                status,
-                chemicals: 0,
-                receptors: 0,
-            };
+    for (n, bytes) in lines.iter().enumerate() {
+        let line = Line {
+            bytes,
+            number: n + 1,
+            kind: kind_of(bytes),
+            id: id_of(bytes),
         };
-        seen = seen.after(kind, id);
-        n += 1;
+        let at = FIELDS * n;
+        line_status(sort, seen, &line, &mut values[at..at + FIELDS])?;
+        seen = seen.after(&line);
     }
-    ended(seen, lines)
+    ended(seen, lines.len())
 }
 
 // No EN at the end is told as the line past the last.
-fn ended(seen: Seen, lines: usize) -> Scan
-    requires { (lines ≤ max_lines Sort.Composite) × ((seen.chemicals ≤ max_chemicals) × (seen.receptors ≤ most_stages)) }
-    ensures status_value { result.status ≡ cond (is_end seen.kind) Status.Passed (Status.Stopped 21 (lines + 1) 0) }
-    ensures chemicals_value { (result.chemicals ≡ seen.chemicals) × (result.receptors ≡ seen.receptors) }
+#[tactic(auto, unfolding(cases::specs::Conditions::status_of))]
+fn ended(seen: Seen, lines: usize) -> Result<Scan, Stop>
+    requires { lines ≤ max_lines Sort.Composite }
+    ensures status_value { status_of result ≡ cond (is_end seen.kind) passed (stopped 21 (lines + 1) 0) }
+    ensures counts_value { IfOk result (λ scan. (scan.chemicals ≡ seen.chemicals) × (scan.receptors ≡ seen.receptors)) }
 {
-    let last = seen.kind;
-    if is_end(last) {
-        return Scan {
-            status: Status::Passed,
-            chemicals: seen.chemicals,
-            receptors: seen.receptors,
-        };
+    if !is_end(seen.kind) {
+        return Err(Stop::at(MISCOUNTED, lines + 1, 0));
     }
-    Scan {
-        status: Status::Stopped(21, lines + 1, 0),
+    Ok(Scan {
         chemicals: seen.chemicals,
         receptors: seen.receptors,
-    }
+    })
 }

@@ -5,9 +5,9 @@
 // the case. Its bytes follow.
 #![tactic(auto)]
 
-use cases::{Case, Record, Value};
+use cases::{Case, Chemicals, Receptors, Record, Value};
 use deck::{LINE_WIDTH, MAX_COMPOSITE_LENGTH, Reading};
-use sizes::{MAX_RECEPTORS, MAX_STAGES};
+use sizes::{MAX_CHEMICALS, MAX_RECEPTORS, MAX_STAGES, SLOTS};
 use slots::Sort;
 use std::io;
 use std::io::Read;
@@ -18,6 +18,24 @@ use trials::{Head, Tally};
 const ROOM: usize = MAX_COMPOSITE_LENGTH + LINE_WIDTH;
 
 const MODULUS: u64 = 999983;
+
+const NO_RECORD: Record = Record {
+    id: 0,
+    slots: [Value::Absent; SLOTS],
+};
+
+// What the checksum of a stopped deck is taken of.
+const NO_CASE: Case = Case {
+    site: NO_RECORD,
+    chemicals: Chemicals {
+        count: 0,
+        records: [NO_RECORD; MAX_CHEMICALS],
+    },
+    receptors: Receptors {
+        count: 0,
+        records: [NO_RECORD; MAX_STAGES],
+    },
+};
 
 // The remainders first: a sum with all of the digits may not fit.
 fn mixed(sum: u64, x: u64) -> u64 {
@@ -34,12 +52,13 @@ fn mixed_value(sum: u64, value: Value) -> u64 {
     }
 }
 
-fn mixed_record(sum: u64, record: Record) -> u64 {
-    let mut all = mixed(sum, record.id as u64);
-    for slot in &record.slots {
-        all = mixed_value(all, slot.value);
-    }
-    all
+fn mixed_record(sum: u64, record: &Record) -> u64 {
+    record
+        .slots
+        .iter()
+        .fold(mixed(sum, record.id as u64), |all, value| {
+            mixed_value(all, *value)
+        })
 }
 
 // How many receptors a deck of this sort may have.
@@ -51,99 +70,58 @@ fn room(sort: Sort) -> usize {
 }
 
 // Every record that a deck of this sort may have, used or not.
-fn mixed_case(case: Case, sort: Sort) -> u64 {
-    let mut all = mixed_record(0, case.site);
-    for record in &case.chemicals.records {
-        all = mixed_record(all, *record);
-    }
-    mixed_receptors(all, case, room(sort))
-}
-
-fn mixed_receptors(sum: u64, case: Case, most: usize) -> u64 {
-    let mut all = sum;
-    for record in case.receptors.records.iter().take(most) {
-        all = mixed_record(all, *record);
-    }
-    all
-}
-
-fn same(head: Head, number: u64, line: u64, field: u64, checksum: u64) -> bool {
-    head.numbers[1] == number
-        && head.numbers[2] == line
-        && head.numbers[3] == field
-        && head.numbers[4] == checksum
+fn mixed_case(case: &Case, sort: Sort) -> u64 {
+    let receptors = case.receptors.records.iter().take(room(sort));
+    case.chemicals
+        .records
+        .iter()
+        .chain(receptors)
+        .fold(mixed_record(0, &case.site), mixed_record)
 }
 
 // The line and the field of a refusal, or how many chemicals and receptors the case has.
 fn agrees(head: Head, reading: Reading, sort: Sort) -> bool {
-    let status = reading.status;
-    let told = cases::tell(status);
-    let case = reading.case;
-    let checksum = mixed_case(case, sort);
-    if told.number == 0 {
-        let chemicals = case.chemicals.count;
-        let receptors = case.receptors.count;
-        return same(head, 0, chemicals as u64, receptors as u64, checksum);
-    }
-    same(
-        head,
-        told.number as u64,
-        told.line as u64,
-        told.field as u64,
-        checksum,
-    )
+    let [_, number, line, field, checksum] = head;
+    let (told, case) = match reading {
+        Ok(case) => ([0, case.chemicals.count, case.receptors.count], case),
+        Err(stop) => ([stop.number as usize, stop.line, stop.field], NO_CASE),
+    };
+    [number, line, field] == told.map(|n| n as u64) && checksum == mixed_case(&case, sort)
 }
 
 fn failure(rt: &impl Print, place: u64, head: Head) -> io::Result<()> {
-    let [_, number, line, field, _] = head.numbers;
+    let [_, number, line, field, _] = head;
     println!(rt; "deck {place} is not answered by {number} {line} {field}")
 }
 
-// The deck that stands next in the file, in a lent buffer.
-fn next_in<R: Read>(
+// The deck behind its head in the file, in a lent buffer.
+fn next<R: Read>(
     rt: &impl Print,
     bytes: &mut [u8],
+    sort: Sort,
+    head: Head,
     file: &mut R,
     tally: Tally,
-    sort: Sort,
-) -> io::Result<Tally> {
-    let head = trials::next_head(file);
-    let length = head.numbers[0];
+) -> io::Result<Option<Tally>> {
+    let [length, number, ..] = head;
     let got = trials::next_part(file, bytes, length);
-    if !head.good || got as u64 != length {
-        return Ok(tally.end());
+    if got as u64 != length {
+        return Ok(None);
     }
     let right = agrees(head, deck::read(&bytes[..got], sort), sort);
-    let all = tally.with(head.numbers[1] != 0, right);
+    let all = tally.with(number != 0, right);
     if !right {
         failure(rt, all.run, head)?;
     }
-    Ok(all)
-}
-
-fn next<R: Read>(rt: &impl Print, file: &mut R, tally: Tally, sort: Sort) -> io::Result<Tally> {
-    let mut bytes = [0u8; ROOM];
-    next_in(rt, &mut bytes, file, tally, sort)
-}
-
-// Each deck in turn, up to the file's end.
-fn trial<R: Read>(rt: &impl Print, file: &mut R, sort: Sort) -> io::Result<Tally> {
-    let mut tally = Tally::new();
-    for _ in 0..trials::MOST {
-        tally = next(rt, file, tally, sort)?;
-        if tally.ended {
-            break;
-        }
-    }
-    Ok(tally)
+    Ok(Some(all))
 }
 
 // The file's decks, each read as one of this sort; none where it cannot be opened.
 fn run(rt: &(impl Files + Print + Eprint), path: &str, sort: Sort) -> io::Result<()> {
-    let all = match trials::open(rt, path.as_bytes()) {
-        Some(mut file) => trial(rt, &mut file, sort)?,
-        None => Tally::new(),
-    };
+    let mut bytes = [0u8; ROOM];
+    let all = Tally::of_file(rt, path, |head, file, tally| {
+        next(rt, &mut bytes, sort, head, file, tally)
+    })?;
     println!(rt;
         "{} decks, {} of them stopped, {} answered otherwise",
         all.run, all.refused, all.failed

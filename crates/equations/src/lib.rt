@@ -10,7 +10,7 @@ use pair::{Answer, Pair};
 use sizes::SLOTS;
 
 // The six pathways, in document 01's order.
-#[derive(Clone, Copy)]
+#[derive(Clone, Copy, PartialEq, Eq)]
 pub enum Pathway {
     Air,
     SoilSummer,
@@ -21,14 +21,14 @@ pub enum Pathway {
 }
 
 // What a line tells: the hazard quotient, or the cancer risk.
-#[derive(Clone, Copy)]
+#[derive(Clone, Copy, PartialEq, Eq)]
 pub enum Effect {
     Hazard,
     Cancer,
 }
 
 // How long a receptor is exposed, T2, against the deposition, tD: T2 ≤ tD, or T2 above tD.
-#[derive(Clone, Copy)]
+#[derive(Clone, Copy, PartialEq, Eq)]
 pub enum Stay {
     Within,
     Beyond,

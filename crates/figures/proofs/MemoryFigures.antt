@@ -28,7 +28,7 @@ use Rattle.report.specs.Forms.{scenario_of}
 use Rattle.equations.specs.Ranges.{sixty_four}
 use Rattle.equations.specs.declared.Effect.TheVariants.{Hazard}
 use Rattle.equations.specs.declared.Pathway.TheVariants.{Air}
-use Rattle.cases.specs.declared.Status.TheVariants.{Passed, Stopped}
+use Rattle.cases.specs.Conditions.{passed, stopped}
 use Rattle.cases.specs.declared.Value.TheVariants.{Absent, Given}
 use Rattle.cases.specs.Conditions.{first}
 use Rattle.figures.specs.Memory.{CheckedMemories, memories, given, record_with, site, chemical, receptor, case_of_three, with, under}
@@ -37,32 +37,32 @@ use Rattle.times.specs.Times as years
 use Rattle.equations.specs.Series as series
 use Rattle.equations.specs.Page as page
 
-passes : first (scenario_conditions (ordinary_of (case_of_three site chemical receptor))) ≡ Passed
+passes : first (scenario_conditions (ordinary_of (case_of_three site chemical receptor))) ≡ passed
 unfolding given record_with site chemical receptor case_of_three with under scenario_conditions memory_conditions counts_outside outside some_id_wrong ids_wrong any_of id_wrong id_before chemical_ids receptor_ids ids_of tabulate source_conditions chemical_conditions record_conditions chained slot_conditions is_missing is_stray is_out_of_range in_range within_bounds value_at_most value_at_least is_year is_year_of year_of above below rule_at rule_in table value_at first ordinary_of scenario_with entered_from receptor_at entered receptor_with
 passes = refl
 
-empty : first (scenario_conditions (ordinary_of no_case)) ≡ Stopped 21 0 0
+empty : first (scenario_conditions (ordinary_of no_case)) ≡ stopped 21 0 0
 unfolding given record_with site chemical receptor case_of_three with under scenario_conditions memory_conditions counts_outside outside some_id_wrong ids_wrong any_of id_wrong id_before chemical_ids receptor_ids ids_of tabulate source_conditions chemical_conditions record_conditions chained slot_conditions is_missing is_stray is_out_of_range in_range within_bounds value_at_most value_at_least is_year is_year_of year_of above below rule_at rule_in table value_at first ordinary_of scenario_with entered_from receptor_at entered receptor_with no_case
 empty = refl
 
-long_id : first (scenario_conditions (ordinary_of (case_of_three site chemical (under 2000001 receptor)))) ≡ Stopped 22 0 0
+long_id : first (scenario_conditions (ordinary_of (case_of_three site chemical (under 2000001 receptor)))) ≡ stopped 22 0 0
 unfolding given record_with site chemical receptor case_of_three with under scenario_conditions memory_conditions counts_outside outside some_id_wrong ids_wrong any_of id_wrong id_before chemical_ids receptor_ids ids_of tabulate source_conditions chemical_conditions record_conditions chained slot_conditions is_missing is_stray is_out_of_range in_range within_bounds value_at_most value_at_least is_year is_year_of year_of above below rule_at rule_in table value_at first ordinary_of scenario_with entered_from receptor_at entered receptor_with
 long_id = refl
 
-missing : first (scenario_conditions (ordinary_of (case_of_three (with site "Zs" Absent) chemical receptor))) ≡ Stopped 32 0 0
+missing : first (scenario_conditions (ordinary_of (case_of_three (with site "Zs" Absent) chemical receptor))) ≡ stopped 32 0 0
 unfolding given record_with site chemical receptor case_of_three with under scenario_conditions memory_conditions counts_outside outside some_id_wrong ids_wrong any_of id_wrong id_before chemical_ids receptor_ids ids_of tabulate source_conditions chemical_conditions record_conditions chained slot_conditions is_missing is_stray is_out_of_range in_range within_bounds value_at_most value_at_least is_year is_year_of year_of above below rule_at rule_in table value_at first ordinary_of scenario_with entered_from receptor_at entered receptor_with place_of place_in owner_of is_in same
 missing = refl
 
-too_deep : first (scenario_conditions (ordinary_of (case_of_three (with site "Zs" (Given (pos 0) 10000000000000)) chemical receptor))) ≡ Stopped 33 0 0
+too_deep : first (scenario_conditions (ordinary_of (case_of_three (with site "Zs" (Given (pos 0) 10000000000000)) chemical receptor))) ≡ stopped 33 0 0
 unfolding given record_with site chemical receptor case_of_three with under scenario_conditions memory_conditions counts_outside outside some_id_wrong ids_wrong any_of id_wrong id_before chemical_ids receptor_ids ids_of tabulate source_conditions chemical_conditions record_conditions chained slot_conditions is_missing is_stray is_out_of_range in_range within_bounds value_at_most value_at_least is_year is_year_of year_of above below rule_at rule_in table value_at first ordinary_of scenario_with entered_from receptor_at entered receptor_with place_of place_in owner_of is_in same
 too_deep = refl
 
 weightless : unworked Hazard (ordinary_of (case_of_three site chemical (with receptor "BW" (Given (pos 0) 0)))) 0 0 Air ≡ true
-unfolding within leading lines_of line_of field_in field_of digits_value id_spelled id_in sign_spelled exponent_spelled power_of digits_read ended_of pointed_of spelled_of lone_dash word_of kind_of id_of tabulate value_of slot_spelled record_of records_of case_with case_of table same is_in place_in owner_of place_of value_at chemical_at receptor_at or_no_pair pair_of rest_of values_of chemical_in receptor_in given_in scenario_with or_no_time time_given deposition_of stay_if later_if receptor_with entered entered_from calls.long_entry years.time years.amount years.is_years years.words_of years.time_of years.none years.least years.places years.printed_amount years.printed years.together years.at_most years.as_pair years.beyond ordinary scenario_of value_in by_owner inputs pairs_at as_answers nine_figures in_reach zero_exponent is_zero is_number zero one lesser rise units_at lower at_most is_pair extra divided excess_from excess carried rounded calls.written sum_end product_end quotient_end rest_end provided calls.ends after after_one zero_pair one_pair entry sum product quotient one_minus_entry pairs read letters no_growth plain_with plain exponents growth_at_both stay_in compared pace_if pace_of paces_of pair_growing sixty_four worked series.first series.step terms from_zero pair_series u kse ksr ksl k x page.x' page.g_with growth page.gathered page.mean page.soil A D C above_ground below_ground AT B exposure factor by_medium medium intake by_route reference_slot reference figure_by intake_line by_guidance line guidance_of guidance_in pathway_at is_given has_reference figure_at chained units_end in_units unit_of counted counted_in columns_at air_line time_share time_in_air air_figure_by year_of above below is_year_of is_year numbered kind_in is_line begun_with seen_with seen_in told of_value otherwise values_if lacks is_missing any_of rule_at rule_in unworked is_refused case_of_three given record_with site chemical receptor with ordinary_of no_pairs no_pair
+unfolding within leading lines_of line_of field_in field_of digits_value id_spelled id_in sign_spelled exponent_spelled power_of digits_read ended_of pointed_of spelled_of lone_dash word_of kind_of id_of tabulate value_of slot_spelled record_of records_of case_with case_of table same is_in place_in owner_of place_of value_at chemical_at receptor_at or_no_pair pair_of rest_of values_of chemical_in receptor_in given_in scenario_with or_no_time time_given deposition_of stay_if later_if receptor_with entered entered_from calls.long_entry years.amount years.is_years years.words_of years.time_of years.none years.least years.places years.printed_amount years.printed years.together years.at_most years.as_pair years.beyond ordinary scenario_of value_in by_owner inputs pairs_at as_answers nine_figures in_reach zero_exponent is_zero is_number zero one lesser rise units_at lower at_most is_pair extra divided excess_from excess carried rounded calls.written sum_end product_end quotient_end rest_end provided calls.ends after after_one zero_pair one_pair entry sum product quotient one_minus_entry pairs read letters no_growth plain_with plain exponents growth_at_both stay_in compared pace_if pace_of paces_of pair_growing sixty_four worked series.first series.step terms from_zero pair_series u kse ksr ksl k x page.x' page.g_with growth page.gathered page.mean page.soil A D C above_ground below_ground AT B exposure factor by_medium medium intake by_route reference_slot reference figure_by intake_line by_guidance line guidance_of guidance_in pathway_at is_given has_reference figure_at chained units_end in_units unit_of counted counted_in columns_at air_line time_share time_in_air air_figure_by year_of above below is_year_of is_year numbered kind_in is_line begun_with seen_with seen_in told of_value otherwise values_if lacks is_missing any_of rule_at rule_in unworked is_refused case_of_three given record_with site chemical receptor with ordinary_of no_pairs no_pair
 weightless = refl
 
 unweighed : unworked Hazard (ordinary_of (case_of_three site chemical (with receptor "BW" Absent))) 0 0 Air ≡ true
-unfolding within leading lines_of line_of field_in field_of digits_value id_spelled id_in sign_spelled exponent_spelled power_of digits_read ended_of pointed_of spelled_of lone_dash word_of kind_of id_of tabulate value_of slot_spelled record_of records_of case_with case_of table same is_in place_in owner_of place_of value_at chemical_at receptor_at or_no_pair pair_of rest_of values_of chemical_in receptor_in given_in scenario_with or_no_time time_given deposition_of stay_if later_if receptor_with entered entered_from calls.long_entry years.time years.amount years.is_years years.words_of years.time_of years.none years.least years.places years.printed_amount years.printed years.together years.at_most years.as_pair years.beyond ordinary scenario_of value_in by_owner inputs pairs_at as_answers nine_figures in_reach zero_exponent is_zero is_number zero one lesser rise units_at lower at_most is_pair extra divided excess_from excess carried rounded calls.written sum_end product_end quotient_end rest_end provided calls.ends after after_one zero_pair one_pair entry sum product quotient one_minus_entry pairs read letters no_growth plain_with plain exponents growth_at_both stay_in compared pace_if pace_of paces_of pair_growing sixty_four worked series.first series.step terms from_zero pair_series u kse ksr ksl k x page.x' page.g_with growth page.gathered page.mean page.soil A D C above_ground below_ground AT B exposure factor by_medium medium intake by_route reference_slot reference figure_by intake_line by_guidance line guidance_of guidance_in pathway_at is_given has_reference figure_at chained units_end in_units unit_of counted counted_in columns_at air_line time_share time_in_air air_figure_by year_of above below is_year_of is_year numbered kind_in is_line begun_with seen_with seen_in told of_value otherwise values_if lacks is_missing any_of rule_at rule_in unworked is_refused case_of_three given record_with site chemical receptor with ordinary_of no_pairs no_pair
+unfolding within leading lines_of line_of field_in field_of digits_value id_spelled id_in sign_spelled exponent_spelled power_of digits_read ended_of pointed_of spelled_of lone_dash word_of kind_of id_of tabulate value_of slot_spelled record_of records_of case_with case_of table same is_in place_in owner_of place_of value_at chemical_at receptor_at or_no_pair pair_of rest_of values_of chemical_in receptor_in given_in scenario_with or_no_time time_given deposition_of stay_if later_if receptor_with entered entered_from calls.long_entry years.amount years.is_years years.words_of years.time_of years.none years.least years.places years.printed_amount years.printed years.together years.at_most years.as_pair years.beyond ordinary scenario_of value_in by_owner inputs pairs_at as_answers nine_figures in_reach zero_exponent is_zero is_number zero one lesser rise units_at lower at_most is_pair extra divided excess_from excess carried rounded calls.written sum_end product_end quotient_end rest_end provided calls.ends after after_one zero_pair one_pair entry sum product quotient one_minus_entry pairs read letters no_growth plain_with plain exponents growth_at_both stay_in compared pace_if pace_of paces_of pair_growing sixty_four worked series.first series.step terms from_zero pair_series u kse ksr ksl k x page.x' page.g_with growth page.gathered page.mean page.soil A D C above_ground below_ground AT B exposure factor by_medium medium intake by_route reference_slot reference figure_by intake_line by_guidance line guidance_of guidance_in pathway_at is_given has_reference figure_at chained units_end in_units unit_of counted counted_in columns_at air_line time_share time_in_air air_figure_by year_of above below is_year_of is_year numbered kind_in is_line begun_with seen_with seen_in told of_value otherwise values_if lacks is_missing any_of rule_at rule_in unworked is_refused case_of_three given record_with site chemical receptor with ordinary_of no_pairs no_pair
 unweighed = refl
 
 five : entry 5 (pos 0) ≡ is (pair_of (Given (negsuc 11) 5000000000000))
@@ -78,11 +78,11 @@ unfolding above below in_reach extra divided excess_from excess carried rounded 
 thirteen = refl
 
 least : years.printed 1 (negsuc 26) ≡ is (time_given (Given (negsuc 27) 10))
-unfolding above below provided years.time years.amount years.is_years years.words_of years.time_of years.least years.places years.printed_amount years.printed told of_value otherwise plain_value zeros_at_end without_zeros or_no_time time_given no_time
+unfolding above below provided years.amount years.is_years years.words_of years.time_of years.least years.places years.printed_amount years.printed told of_value otherwise plain_value zeros_at_end without_zeros or_no_time time_given no_time
 least = refl
 
 less : time_given (Given (negsuc 27) 1) ≡ no_time
-unfolding above below provided years.time years.amount years.is_years years.words_of years.time_of years.least years.places years.printed_amount years.printed told of_value otherwise plain_value zeros_at_end without_zeros or_no_time time_given no_time
+unfolding above below provided years.amount years.is_years years.words_of years.time_of years.least years.places years.printed_amount years.printed told of_value otherwise plain_value zeros_at_end without_zeros or_no_time time_given no_time
 less = refl
 
 pub checked_memories : CheckedMemories

@@ -1,6 +1,6 @@
 -- Document 01's ● cases ("Checked figures"), in its order and as a single list: each is worked by the definitions as it is printed there.
 -- Assumes nothing.
-use Rattle.std.specs.Prelude.{◌≡◌, List, [], ◌∷◌, ◌++◌, ℕ, cond, eqb, pos, negsuc, get_or}
+use Rattle.std.specs.Prelude.{◌≡◌, List, [], ◌∷◌, ◌++◌, ℕ, cond, eqb, pos, negsuc, get_or, Some, None}
 use Prim.Native.Char.{code}
 use Prim.Native.String.{String, [] as ε, ◌∷◌ as ◌◂◌}
 use Rattle.pair.specs.declared.Pair.{Pair}
@@ -19,10 +19,9 @@ use Rattle.equations.specs.Page.{kse, ksr, ksl, x, A, D, C, soil, AT}
 use Rattle.equations.specs.Readings.{worked, inputs}
 use Rattle.media.specs.Media.{of_slots, of_media, growth_at}
 use Rattle.pathway.specs.Lines.{worked_for, factor_of}
-use Rattle.cases.specs.declared.Status.TheVariants.{Passed}
+use Rattle.cases.specs.Conditions.{passed}
 use Rattle.cases.specs.Conditions.{first}
-use Rattle.totals.specs.declared.Columns.{Columns}
-use Rattle.totals.specs.declared.Columns.TheVariants.{Absent, Counted}
+use Rattle.totals.specs.Totals.{Columns}
 use Rattle.text.specs.declared.Row.{Row}
 use Rattle.text.specs.Text.{lines_text}
 use Rattle.scenario.specs.Scenario.{or_no_time, stay_in, pairs_at}
@@ -133,19 +132,23 @@ printed_lines =
 unfoldable pub printed_text : List ℕ
 printed_text = lines printed_lines
 
--- receptor, chemical, pathway, hazard and risk; - in both columns is Absent
+-- two counts
+abbrev pub counts : ℕ → ℕ → Columns
+counts low' high' = Some (record { low = low'; high = high' })
+
+-- receptor, chemical, pathway, hazard and risk; - in both columns is None
 unfoldable pub row : ℕ → ℕ → ℕ → Columns → Columns → Row
 row r c p h k = record { receptor = r; chemical = c; pathway = p; hazard = h; cancer = k }
 
 unfoldable pub rows : List Row
 rows =
-    row 1 1 1 (Counted 500000000000 500000000000) Absent
-    ∷ row 1 1 2 (Counted 120000000 120000000) (Counted 3999999 4000001)
-    ∷ row 1 1 3 (Counted 120000000 120000000) (Counted 3999999 4000001)
-    ∷ row 1 1 4 (Counted 9000000 9000000) (Counted 300000 300000)
-    ∷ row 1 1 5 (Counted 37500000000 37500000000) (Counted 1249999990 1250000010)
-    ∷ row 1 1 6 (Counted 750000000 750000000) (Counted 24999999 25000001)
-    ∷ row 1 0 0 (Counted 538499000000 538499000000) (Counted 1283299987 1283300013)
+    row 1 1 1 (counts 500000000000 500000000000) None
+    ∷ row 1 1 2 (counts 120000000 120000000) (counts 3999999 4000001)
+    ∷ row 1 1 3 (counts 120000000 120000000) (counts 3999999 4000001)
+    ∷ row 1 1 4 (counts 9000000 9000000) (counts 300000 300000)
+    ∷ row 1 1 5 (counts 37500000000 37500000000) (counts 1249999990 1250000010)
+    ∷ row 1 1 6 (counts 750000000 750000000) (counts 24999999 25000001)
+    ∷ row 1 0 0 (counts 538499000000 538499000000) (counts 1283299987 1283300013)
     ∷ []
 
 -- what `tally_composite` prints of the composite's deck, in which ED and T2 are 1 and ATc 365
@@ -163,25 +166,25 @@ composite_text =
 
 unfoldable pub composite_rows : List Row
 composite_rows =
-    row 1 1 1 (Counted 500000000000 500000000000) Absent
-    ∷ row 1 1 2 (Counted 120000000 120000000) (Counted 60000000 60000000)
-    ∷ row 1 1 3 (Counted 120000000 120000000) (Counted 60000000 60000000)
-    ∷ row 1 1 4 (Counted 9000000 9000000) (Counted 4500000 4500000)
-    ∷ row 1 1 5 (Counted 37500000000 37500000000) (Counted 18750000000 18750000000)
-    ∷ row 1 1 6 (Counted 750000000 750000000) (Counted 375000000 375000000)
-    ∷ row 1 0 0 (Counted 538499000000 538499000000) (Counted 19249500000 19249500000)
+    row 1 1 1 (counts 500000000000 500000000000) None
+    ∷ row 1 1 2 (counts 120000000 120000000) (counts 60000000 60000000)
+    ∷ row 1 1 3 (counts 120000000 120000000) (counts 60000000 60000000)
+    ∷ row 1 1 4 (counts 9000000 9000000) (counts 4500000 4500000)
+    ∷ row 1 1 5 (counts 37500000000 37500000000) (counts 18750000000 18750000000)
+    ∷ row 1 1 6 (counts 750000000 750000000) (counts 375000000 375000000)
+    ∷ row 1 0 0 (counts 538499000000 538499000000) (counts 19249500000 19249500000)
     ∷ []
 
 -- the lines of the deck with everything in play
 unfoldable pub full_rows : List Row
 full_rows =
-    row 1 1 1 (Counted 8975342430 8975342500) (Counted 1384767120 1384767140)
-    ∷ row 1 1 2 (Counted 27686353 27686354) (Counted 1054718 1054719)
-    ∷ row 1 1 3 (Counted 11074541 11074542) (Counted 421887 421888)
-    ∷ row 1 1 4 (Counted 2768635 2768636) (Counted 105471 105472)
-    ∷ row 1 1 5 (Counted 6229429400 6229429600) (Counted 237311596 237311605)
-    ∷ row 1 1 6 (Counted 311471471000 311471479000) (Counted 11865579800 11865580400)
-    ∷ row 1 0 0 (Counted 326717772359 326717780632) (Counted 13489240592 13489241224)
+    row 1 1 1 (counts 8975342430 8975342500) (counts 1384767120 1384767140)
+    ∷ row 1 1 2 (counts 27686353 27686354) (counts 1054718 1054719)
+    ∷ row 1 1 3 (counts 11074541 11074542) (counts 421887 421888)
+    ∷ row 1 1 4 (counts 2768635 2768636) (counts 105471 105472)
+    ∷ row 1 1 5 (counts 6229429400 6229429600) (counts 237311596 237311605)
+    ∷ row 1 1 6 (counts 311471471000 311471479000) (counts 11865579800 11865580400)
+    ∷ row 1 0 0 (counts 326717772359 326717780632) (counts 13489240592 13489241224)
     ∷ []
 
 -- 002's five life stages, infant to adult: their years, and their body weights in every other slot
@@ -238,7 +241,7 @@ cases =
     ∷ (entry 9999999995 (negsuc 0) ≡ is (record { low = record { significand = 999999999; exponent = pos 0 }; high = record { significand = 100000000; exponent = pos 1 } }))
     ∷ (one_minus_entry 99999999999 (negsuc 10) ≡ both_ends 100000000 100000000 (negsuc 18))
     -- the deck: no condition holds, with a buffer of 665 bytes; its answer, its report's lines, and their bytes
-    ∷ (first (all_conditions ordinary deck 665) ≡ Passed)
+    ∷ (first (all_conditions ordinary deck 665) ≡ passed)
     ∷ (outcome_of ordinary deck 665 ≡ record { number = 0; line = 665; field = 0 })
     ∷ (rows_of (scenario_of ordinary deck) ≡ rows)
     ∷ (lines_text (rows_of (scenario_of ordinary deck)) ≡ printed_text)
@@ -250,11 +253,11 @@ cases =
     ∷ (worked (pairs_at (scenario_of ordinary solvent_deck) 0 0) C ≡ both_ends 499999998 500000001 (negsuc 19))
     ∷ (cancer_soil solvent_deck ≡ both_ends 249999998 250000004 (negsuc 19))
     -- by the guidance of 2009 its air is 1 × 365 × 5 / (365 × 5) × 0.001 / 0.001 = 1, and 1 × 365 × 5 / 27375 × 0.001 × 1000 × 0.5, a thirtieth
-    ∷ (first (all_conditions ordinary air_deck 665) ≡ Passed)
-    ∷ (columns_at Hazard (scenario_of ordinary air_deck) 0 0 Air ≡ Counted 1000000000000 1000000000000)
-    ∷ (columns_at Cancer (scenario_of ordinary air_deck) 0 0 Air ≡ Counted 33333333300000 33333333400000)
+    ∷ (first (all_conditions ordinary air_deck 665) ≡ passed)
+    ∷ (columns_at Hazard (scenario_of ordinary air_deck) 0 0 Air ≡ counts 1000000000000 1000000000000)
+    ∷ (columns_at Cancer (scenario_of ordinary air_deck) 0 0 Air ≡ counts 33333333300000 33333333400000)
     -- the deck with everything in play: kse, ksr and ksl, air, yearly deposition, and its lines
-    ∷ (first (all_conditions ordinary full_deck 665) ≡ Passed)
+    ∷ (first (all_conditions ordinary full_deck 665) ≡ passed)
     ∷ (worked (pairs_at (scenario_of ordinary full_deck) 0 0) kse ≡ both_ends 133333333 133333334 (negsuc 7))
     ∷ (worked (pairs_at (scenario_of ordinary full_deck) 0 0) ksr ≡ both_ends 166666666 166666667 (negsuc 7))
     ∷ (worked (pairs_at (scenario_of ordinary full_deck) 0 0) ksl ≡ both_ends 277777777 277777778 (negsuc 7))
@@ -262,7 +265,7 @@ cases =
     ∷ (worked (pairs_at (scenario_of ordinary full_deck) 0 0) D ≡ both_ends 263999999 264000001 (negsuc 8))
     ∷ (rows_of (scenario_of ordinary full_deck) ≡ full_rows)
     -- the composite's deck likewise
-    ∷ (first (all_conditions composite composite_deck 665) ≡ Passed)
+    ∷ (first (all_conditions composite composite_deck 665) ≡ passed)
     ∷ (outcome_of composite composite_deck 665 ≡ record { number = 0; line = 665; field = 0 })
     ∷ (rows_of (scenario_of composite composite_deck) ≡ composite_rows)
     ∷ (lines_text (rows_of (scenario_of composite composite_deck)) ≡ composite_text)

@@ -9,41 +9,40 @@ use Rattle.slots.specs.Slots.{Slot, place_of}
 use Rattle.equations.specs.declared.Effect.TheVariants.{Hazard}
 use Rattle.equations.specs.declared.Pathway.TheVariants.{Air}
 use Rattle.cases.specs.declared.Case.{Case}
-use Rattle.cases.specs.declared.Filled.{Filled}
 use Rattle.cases.specs.declared.Record.{Record}
-use Rattle.cases.specs.declared.Status.TheVariants.{Passed, Stopped}
+use Rattle.cases.specs.Conditions.{passed, stopped}
 use Rattle.cases.specs.declared.Value.{Value}
 use Rattle.cases.specs.declared.Value.TheVariants.{Absent, Given}
-use Rattle.cases.specs.Cases.{no_slot, no_record, no_case}
+use Rattle.cases.specs.Cases.{no_record, no_case}
 use Rattle.cases.specs.Conditions.{first}
 use Rattle.scenario.specs.Scenario.{pair_of, rest_of, time_given, no_time, ordinary_of, scenario_conditions, is_unpaired}
 use Rattle.sheet.specs.Sheet.{unworked}
 use Rattle.figures.specs.Figures.{All}
 
 -- whole numbers, and n × 10 ^ -k
-unfoldable pub given : ℕ → Filled
-given n = record { value = Given (pos 0) n }
+unfoldable pub given : ℕ → Value
+given n = Given (pos 0) n
 
-unfoldable pub record_with : ℕ → List Filled → Record
-record_with id' values = record { id = id'; slots = values ++ replicate (slots_per_record - length values) no_slot }
+unfoldable pub record_with : ℕ → List Value → Record
+record_with id' values = record { id = id'; slots = values ++ replicate (slots_per_record - length values) Absent }
 
 -- the example: its site, chemical and receptor
 unfoldable pub site : Record
 site =
     record_with 1
-    (given 10 ∷ given 2 ∷ given 30 ∷ record { value = Given (negsuc 0) 2 } ∷ given 0 ∷ given 0 ∷ given 0 ∷ given 0 ∷ given 0 ∷ record { value = Given (negsuc 1) 1 } ∷ record { value = Given (negsuc 0) 5 } ∷ [])
+    (given 10 ∷ given 2 ∷ given 30 ∷ Given (negsuc 0) 2 ∷ given 0 ∷ given 0 ∷ given 0 ∷ given 0 ∷ given 0 ∷ Given (negsuc 1) 1 ∷ Given (negsuc 0) 5 ∷ [])
 
 unfoldable pub chemical : Record
 chemical =
     record_with 1
-    (given 1 ∷ given 1 ∷ given 1 ∷ given 0 ∷ given 0 ∷ given 1 ∷ given 0 ∷ given 0 ∷ record { value = Given (negsuc 2) 1 } ∷ given 0 ∷ given 100 ∷ given 0
-    ∷ given 0 ∷ record { value = Given (negsuc 0) 1 } ∷ given 10 ∷ given 1 ∷ given 1 ∷ record { value = Given (negsuc 0) 1 } ∷ record { value = Given (negsuc 2) 1 } ∷ record { value = Given (negsuc 2) 1 } ∷ given 1 ∷ [])
+    (given 1 ∷ given 1 ∷ given 1 ∷ given 0 ∷ given 0 ∷ given 1 ∷ given 0 ∷ given 0 ∷ Given (negsuc 2) 1 ∷ given 0 ∷ given 100 ∷ given 0
+    ∷ given 0 ∷ Given (negsuc 0) 1 ∷ given 10 ∷ given 1 ∷ given 1 ∷ Given (negsuc 0) 1 ∷ Given (negsuc 2) 1 ∷ Given (negsuc 2) 1 ∷ given 1 ∷ [])
 
 unfoldable pub receptor : Record
 receptor =
     record_with 1
-    (given 20 ∷ given 5 ∷ given 27375 ∷ given 10 ∷ given 1 ∷ given 365 ∷ given 80 ∷ given 1 ∷ given 73 ∷ given 146 ∷ given 1000 ∷ record { value = Given (negsuc 1) 2 }
-    ∷ given 400 ∷ record { value = Given (negsuc 0) 1 } ∷ given 1 ∷ record { value = Given (negsuc 0) 1 } ∷ record { value = Given (negsuc 0) 5 } ∷ record { value = Given (negsuc 0) 2 } ∷ record { value = Given (negsuc 0) 5 } ∷ given 1 ∷ given 365 ∷ given 1 ∷ [])
+    (given 20 ∷ given 5 ∷ given 27375 ∷ given 10 ∷ given 1 ∷ given 365 ∷ given 80 ∷ given 1 ∷ given 73 ∷ given 146 ∷ given 1000 ∷ Given (negsuc 1) 2
+    ∷ given 400 ∷ Given (negsuc 0) 1 ∷ given 1 ∷ Given (negsuc 0) 1 ∷ Given (negsuc 0) 5 ∷ Given (negsuc 0) 2 ∷ Given (negsuc 0) 5 ∷ given 1 ∷ given 365 ∷ given 1 ∷ [])
 
 unfoldable pub case_of_three : Record → Record → Record → Case
 case_of_three s c r =
@@ -55,7 +54,7 @@ case_of_three s c r =
 
 -- with another value in a slot, or another id
 unfoldable pub with : Record → Slot → Value → Record
-with r s v = record { id = r.id; slots = set r.slots (place_of s) (record { value = v }) }
+with r s v = record { id = r.id; slots = set r.slots (place_of s) v }
 
 unfoldable pub under : ℕ → Record → Record
 under id' r = record { id = id'; slots = r.slots }
@@ -63,14 +62,14 @@ under id' r = record { id = id'; slots = r.slots }
 unfoldable pub memories : List (Type 0)
 memories =
     -- the example passes
-    (first (scenario_conditions (ordinary_of (case_of_three site chemical receptor))) ≡ Passed)
+    (first (scenario_conditions (ordinary_of (case_of_three site chemical receptor))) ≡ passed)
     -- the empty case of a refused deck
-    ∷ (first (scenario_conditions (ordinary_of no_case)) ≡ Stopped 21 0 0)
+    ∷ (first (scenario_conditions (ordinary_of no_case)) ≡ stopped 21 0 0)
     -- a receptor's id 2000001
-    ∷ (first (scenario_conditions (ordinary_of (case_of_three site chemical (under 2000001 receptor)))) ≡ Stopped 22 0 0)
+    ∷ (first (scenario_conditions (ordinary_of (case_of_three site chemical (under 2000001 receptor)))) ≡ stopped 22 0 0)
     -- a missing value in a needed slot, and Zs of 1E+13
-    ∷ (first (scenario_conditions (ordinary_of (case_of_three (with site "Zs" Absent) chemical receptor))) ≡ Stopped 32 0 0)
-    ∷ (first (scenario_conditions (ordinary_of (case_of_three (with site "Zs" (Given (pos 0) 10000000000000)) chemical receptor))) ≡ Stopped 33 0 0)
+    ∷ (first (scenario_conditions (ordinary_of (case_of_three (with site "Zs" Absent) chemical receptor))) ≡ stopped 32 0 0)
+    ∷ (first (scenario_conditions (ordinary_of (case_of_three (with site "Zs" (Given (pos 0) 10000000000000)) chemical receptor))) ≡ stopped 33 0 0)
     -- a BW of 0: its first line's quotient is refused
     ∷ (unworked Hazard (ordinary_of (case_of_three site chemical (with receptor "BW" (Given (pos 0) 0)))) 0 0 Air ≡ true)
     -- a receptor that lacks BW likewise

@@ -1,7 +1,7 @@
 -- The kinds of lines (document 01, "Deck"): each is a line of an owner's record, spelled by the owner's letter and the line's digit, or EN; and
 -- which kind may follow which.
 -- Assumes nothing.
-use Rattle.std.specs.Prelude.{ℕ, zero, suc, ◌+◌, ◌-◌, Bool, true, false, cond, ◌&&◌, ◌||◌, List, eqb, leb, ltb, replicate}
+use Rattle.std.specs.Prelude.{ℕ, zero, suc, ◌+◌, ◌-◌, Bool, true, false, cond, ◌&&◌, ◌||◌, List, eqb, leb, ltb, replicate, Option, Some, None}
 use Rattle.sizes.specs.Sizes.{site_lines, record_lines, fields_per_line}
 use Rattle.slots.specs.Slots.{unused, line_rules}
 use Rattle.slots.specs.declared.Owner.{Owner}
@@ -83,6 +83,13 @@ letter_of (Line o n) = letter o
 letter_of Start = 0
 letter_of End = 0
 letter_of Other = 0
+
+-- whose record a line stands in
+abbrev pub line_owner : Kind → Option Owner
+line_owner (Line o n) = Some o
+line_owner Start = None
+line_owner End = None
+line_owner Other = None
 
 -- ---- which kind may follow which
 -- what may stand before a record: the site comes first, chemicals follow it and one another, and receptors follow those and one another

@@ -1,4 +1,5 @@
 -- Laws of lists and of truth values. Assumes nothing.
+pub mod AnyList
 pub mod AnyOf
 pub mod Booleans
 pub mod Chained

@@ -6,11 +6,14 @@ use native.Mathlib.Omega.{arith}
 use Prim.Native.Nat.{ℕ, ◌≤◌}
 use lib.IntN.{ℤ}
 use lib.Signed.{mag}
+use Rattle.std.specs.Prelude.{Result, Ok, Err}
+use Rattle.std.specs.Result.{is_ok}
 use Rattle.pair.specs.declared.Pair.{Pair}
+use Rattle.pair.specs.declared.Refused.{Refused}
 use Rattle.pair.specs.Number.{is_pair}
-use Rattle.pair.specs.Calls.{Outcome, is, refused, checked, entry, written, sum, after}
+use Rattle.pair.specs.Calls.{Outcome, is, refused, answer, checked, entry, written, sum, after}
 use Rattle.pair.specs.Promises.{sums, call}
-use Rattle.pair.proofs.Promises.{operands, written_entry, checked_is, checked_refused}
+use Rattle.pair.proofs.Promises.{operands, written_entry, checked_is, checked_pair, checked_refused}
 use Rattle.pair.proofs.Partials.{Plain, plain_after}
 
 pub is_not_refused : {A : Type 0} {B : Type 0} (p : A) (n : ℕ) → refused n ≡ is p → B
@@ -43,3 +46,9 @@ sum_checked p q = by_test (is_pair q) refl
         none : Plain (after (call sums) (is p) (is q)) → sum p q ≡ refused 53
         none (inl (r, e)) = absurd (true≢false (sym (operands sums p q r e).1 ∙ h))
         none (inr e) = e
+
+-- What is answered by the test of a pair is one.
+pub ok_pair : (x : Pair) (r : Result Pair Refused) → answer r ≡ checked x → is_ok r ≡ true → is_pair x ≡ true
+unfolding answer
+ok_pair x (Ok p) e h = (checked_pair x p (sym e)).0
+ok_pair x (Err n) e h = absurd (true≢false (sym h))

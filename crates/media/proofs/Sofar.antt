@@ -1,7 +1,6 @@
 -- What a loop over the terms of a series keeps, and where it ends. Assumes nothing.
-use mathlib.Core.Path.{◌≡◌, refl, sym, ◌∙◌, ap, ap₂, subst}
-use mathlib.Core.Bool.{true, false}
-use mathlib.Core.Logic.{inl}
+use mathlib.Core.Path.{◌≡◌, sym, ◌∙◌, ap, ap₂}
+use mathlib.Core.Bool.{true}
 use Prim.Native.Nat.{ℕ, suc, ◌+◌, ◌-◌, ◌≤◌, ◌<◌}
 use native.Mathlib.Numerals.{add-one}
 use native.Mathlib.Omega.{arith}
@@ -10,15 +9,15 @@ use Rattle.pair.specs.declared.Pair.{Pair}
 use Rattle.pair.specs.declared.Partial.{Partial}
 use Rattle.pair.specs.Number.{value}
 use Rattle.pair.specs.Fraction.{◌≤ᶠ◌}
-use Rattle.pair.specs.Calls.{Outcome, is, refused, after, after_one, zero_pair, entry, sum, compared, absorbs, raised, partial}
+use Rattle.pair.specs.Calls.{Outcome, is, refused, after, after_one, zero_pair, entry, sum, compared, absorbs, raised}
 use Rattle.pair.specs.Promises.{scaled}
 use Rattle.pair.proofs.Promises.{entry_answered, entry_exact, through, value_proper}
 use Rattle.pair.proofs.Partials.{partial_worked, partial_refused}
 use Rattle.equations.specs.Formula.{pairs}
 use Rattle.equations.specs.Series.{first, Series, phi, psi, step, terms, from_zero, pair_series}
-use Rattle.equations.proofs.EarlyStop.{reach, step_plain, series_stopped, series_refused}
+use Rattle.equations.proofs.EarlyStop.{reach, series_stopped, series_refused}
 use Rattle.equations.proofs.SeriesFigures.{first_is, series_at_zero}
-use Rattle.media.specs.Inner.{Moderate}
+use Rattle.media.specs.Inner.{Moderate, next_of}
 use Rattle.media.proofs.Moderate.{high_above_lem, moderate_within, at_most_by}
 use Rattle.media.proofs.Passing.{is_not_refused}
 
@@ -42,14 +41,8 @@ module _ (s : Series) (x begun : Pair) (h : first pairs s ≡ is begun) where
 pub entered : {A : Type 0} (n : ℕ) → n < 255 → refused 53 ≡ entry (n + 2) (pos 0) → A
 entered n l h = let d = entry_answered (n + 2) (pos 0) (omega arith) (omega arith) in is_not_refused d.0 53 (h ∙ d.1)
 
--- the term after term n, and the total with it
-unfoldable pub next_of : Series → Pair → ℕ → Pair → Pair → Partial
-next_of s x n term total =
-    let t : Outcome Pair = step pairs s (is x) n (is term) in
-    partial t (after sum (is total) t)
-
--- One step more, which makes P of the term and the total.
-module _ (s : Series) (x term total : Pair) (n : ℕ) (f : Sofar s x term total n) (l : n < 255) (P : Partial) (made : P ≡ next_of s x n term total) where
+-- One step more.
+module _ (s : Series) (x term total : Pair) (n : ℕ) (f : Sofar s x term total n) (l : n < 255) where
   abbrev stepped : Outcome Pair
   stepped = step pairs s (is x) n (is term)
 
@@ -62,19 +55,14 @@ module _ (s : Series) (x term total : Pair) (n : ℕ) (f : Sofar s x term total 
   next_total = ap₂ (after sum) f.total_is next_term_lem
 
   -- where it is not worked, the series is refused
-  pub step_refused : P.worked ≡ false → refused 53 ≡ pair_series s (is x)
+  pub step_refused : refused 53 ≡ next_of s x n term total → refused 53 ≡ pair_series s (is x)
   unfolding next_of
-  step_refused e =
-      sym
-      (series_refused s (is x) (suc n) l
-      (next_total ∙ partial_refused total stepped (step_plain s n (inl (x, refl)) (inl (term, refl))) (ap (λ (p : Partial). p.worked) (sym made) ∙ e)))
+  step_refused e = sym (series_refused s (is x) (suc n) l (next_total ∙ partial_refused total stepped 53 (sym e)))
 
-  module _ (e : P.worked ≡ true) where
+  module _ (P : Partial) (e : is P ≡ next_of s x n term total) where
     told : (stepped ≡ is P.term) × (after sum (is total) stepped ≡ is P.total)
     unfolding next_of
-    told =
-        subst (λ (p : Partial). (stepped ≡ is p.term) × (after sum (is total) stepped ≡ is p.total)) (sym made)
-        (partial_worked stepped (after sum (is total) stepped) (ap (λ (p : Partial). p.worked) (sym made) ∙ e))
+    told = partial_worked stepped (after sum (is total) stepped) P (sym e)
 
     pub again : Sofar s x P.term P.total (n + 1)
     again = rw (add-one n) (record { count = l; term_is = next_term_lem ∙ told.0; total_is = next_total ∙ told.1 })

@@ -12,11 +12,7 @@ use Rattle.equations.specs.Page.{k, Growth, growth, A, C, mean, gathered, above_
 use Rattle.equations.specs.Readings.{Inputs, letters, plain_with, plain, as_answers, pace_of, pair_growing, worked, inputs, no_values}
 use Rattle.equations.specs.Ahead.{given}
 use Rattle.media.specs.declared.Media.{Media}
-use Rattle.media.specs.declared.Found.{Found}
-use Rattle.media.specs.declared.Found.TheVariants as Founds
 use Rattle.media.specs.declared.Ground.{Ground}
-use Rattle.media.specs.declared.Grounded.{Grounded}
-use Rattle.media.specs.declared.Grounded.TheVariants as Grounds
 
 -- what the media are worked from: the values of a site and a chemical, and the particle share 1 − Fv, which is taken from the printed
 -- digits. No formula here has a slot of a receptor or T2 − tD, or 1 less another slot.
@@ -29,15 +25,6 @@ of_slots s c f = plain pairs (λ i. is (inputs s c no_values i)) f
 
 unfoldable pub of_media : Values → Values → Pair → Formula → Outcome Pair
 of_media s c particles f = worked (media_inputs s c particles) f
-
--- each case of an answer in document 01's numbers
-unfoldable pub found : Found → Outcome Media
-found (Founds.Is m) = is m
-found Founds.Refused = refused 53
-
-unfoldable pub grounded : Grounded → Outcome Ground
-grounded (Grounds.Is g) = is g
-grounded Grounds.Refused = refused 53
 
 -- g and h at an exponent, on pairs
 unfoldable pub growth_at : Outcome Pair → Growth (Outcome Pair)

@@ -4,13 +4,13 @@ ghost use Rattle.pair.specs.Calls.{answer};
 ghost use Rattle.equations.specs.declared.Stay.TheVariants.{Beyond};
 ghost use Rattle.equations.specs.Page as page;
 ghost use Rattle.equations.specs.Page.{D};
-ghost use Rattle.media.specs.Media.{media_inputs, of_media, found, grounded, four, media_of, ground_from, ground_of, grown_in, soil_beyond, mean_media};
+ghost use Rattle.media.specs.Media.{media_inputs, of_media, four, media_of, ground_from, ground_of, grown_in, soil_beyond, mean_media};
 
 use crate::growth::{g_at, growth_at};
 use crate::loss::{exponent, loss_rate};
-use crate::{AirConc, Conc, Found, Ground, Grounded, Media};
+use crate::{AirConc, Conc, Ground, Media};
 use equations::Values;
-use pair::{Answer, Pair};
+use pair::{Answer, Chain, Pair, Refused};
 use slots::{BD, BR, CYP, CYV, DYDP, DYDV, DYWP, DYWV, FV, HG_A, HG_D, KDS, Q, RCF, TD, VG, ZS};
 
 // A. particles is 1 − Fv.
@@ -41,32 +41,21 @@ fn deposition(s: Values, c: Values, particles: Pair) -> Answer
 }
 
 // The four concentrations, or the refusal among them.
-fn all(air: Answer, soil: Answer, above: Answer, below: Answer) -> Found
-    ensures { found result ≡ four (answer air) (answer soil) (answer above) (answer below) }
+#[tactic(auto, unfolding(pair::specs::Calls::answer, crate::specs::Media::four))]
+fn all(air: Answer, soil: Answer, above: Answer, below: Answer) -> Result<Media, Refused>
+    ensures { answer result ≡ four (answer air) (answer soil) (answer above) (answer below) }
 {
-    let Answer::Is(a) = air else {
-        return Found::Refused;
-    };
-    let Answer::Is(c) = soil else {
-        return Found::Refused;
-    };
-    let Answer::Is(f) = above else {
-        return Found::Refused;
-    };
-    let Answer::Is(r) = below else {
-        return Found::Refused;
-    };
-    Found::Is(Media {
-        air: AirConc(a),
-        soil: Conc(c),
-        above_ground: Conc(f),
-        below_ground: Conc(r),
+    Ok(Media {
+        air: AirConc(air?),
+        soil: Conc(soil?),
+        above_ground: Conc(above?),
+        below_ground: Conc(below?),
     })
 }
 
 // The media with this soil: produce grows in it.
-fn grown(s: Values, c: Values, air: Answer, soil: Answer) -> Found
-    ensures { found result ≡ grown_in s c (answer air) (answer soil) }
+fn grown(s: Values, c: Values, air: Answer, soil: Answer) -> Result<Media, Refused>
+    ensures { answer result ≡ grown_in s c (answer air) (answer soil) }
 {
     let leaves = soil.times(c.at(BR));
     let roots = soil.times(c.at(RCF)).times(s.at(VG)).over(c.at(KDS));
@@ -74,8 +63,8 @@ fn grown(s: Values, c: Values, air: Answer, soil: Answer) -> Found
 }
 
 // The concentrations that a chemical leaves in the media, in the highest year. particles is 1 − Fv, from the printed digits.
-pub fn concentrations(site: Values, chemical: Values, particles: Pair) -> Found
-    ensures { found result ≡ media_of (media_inputs site chemical particles) }
+pub fn concentrations(site: Values, chemical: Values, particles: Pair) -> Result<Media, Refused>
+    ensures { answer result ≡ media_of (media_inputs site chemical particles) }
 {
     let g = g_at(exponent(site, chemical));
     let laid = deposition(site, chemical, particles).times(site.at(TD));
@@ -84,32 +73,26 @@ pub fn concentrations(site: Values, chemical: Values, particles: Pair) -> Found
 }
 
 // The ground, or the refusal among its parts.
-fn ground_from(loss: Answer, gathered: Answer, highest: Found, within: Found) -> Grounded
-    ensures { grounded result ≡ ground_from (answer loss) (answer gathered) (found highest) (found within) }
+#[tactic(auto, unfolding(pair::specs::Calls::answer, crate::specs::Media::ground_from))]
+fn ground_from(
+    loss: Answer,
+    gathered: Answer,
+    highest: Result<Media, Refused>,
+    within: Result<Media, Refused>,
+) -> Result<Ground, Refused>
+    ensures { answer result ≡ ground_from (answer loss) (answer gathered) (answer highest) (answer within) }
 {
-    let Answer::Is(l) = loss else {
-        return Grounded::Refused;
-    };
-    let Answer::Is(g) = gathered else {
-        return Grounded::Refused;
-    };
-    let Found::Is(m) = highest else {
-        return Grounded::Refused;
-    };
-    let Found::Is(n) = within else {
-        return Grounded::Refused;
-    };
-    Grounded::Is(Ground {
-        loss: l,
-        gathered: g,
-        highest: m,
-        within: n,
+    Ok(Ground {
+        loss: loss?,
+        gathered: gathered?,
+        highest: highest?,
+        within: within?,
     })
 }
 
 // The ground that a chemical leaves, for every receptor. particles is 1 − Fv, from the printed digits. k is worked once, for x and for all of them.
-pub fn ground_of(site: Values, chemical: Values, particles: Pair) -> Grounded
-    ensures { grounded result ≡ ground_of (media_inputs site chemical particles) }
+pub fn ground_of(site: Values, chemical: Values, particles: Pair) -> Result<Ground, Refused>
+    ensures { answer result ≡ ground_of (media_inputs site chemical particles) }
 {
     let loss = loss_rate(site, chemical);
     let growth = growth_at(loss.times(site.at(TD)));
@@ -133,8 +116,14 @@ fn soil_beyond(the_ground: Ground, exposure: Pair, later: Pair) -> Answer
     gathered.plus(left).over(exposure.answer())
 }
 
-pub(crate) fn beyond(the_ground: Ground, s: Values, c: Values, exposure: Pair, later: Pair) -> Found
-    ensures { found result ≡ mean_media the_ground s c Beyond exposure later }
+pub(crate) fn beyond(
+    the_ground: Ground,
+    s: Values,
+    c: Values,
+    exposure: Pair,
+    later: Pair,
+) -> Result<Media, Refused>
+    ensures { answer result ≡ mean_media the_ground s c Beyond exposure later }
 {
     let breathed = the_ground.highest.air.pair();
     let soil = soil_beyond(the_ground, exposure, later);

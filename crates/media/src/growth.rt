@@ -8,8 +8,8 @@ ghost use Rattle.equations.specs.Readings.{pace_of, pair_growing};
 ghost use Rattle.media.specs.Media.{growth_at};
 ghost use Rattle.media.specs.Inner.{paced};
 
-use crate::terms::{mean_of_terms, sum_of_terms};
-use pair::{Answer, Order, Pair};
+use crate::terms::{Phi, Psi, sum_of};
+use pair::{Answer, Chain, Pair, Refused};
 
 // g and h at one exponent.
 #[derive(Clone, Copy)]
@@ -22,13 +22,12 @@ pub(crate) struct Growth {
 fn is_fast(x: Pair) -> bool
     ensures { pace_of (is x) ≡ paced result }
 {
-    let Answer::Is(bound) = Pair::entry(64, 0) else {
+    let Ok(bound) = Pair::entry(64, 0) else {
         return false;
     };
     match x.high.compare(bound.high) {
-        Order::AtMost => false,
-        Order::Above => true,
-        Order::Refused => false,
+        Ok(at_most) => !at_most,
+        Err(_) => false,
     }
 }
 
@@ -43,9 +42,7 @@ fn build_up(inverse: Answer, x: Pair) -> Answer
 fn next_to_nothing() -> Answer
     ensures { answer result ≡ is next_to_nothing }
 {
-    let Answer::Is(least) = Pair::entry(1, -25) else {
-        return Answer::Refused;
-    };
+    let least = Pair::entry(1, -25)?;
     let zero = Pair::ZERO;
     Pair::of_ends(zero.low, least.high)
 }
@@ -77,23 +74,21 @@ fn mean_build_up(phi: Answer, psi: Answer, x: Pair) -> Answer
 pub(crate) fn g_at(x: Answer) -> Answer
     ensures { answer result ≡ (growth_at (answer x)).g }
 {
-    let Answer::Is(e) = x else {
-        return Answer::Refused;
-    };
+    let e = x?;
     if is_fast(e) {
         return fast_build_up(e);
     }
-    slow_build_up(sum_of_terms(e), e)
+    slow_build_up(sum_of::<Phi>(e), e)
 }
 
 // g and h: φ is worked once for both, and above 64 no series at all.
 pub(crate) fn growth_at(x: Answer) -> Growth
     ensures { (answer result.g ≡ (growth_at (answer x)).g) × (answer result.h ≡ (growth_at (answer x)).h) }
 {
-    let Answer::Is(e) = x else {
+    let Ok(e) = x else {
         return Growth {
-            g: Answer::Refused,
-            h: Answer::Refused,
+            g: Err(Refused),
+            h: Err(Refused),
         };
     };
     if is_fast(e) {
@@ -101,8 +96,8 @@ pub(crate) fn growth_at(x: Answer) -> Growth
         let h = g.one_minus().over(x);
         return Growth { g, h };
     }
-    let phi = sum_of_terms(e);
+    let phi = sum_of::<Phi>(e);
     let g = slow_build_up(phi, e);
-    let h = mean_build_up(phi, mean_of_terms(e), e);
+    let h = mean_build_up(phi, sum_of::<Psi>(e), e);
     Growth { g, h }
 }

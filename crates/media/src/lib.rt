@@ -14,9 +14,9 @@ ghost use Rattle.media.specs.Media as specs;
 use crate::compartments::beyond;
 pub use crate::compartments::{concentrations, ground_of};
 pub use crate::loss::exponent;
-use crate::terms::{mean_of_terms, sum_of_terms};
+use crate::terms::{Phi, Psi, sum_of};
 use equations::{Stay, Values};
-use pair::{Answer, Pair};
+use pair::{Answer, Pair, Refused};
 
 // A concentration in soil or produce, mg/kg. Only this crate makes one, and one in air.
 #[derive(Clone, Copy)]
@@ -66,13 +66,6 @@ impl Media {
     }
 }
 
-// The media, or that a pair or an exponent was out of reach (document 01's 53).
-#[derive(Clone, Copy)]
-pub enum Found {
-    Is(Media),
-    Refused,
-}
-
 // What a chemical's soil is worked from, whatever the receptor: k, what the mean over an exposure beyond the deposition begins with,
 // D × tD × tD × h, and the media of the highest year and of an exposure within the deposition.
 #[derive(Clone, Copy)]
@@ -83,28 +76,22 @@ pub struct Ground {
     pub within: Media,
 }
 
-// The ground, or that there is none, as for the media.
-#[derive(Clone, Copy)]
-pub enum Grounded {
-    Is(Ground),
-    Refused,
-}
-
 // φ at x.
 pub fn series(x: Pair) -> Answer
     ensures { calls.answer result ≡ pair_series phi (calls.is x) }
 {
-    sum_of_terms(x)
+    sum_of::<Phi>(x)
 }
 
 // ψ at x.
 pub fn mean_series(x: Pair) -> Answer
     ensures { calls.answer result ≡ pair_series psi (calls.is x) }
 {
-    mean_of_terms(x)
+    sum_of::<Psi>(x)
 }
 
-// The media of a receptor's cancer: its soil is the mean over the exposure, T2. later is T2 − tD where T2 is above tD.
+// The media of a receptor's cancer: its soil is the mean over the exposure, T2. later is T2 − tD where T2 is above tD. Three arguments: the
+// ground is a chemical's, and the two times a receptor's.
 pub fn mean_concentrations(
     the_ground: Ground,
     site: Values,
@@ -112,12 +99,12 @@ pub fn mean_concentrations(
     stay: Stay,
     exposure: Pair,
     later: Pair,
-) -> Found
-    ensures { specs.found result ≡ specs.mean_media the_ground site chemical stay exposure later }
+) -> Result<Media, Refused>
+    ensures { calls.answer result ≡ specs.mean_media the_ground site chemical stay exposure later }
 {
     let within = the_ground.within;
     match stay {
-        Stay::Within => Found::Is(within),
+        Stay::Within => Ok(within),
         Stay::Beyond => beyond(the_ground, site, chemical, exposure, later),
     }
 }

@@ -5,7 +5,7 @@ ghost use Rattle.equations.specs.Page.{u, kse, k, x};
 ghost use Rattle.media.specs.Media.{of_slots};
 
 use equations::Values;
-use pair::{Answer, Pair};
+use pair::{Answer, Chain, Pair};
 use slots::{BD, ER, KDS, KSG, KSV, R, RO, SD, TD, THETA, XE, ZS};
 
 // kse, erosion. sorbed is u.

@@ -130,38 +130,31 @@ unfolding next_term after
 next_term_told t s x d = refl
 
 -- A step that is worked tells the term t × x / d and the total with it.
-module _ (t s x d : Pair) (w : (next_term t s x d).worked ≡ true) where
-  pub next_term_is : (times_over (is t) x (is d) ≡ is (next_term t s x d).term) × (sum s (next_term t s x d).term ≡ is (next_term t s x d).total)
+module _ (t s x d : Pair) (r : Partial) (w : next_term t s x d ≡ is r) where
+  pub next_term_is : (times_over (is t) x (is d) ≡ is r.term) × (sum s r.term ≡ is r.total)
   unfolding next_term after
   next_term_is =
       let o : Outcome Pair = times_over (is t) x (is d) in
-      let i = partial_worked o (after sum (is s) o) w in
+      let i = partial_worked o (after sum (is s) o) r w in
       (i.0, ap (after sum (is s)) (sym i.0) ∙ i.1)
 
-  pub next_term_pairs : (is_pair (next_term t s x d).term ≡ true) × (is_pair (next_term t s x d).total ≡ true)
+  pub next_term_pairs : (is_pair r.term ≡ true) × (is_pair r.total ≡ true)
   unfolding call
-  next_term_pairs = (
-    times_over_pair (is t) (is d) x (next_term t s x d).term next_term_is.0,
-    pair_again sums s (next_term t s x d).term (next_term t s x d).total next_term_is.1,
-  )
+  next_term_pairs = (times_over_pair (is t) (is d) x r.term next_term_is.0, pair_again sums s r.term r.total next_term_is.1)
 
-  pub next_term_holds : (k l m n : Fraction) → Holds t k → Holds s l → Holds x m → Holds d n →
-      Holds (next_term t s x d).term (over (times k m) n) × Holds (next_term t s x d).total (plus l (over (times k m) n))
+  pub next_term_holds : (k l m n : Fraction) → Holds t k → Holds s l → Holds x m → Holds d n → Holds r.term (over (times k m) n) × Holds r.total (plus l (over (times k m) n))
   unfolding call exact_result
   next_term_holds k l m n a b c e =
-      let i : Holds (next_term t s x d).term (over (times k m) n) = times_over_holds (is t) (is d) x k m n (is_held_lem a) c (is_held_lem e) (next_term t s x d).term next_term_is.0 in
-      (i, holds sums s (next_term t s x d).term (next_term t s x d).total l (over (times k m) n) next_term_is.1 b i)
+      let i : Holds r.term (over (times k m) n) = times_over_holds (is t) (is d) x k m n (is_held_lem a) c (is_held_lem e) r.term next_term_is.0 in
+      (i, holds sums s r.term r.total l (over (times k m) n) next_term_is.1 b i)
 
 -- Both rise with the term, the total and the factor, and fall with the divisor.
-pub next_term_rises : (t t' s s' x x' d d' : Pair) → (next_term t s x d).worked ≡ true → (next_term t' s' x' d').worked ≡ true →
-    t ≤ₑ t' → s ≤ₑ s' → x ≤ₑ x' → d' ≤ₑ d →
-    ((next_term t s x d).term ≤ₑ (next_term t' s' x' d').term) × ((next_term t s x d).total ≤ₑ (next_term t' s' x' d').total)
+pub next_term_rises : (t t' s s' x x' d d' : Pair) (n n' : Partial) → next_term t s x d ≡ is n → next_term t' s' x' d' ≡ is n' →
+    t ≤ₑ t' → s ≤ₑ s' → x ≤ₑ x' → d' ≤ₑ d → (n.term ≤ₑ n'.term) × (n.total ≤ₑ n'.total)
 unfolding call Toward
-next_term_rises t t' s s' x x' d d' w w' a b c e =
-    let n : Partial = next_term t s x d in
-    let n' : Partial = next_term t' s' x' d' in
-    let k = next_term_is t s x d w in
-    let k' = next_term_is t' s' x' d' w' in
+next_term_rises t t' s s' x x' d d' n n' w w' a b c e =
+    let k = next_term_is t s x d n w in
+    let k' = next_term_is t' s' x' d' n' w' in
     let i : n.term ≤ₑ n'.term =
     times_over_rises (is t) (is t') (is d) (is d') x x' (is_rising a) c (is_rising e) n.term n'.term k.0 k'.0 in
     (i, rises sums s s' n.term n'.term n.total n'.total k.1 k'.1 b i)

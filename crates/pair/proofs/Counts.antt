@@ -1,19 +1,19 @@
 -- A working number counted in units of a power of ten. Assumes nothing.
 use mathlib.Core.Path.{◌≡◌, sym, ◌∙◌, ap, subst}
-use mathlib.Core.Bool.{Bool, not}
+use mathlib.Core.Bool.{Bool}
 use Prim.Native.Nat.{ℕ, ◌+◌, ◌*◌, ◌^◌, ◌≤◌, ◌<◌}
 use native.Mathlib.Nat.{zero-div, zero-mod, mul-le-mul, lt_of_le_of_lt}
 use native.Mathlib.Omega.{arith}
 use lib.Dec.{lit<, leb, ltb}
 use lib.IntN.{ℤ, pos, ◌-ℤ◌}
-use lib.Signed.{mag, lt_z}
+use lib.Signed.{mag, le_z}
 use borrow.Author.Tests.{lt-ltb, le-ltb, leb-true, leb-false}
 use Rattle.pair.specs.declared.Number.{Number}
 use Rattle.pair.specs.Number.{depth, place, lesser, rise, units_at}
 use Rattle.pair.specs.Rounding.{divided, units_end}
 use Rattle.pair.proofs.Alignment.{Small, rise_of, rise_none, lesser_first, lesser_second, units_own, units_none, nine_small}
 use Rattle.pair.proofs.Dividing.{divided_even, divided_one, divided_most}
-use Rattle.pair.proofs.Exponents.{by_cases, mag_minus, place_minus, le_z_place, le_z_of}
+use Rattle.pair.proofs.Exponents.{by_cases, mag_minus, place_minus, le_z_place}
 use Rattle.pair.proofs.Numbers.{Nine}
 use Rattle.pair.proofs.Powers.{ten_above, ten_rises}
 
@@ -61,13 +61,13 @@ module _ (up : Bool) (w : Number) (u : ℤ) (n : Nine w) (small : Small u) where
       (mul-le-mul {n₁ = 100000000} {m₁ = 10 ^ 11} n.least (ten_rises {i = 11} (omega (arith, rise_of small (nine_small n) (omega arith)))))
 
   -- the test on the exponents decides it
-  pub count_test : (t : Bool) → lt_z (pos 10) (w.exponent -ℤ u) ≡ t → not t ≡ ltb (units_end up w u) (10 ^ 19)
+  pub count_test : le_z (w.exponent -ℤ u) (pos 10) ≡ ltb (units_end up w u) (10 ^ 19)
   unfolding depth place
-  count_test t h =
+  count_test =
       let z = w.exponent -ℤ u in
       let m : mag z < depth = omega (arith, mag_minus w.exponent u, n.reach, small.small) in
       let d : place z + place u ≡ place w.exponent + depth = place_minus w.exponent u (omega (arith, n.reach, small.small)) in
-      let o : leb (place z) (place (pos 10)) ≡ not t = sym (le_z_place z (pos 10) m (lit< tt)) ∙ le_z_of (pos 10) z t h in
-      by_cases (not t)
-      (λ e. e ∙ sym (lt-ltb (units_end up w u) (10 ^ 19) (count_fits (omega (arith, leb-true (place z) (place (pos 10)) (o ∙ e))))))
-      (λ e. e ∙ sym (le-ltb (units_end up w u) (10 ^ 19) (count_long (omega (arith, leb-false (place z) (place (pos 10)) (o ∙ e))))))
+      let o : le_z z (pos 10) ≡ leb (place z) (place (pos 10)) = le_z_place z (pos 10) m (lit< tt) in
+      by_cases (leb (place z) (place (pos 10)))
+      (λ e. o ∙ e ∙ sym (lt-ltb (units_end up w u) (10 ^ 19) (count_fits (omega (arith, leb-true (place z) (place (pos 10)) e)))))
+      (λ e. o ∙ e ∙ sym (le-ltb (units_end up w u) (10 ^ 19) (count_long (omega (arith, leb-false (place z) (place (pos 10)) e)))))

@@ -4,10 +4,11 @@ use mathlib.Core.Path.{◌≡◌, refl, sym, ◌∙◌, ap}
 use mathlib.Core.Bool.{Bool, true, false, not, true≢false, not-not}
 use Prim.Native.Nat.{ℕ, zero, suc, ◌+◌, ◌≤◌, ◌<◌}
 use native.Mathlib.Omega.{arith}
-use lib.Dec.{T, leb, ltb}
+use lib.Dec.{leb, ltb}
 use lib.IntN.{ℤ, pos, negsuc, neg_ℤ, ◌+ℤ◌, ◌-ℤ◌, sub_ℕ, nat_abs}
-use lib.Signed.{mag, le_z, lt_z, non_neg}
+use lib.Signed.{mag, le_z, lt_z}
 use borrow.Author.Tests.{ltb-true, ltb-false, le-ltb, le-leb, lt-leb}
+use Rattle.std.proofs.Common.{int_cmp, is_le}
 use Rattle.pair.specs.Number.{depth, place, rise}
 
 -- a case distinction that keeps the test's equation
@@ -113,12 +114,15 @@ rise_place s e h l =
 pub le_z_of : (e f : ℤ) (t : Bool) → lt_z e f ≡ t → le_z f e ≡ not t
 le_z_of e f t h = sym (not-not (le_z f e)) ∙ ap not (sym (lt_z_le_z e f) ∙ h)
 
-sub_not_below : (a b : ℕ) → b ≤ a → T (non_neg (sub_ℕ a b))
-sub_not_below a b h = rw (le-ltb a b h) tt
+below_one_way : (a b : ℤ) → lt_z b a ≡ true → lt_z a b ≡ false
+below_one_way (pos a) (pos b) h = le-ltb a b (omega (arith, ltb-true b a h))
+below_one_way (pos a) (negsuc b) h = refl
+below_one_way (negsuc a) (pos b) h = absurd (true≢false (sym h))
+below_one_way (negsuc a) (negsuc b) h = le-ltb b a (omega (arith, ltb-true a b h))
 
-pub minus_not_below : (e s : ℤ) → lt_z e s ≡ false → T (non_neg (e -ℤ s))
-minus_not_below (pos a) (pos zero) h = tt
-minus_not_below (pos a) (pos (suc b)) h = sub_not_below a (suc b) (ltb-false a (suc b) h)
-minus_not_below (pos a) (negsuc b) h = tt
-minus_not_below (negsuc a) (pos b) h = absurd (true≢false h)
-minus_not_below (negsuc a) (negsuc b) h = sub_not_below (suc b) (suc a) (omega (arith, ltb-false b a h))
+-- the order of the i32 as the library's ranges have it
+pub compared_le : (a b : ℤ) → is_le (int_cmp a b) ≡ le_z a b
+compared_le a b =
+    by_cases (lt_z b a)
+    (λ t. rw (below_one_way a b t, t, le_z_of b a true t) refl)
+    (λ t. rw (t, le_z_of b a false t) (by_cases (lt_z a b) (λ u. rw u refl) (λ u. rw u refl)))

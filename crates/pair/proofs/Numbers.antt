@@ -15,7 +15,7 @@ use Rattle.pair.specs.declared.Number.{Number}
 use Rattle.pair.specs.declared.Pair.{Pair}
 use Rattle.pair.specs.Number as specs
 use Rattle.pair.specs.Number.{nine_figures, in_reach, zero_exponent, is_zero, is_number, at_most, is_pair}
-use Rattle.pair.proofs.Exponents.{mag_plus, mag_minus}
+use Rattle.pair.proofs.Exponents.{by_cases, mag_plus, mag_minus}
 
 -- m × 10^e with nine figures and an exponent in reach
 pub record Nine (w : Number) : Type 0 where
@@ -125,6 +125,14 @@ too_many m h = rw (lt-leb m 999999999 h) (and-false (leb 100000000 m))
 -- an i32 is read back from its bits
 pub back : {z : ℤ} → mag z < 2147483648 → to_z w32 (of_z w32 z) ≡ z
 back {z = z} h = to_z-of_z {w = w32} {z = z} (record { sfits = h })
+
+-- the bits of an i32 are 0 where it is
+pub zero_bits : {e : ℤ} → SFits w32 e → eqb (of_z w32 e) 0 ≡ zero_exponent e
+unfolding zero_exponent
+zero_bits {e = e} f =
+    by_cases (zero_exponent e)
+    (λ t. eq-eqb (of_z w32 e) 0 (ap (of_z w32) (zero_mag e t)) ∙ sym t)
+    (λ t. ne_eqb (of_z w32 e) 0 (λ h. true≢false (rw (sym (to_z-of_z f) ∙ ap (to_z w32) h) at t)) ∙ sym t)
 
 -- sums and differences of exponents fit an i32
 pub fits_plus : (e f : ℤ) → mag e + mag f < 2000000000 → SFits w32 (e +ℤ f)

@@ -1,5 +1,5 @@
 -- Powers of ten. Assumes nothing.
-use mathlib.Core.Path.{◌≡◌, sym, ap, subst}
+use mathlib.Core.Path.{◌≡◌, sym, subst}
 use Prim.Native.Nat.{ℕ, zero, suc, ◌+◌, ◌*◌, ◌^◌, ◌≤◌, ◌<◌}
 use native.Mathlib.Nat.{one-le-pow, pow-le-pow_right, pow-suc, lt_irrefl, lt_of_lt_of_le}
 use native.Mathlib.Omega.{arith}
@@ -16,9 +16,6 @@ ten_add = pow-add 10
 
 pub ten_rises : {i j : ℕ} → i ≤ j → 10 ^ i ≤ 10 ^ j
 ten_rises h = pow-le-pow_right (lit< tt) h
-
-pub ten_at : {k : ℕ} (j : ℕ) → k ≡ j → 10 ^ j ≡ 10 ^ k
-ten_at j h = ap (λ (i : ℕ). 10 ^ i) (sym h)
 
 -- a number is below the power of ten that it names
 pub below_ten : (n : ℕ) → n < 10 ^ n

@@ -1,23 +1,23 @@
 -- A number with units more in its last figure, what a sum makes of a number of at most one unit, nothing at its low end and one unit more at
 -- its high end, and the tests of `absorbs` and `raised` one by one. Assumes nothing.
 use mathlib.Core.Path.{◌≡◌, refl, sym, ◌∙◌, ap, ap₂}
-use mathlib.Core.Bool.{Bool, true, false, ◌&&◌, not, true≢false}
+use mathlib.Core.Bool.{Bool, true, false, ◌&&◌, true≢false}
 use mathlib.Core.Logic.{◌⊎◌, inl, inr, ⊎_elim}
 use Prim.Native.Nat.{ℕ, ◌+◌, ◌-◌, ◌*◌, ◌^◌, ◌≤◌, ◌<◌}
 use native.Mathlib.Nat.{eq-zero-or-pos, mul-le-mul, mul-le-mul_left, mul-le-mul_right, le_of_mul-le-mul_right, lt_of_mul-lt-mul_right, mul-lt-mul_of_pos_right, add-zero, add_assoc, mul-pos}
 use native.Mathlib.Omega.{arith}
 use lib.Dec.{ltb}
 use lib.IntN.{ℤ, pos, negsuc, ◌+ℤ◌}
-use lib.Signed.{mag, le_z, lt_z}
+use lib.Signed.{mag, le_z}
 use borrow.Author.Tests.{ltb-true, ltb-false, lt-ltb, le-ltb, leb-true}
 use Rattle.pair.specs.declared.Number.{Number}
 use Rattle.pair.specs.declared.Pair.{Pair}
 use Rattle.pair.specs.Number.{is_number, is_pair, in_reach, value, place, depth, rise}
 use Rattle.pair.specs.Fraction.{◌≤ᶠ◌}
 use Rattle.pair.specs.Rounding.{divided, carried, rounded, sum_end, lifted}
-use Rattle.pair.specs.Calls.{is, refused, absorbs, raised, ends, sum}
+use Rattle.pair.specs.Calls.{is, absorbs, raised, ends, sum}
 use Rattle.pair.specs.Promises.{quotients, Sized, scaled}
-use Rattle.pair.proofs.Exponents.{by_cases, mag_plus, place_plus, le_z_place, le_z_of}
+use Rattle.pair.proofs.Exponents.{by_cases, mag_plus, place_plus, le_z_place}
 use Rattle.pair.proofs.Powers.{ten_above, ten_add, ten_rises, ten_falls}
 use Rattle.pair.proofs.Dividing.{divided_from}
 use Rattle.pair.proofs.Numbers.{Nine, both, number_nine, number_reach}
@@ -26,7 +26,6 @@ use Rattle.pair.proofs.Sums.{sum_rounded, sum_zero_right, nine_kept}
 use Rattle.pair.proofs.Fractions.{◌<ᶠ◌, Usable}
 use Rattle.pair.proofs.Ordered.{number, number_from, power_rise, reach_from, at_most_lem, value_proper, both_from}
 use Rattle.pair.proofs.ExactEnds.{place_size}
-use Rattle.pair.proofs.Providing.{first_fails, second_fails, refused_as}
 use Rattle.pair.proofs.Answers.{pair, Ordered, ordered, usable_on, provided_is, provided_true, ends_are}
 
 -- A number has figures where its value is above 0.
@@ -216,7 +215,7 @@ module _ (e : ℤ) (w t : Number) (v : is_number w ≡ true) (above : 0 < w.sign
           ∙ itself
 
 -- ---- `absorbs` and `raised`
--- What is absorbed, test by test as the code makes them.
+-- What is absorbed: the tests after the pairs', and the last of them, which decides.
 module _ (p q : Pair) where
   abbrev far : Bool
   far = le_z (q.high.exponent +ℤ pos 9) p.low.exponent
@@ -224,43 +223,12 @@ module _ (p q : Pair) where
   abbrev rest_of_them : Bool
   rest_of_them = ltb 0 p.low.significand && (ltb 0 q.high.significand && far)
 
-  pub absorbs_first : is_pair p ≡ false → false ≡ absorbs p q
+  pub absorbs_far : is_pair p ≡ true → is_pair q ≡ true → 0 < p.low.significand → 0 < q.high.significand → far ≡ absorbs p q
   unfolding absorbs
-  absorbs_first h = rw h refl
+  absorbs_far a b c d = sym (rw (a, b, lt-ltb 0 p.low.significand c, lt-ltb 0 q.high.significand d) refl)
 
-  pub absorbs_second : is_pair q ≡ false → false ≡ absorbs p q
-  unfolding absorbs
-  absorbs_second h = second_fails (is_pair p) (is_pair q && rest_of_them) (sym (first_fails (is_pair q) rest_of_them h))
-
-  pub absorbs_low : p.low.significand ≡ 0 → false ≡ absorbs p q
-  unfolding absorbs
-  absorbs_low h =
-      second_fails (is_pair p) (is_pair q && rest_of_them)
-      (sym (second_fails (is_pair q) rest_of_them (sym (first_fails (ltb 0 p.low.significand) (ltb 0 q.high.significand && far) (ap (ltb 0) h)))))
-
-  pub absorbs_high : q.high.significand ≡ 0 → false ≡ absorbs p q
-  unfolding absorbs
-  absorbs_high h =
-      second_fails (is_pair p) (is_pair q && rest_of_them)
-      (sym
-      (second_fails (is_pair q) rest_of_them
-      (sym (second_fails (ltb 0 p.low.significand) (ltb 0 q.high.significand && far) (sym (first_fails (ltb 0 q.high.significand) far (ap (ltb 0) h)))))))
-
-  pub absorbs_far : (t : Bool) → is_pair p ≡ true → is_pair q ≡ true → 0 < p.low.significand → 0 < q.high.significand → t ≡ lt_z p.low.exponent (q.high.exponent +ℤ pos 9) →
-      not t ≡ absorbs p q
-  unfolding absorbs
-  absorbs_far t a b c d h = rw (a, b, lt-ltb 0 p.low.significand c, lt-ltb 0 q.high.significand d) (sym (le_z_of p.low.exponent (q.high.exponent +ℤ pos 9) t (sym h)))
-
--- What is raised, test by test.
+-- What is raised.
 module _ (n : ℕ) (p : Pair) where
-  pub raised_none : is_pair p ≡ false → refused 53 ≡ raised n p
-  unfolding raised
-  raised_none h = refused_as (is_pair p && ltb 0 p.high.significand) (ends p.low (lifted n p.high)) (first_fails (is_pair p) (ltb 0 p.high.significand) h)
-
-  pub raised_zero : p.high.significand ≡ 0 → refused 53 ≡ raised n p
-  unfolding raised
-  raised_zero h = refused_as (is_pair p && ltb 0 p.high.significand) (ends p.low (lifted n p.high)) (second_fails (is_pair p) (ltb 0 p.high.significand) (ap (ltb 0) h))
-
   pub raised_worked : is_pair p ≡ true → 0 < p.high.significand → ends p.low (lifted n p.high) ≡ raised n p
   unfolding raised
   raised_worked h k = sym (provided_true (ends p.low (lifted n p.high)) (both_from h (lt-ltb 0 p.high.significand k)))

@@ -1,26 +1,21 @@
--- What a product and a quotient of two pairs come to, test by test as the code makes them. Assumes nothing.
-use mathlib.Core.Path.{◌≡◌, refl, sym, ◌∙◌, ap}
-use mathlib.Core.Bool.{Bool, true, false, ◌&&◌, not, true≢false}
+-- What a sum, a product and a quotient of two pairs come to, test by test as the code makes them. Assumes nothing.
+use mathlib.Core.Path.{◌≡◌, sym, ◌∙◌, ap}
+use mathlib.Core.Bool.{true, false, ◌&&◌, not, true≢false}
 use mathlib.Core.Logic.{⊎_elim}
 use Prim.Native.Nat.{◌<◌}
 use native.Mathlib.Nat.{eq-zero-or-pos}
 use Rattle.pair.specs.declared.Pair.{Pair}
-use Rattle.pair.specs.Number.{in_reach, is_zero, is_pair}
+use Rattle.pair.specs.Number.{is_zero, is_pair}
 use Rattle.pair.specs.Rounding.{product_end, quotient_end}
-use Rattle.pair.specs.Calls.{is, refused, provided, ends, product, quotient, after}
+use Rattle.pair.specs.Calls.{refused, ends, product, quotient}
 use Rattle.pair.proofs.Alignment.{order_zero_right}
-use Rattle.pair.proofs.Answers.{pair}
-use Rattle.pair.proofs.Numbers.{pair_low, pair_order, none_is_zero, some_is_not_zero}
-use Rattle.pair.proofs.Providing.{first_fails, second_fails, first_holds, refused_as, told_as}
+use Rattle.pair.proofs.Numbers.{pair_order, some_is_not_zero}
+use Rattle.pair.proofs.Providing.{first_fails, first_holds, refused_as, told_as}
 
 module _ (p q : Pair) where
   pub product_first : is_pair p ≡ false → refused 53 ≡ product p q
   unfolding product
   product_first h = refused_as (is_pair p && is_pair q) (ends (product_end false p.low q.low) (product_end true p.high q.high)) (first_fails (is_pair p) (is_pair q) h)
-
-  pub product_second : is_pair q ≡ false → refused 53 ≡ product p q
-  unfolding product
-  product_second h = refused_as (is_pair p && is_pair q) (ends (product_end false p.low q.low) (product_end true p.high q.high)) (second_fails (is_pair p) (is_pair q) h)
 
   pub product_worked : is_pair p ≡ true → is_pair q ≡ true → ends (product_end false p.low q.low) (product_end true p.high q.high) ≡ product p q
   unfolding product
@@ -29,19 +24,6 @@ module _ (p q : Pair) where
   pub quotient_first : is_pair p ≡ false → refused 53 ≡ quotient p q
   unfolding quotient
   quotient_first h = refused_as (is_pair p && (is_pair q && not (is_zero q.low))) (ends (quotient_end false p.low q.high) (quotient_end true p.high q.low)) (first_fails (is_pair p) (is_pair q && not (is_zero q.low)) h)
-
-  pub quotient_second : is_pair q ≡ false → refused 53 ≡ quotient p q
-  unfolding quotient
-  quotient_second h =
-      refused_as (is_pair p && (is_pair q && not (is_zero q.low))) (ends (quotient_end false p.low q.high) (quotient_end true p.high q.low))
-      (second_fails (is_pair p) (is_pair q && not (is_zero q.low)) (sym (first_fails (is_pair q) (not (is_zero q.low)) h)))
-
-  pub quotient_by_zero : is_pair q ≡ true → q.low.significand ≡ 0 → refused 53 ≡ quotient p q
-  unfolding quotient
-  quotient_by_zero k z =
-      refused_as (is_pair p && (is_pair q && not (is_zero q.low))) (ends (quotient_end false p.low q.high) (quotient_end true p.high q.low))
-      (second_fails (is_pair p) (is_pair q && not (is_zero q.low))
-      (sym (second_fails (is_pair q) (not (is_zero q.low)) (ap not (none_is_zero q.low (pair_low q k) z)))))
 
   pub quotient_worked : is_pair p ≡ true → is_pair q ≡ true → 0 < q.low.significand →
       ends (quotient_end false p.low q.high) (quotient_end true p.high q.low) ≡ quotient p q
@@ -58,16 +40,3 @@ high_above_lem q h p =
     (λ z. absurd (true≢false (sym (pair_order q h) ∙ order_zero_right q.low q.high p z)))
     (λ l. l)
     (eq-zero-or-pos q.high.significand)
-
--- a refused divisor after a product, told or not
-late : (b c : Bool) (x : Pair) → refused 53 ≡ after quotient (provided b (provided c (is x))) (refused 53)
-unfolding after provided
-late true true x = refl
-late true false x = refl
-late false c x = refl
-
-pub refused_after : (p q : Pair) → refused 53 ≡ after quotient (product p q) (refused 53)
-unfolding product ends
-refused_after p q =
-    late (is_pair p && is_pair q) (in_reach (product_end false p.low q.low).exponent && in_reach (product_end true p.high q.high).exponent)
-    (pair (product_end false p.low q.low) (product_end true p.high q.high))

@@ -1,20 +1,15 @@
 -- The calls on pairs and what each answers. A call that cannot be answered is refused with document 01's number 53: a pair that is
 -- none, an entry with too many digits, in both words or in one, a divisor with low end 0, 1 − f with f or its high end above 1, an
 -- exponent out of reach; and so is a count of more than nineteen figures, which 64 bits may not hold.
-use Rattle.std.specs.Prelude.{ℕ, ◌+◌, ◌*◌, ◌^◌, Bool, true, false, ◌&&◌, not, leb, ltb, ℤ, pos, ◌+ℤ◌}
+use Rattle.std.specs.Prelude.{ℕ, ◌+◌, ◌*◌, ◌^◌, Bool, true, false, ◌&&◌, not, leb, ltb, ℤ, pos, ◌+ℤ◌, Result, Ok, Err}
 use Rattle.std.specs.Int.Signed.{le_z}
 use Rattle.pair.specs.declared.Number.{Number}
 use Rattle.pair.specs.declared.Pair.{Pair}
 use Rattle.pair.specs.declared.Units.{Units}
-use Rattle.pair.specs.declared.Answer.{Answer}
-use Rattle.pair.specs.declared.Answer.TheVariants as Answers
+use Rattle.pair.specs.declared.Refused.{Refused}
 use Rattle.pair.specs.declared.Partial.{Partial}
 use Rattle.pair.specs.declared.Step.{Step}
 use Rattle.pair.specs.declared.Step.TheVariants as Steps
-use Rattle.pair.specs.declared.Order.{Order}
-use Rattle.pair.specs.declared.Order.TheVariants as Orders
-use Rattle.pair.specs.declared.Count.{Count}
-use Rattle.pair.specs.declared.Count.TheVariants as Counts
 use Rattle.pair.specs.Number.{in_reach, is_zero, is_number, is_pair, at_most, as_printed, zero, one}
 use Rattle.pair.specs.Rounding.{rounded, sum_end, product_end, quotient_end, rest_end, units_end, lifted}
 
@@ -23,19 +18,10 @@ pub data Outcome (A : Type 0) : Type 0 where
   is : A → Outcome A
   refused : ℕ → Outcome A
 
--- each case of an answer in these terms
-unfoldable pub answer : Answer → Outcome Pair
-answer (Answers.Is p) = is p
-answer Answers.Refused = refused 53
-
-unfoldable pub order : Order → Outcome Bool
-order Orders.AtMost = is true
-order Orders.Above = is false
-order Orders.Refused = refused 53
-
-unfoldable pub count : Count → Outcome Units
-count (Counts.Is n) = is n
-count Counts.Refused = refused 53
+-- each case of what the code answers in these terms
+unfoldable pub answer : {A : Type 0} → Result A Refused → Outcome A
+answer (Ok x) = is x
+answer (Err e) = refused 53
 
 -- a result where the condition holds, else 53
 unfoldable pub provided : {A : Type 0} → Bool → Outcome A → Outcome A
@@ -113,14 +99,11 @@ one_minus f =
 unfoldable pub compared : Number → Number → Outcome Bool
 compared a b = provided (is_number a && is_number b) (is (at_most a b))
 
--- a term of a series and the sum of the terms up to it, where both are told; else it is not worked
-unfoldable pub no_partial : Partial
-no_partial = record { worked = false; term = zero_pair; total = zero_pair }
-
-unfoldable pub partial : Outcome Pair → Outcome Pair → Partial
-partial (is t) (is s) = record { worked = true; term = t; total = s }
-partial (is t) (refused n) = no_partial
-partial (refused n) s = no_partial
+-- a term of a series and the sum of the terms up to it, where both are told: a refusal is carried along
+unfoldable pub partial : Outcome Pair → Outcome Pair → Outcome Partial
+partial (is t) (is s) = is (record { term = t; total = s })
+partial (is t) (refused n) = refused n
+partial (refused n) s = refused n
 
 -- whether q is above 0 and below one unit of the last figure of p's low end: then p + q has p's low end and, at the high end, one unit more
 unfoldable pub absorbs : Pair → Pair → Bool
@@ -165,7 +148,7 @@ in_units p u =
     (is (record { low = low; high = high }))
 
 -- a step of a series: the next term, term × factor / divisor, and the total with it
-unfoldable pub next_term : Pair → Pair → Pair → Pair → Partial
+unfoldable pub next_term : Pair → Pair → Pair → Pair → Outcome Partial
 next_term term total factor divisor =
     let t : Outcome Pair = after quotient (product term factor) (is divisor) in
     partial t (after sum (is total) t)

@@ -10,71 +10,54 @@ mod rounding;
 ghost use Rattle.std.specs.Prelude.{◌≡◌, true};
 ghost use Rattle.pair.specs.Number.{is_zero, is_number, is_pair};
 ghost use Rattle.pair.specs.Calls as calls;
-ghost use Rattle.pair.specs.Inner.{is_operand, low_by, high_by, both_in_reach};
+ghost use Rattle.pair.specs.Inner.{is_operand, both_in_reach};
 
 use crate::ends::{
     at_most, countable, is_number, is_share, lifted, product, quotient, rest, sum, units,
 };
-use crate::exponent::{in_reach, is_zero, less, plus, within};
+use crate::exponent::in_reach;
 use crate::rounding::{figured, long, normal};
 
 // A working number: 0, held as 0 and 0, or significand × 10^exponent with nine figures and an exponent from −99,999 to 99,999.
-#[derive(Clone, Copy)]
+#[derive(Clone, Copy, PartialEq, Eq)]
 pub struct Number {
     pub significand: u32,
     pub exponent: i32,
 }
 
 // A pair: a low and a high working number, low ≤ high.
-#[derive(Clone, Copy)]
+#[derive(Clone, Copy, PartialEq, Eq)]
 pub struct Pair {
     pub low: Number,
     pub high: Number,
 }
 
-// What an operation answers. Refused is document 01's 53.
-#[derive(Clone, Copy)]
-pub enum Answer {
-    Is(Pair),
-    Refused,
-}
+// What a call tells that it cannot work: document 01's 53.
+#[derive(Clone, Copy, PartialEq, Eq)]
+pub struct Refused;
 
-// A step of a chain of calls: × or /.
+// What an operation answers.
+pub type Answer = Result<Pair, Refused>;
+
+// A step of a chain of calls: × or /. A value and no closure: a caller may read it, as the stored vectors are.
 #[derive(Clone, Copy)]
 pub enum Step {
     Times,
     Over,
 }
 
-// What a comparison answers. Refused is document 01's 53.
-#[derive(Clone, Copy)]
-pub enum Order {
-    AtMost,
-    Above,
-    Refused,
-}
-
-// A term of a series and the sum of the terms up to it. Not worked is document 01's 53; then both are 0. A struct and no enum: the parts
-// of a struct go from step to step as they are, and a series has up to 255 steps.
+// A term of a series and the sum of the terms up to it.
 #[derive(Clone, Copy)]
 pub struct Partial {
-    pub worked: bool,
     pub term: Pair,
     pub total: Pair,
 }
 
 // The two ends of a pair as whole numbers of a unit.
-#[derive(Clone, Copy)]
+#[derive(Clone, Copy, PartialEq, Eq)]
 pub struct Units {
     pub low: u64,
     pub high: u64,
-}
-
-// What a count answers. Refused is document 01's 53.
-#[derive(Clone, Copy)]
-pub enum Count {
-    Is(Units),
-    Refused,
 }
 
 // Digits of a printed number: twelve at most, as many as a field has columns.
@@ -86,7 +69,7 @@ fn is_even(p: Pair) -> bool
 {
     let low = p.low;
     let high = p.high;
-    if !within(high.exponent, low.exponent, high.exponent) {
+    if low.exponent != high.exponent {
         return false;
     }
     if low.significand < 100_000_000 {
@@ -101,6 +84,7 @@ fn is_even(p: Pair) -> bool
     in_reach(low.exponent)
 }
 
+#[tactic(auto, unfolding(crate::specs::Number::is_pair))]
 fn is_pair(p: Pair) -> bool
     ensures { result ≡ is_pair p }
 {
@@ -116,6 +100,7 @@ fn is_pair(p: Pair) -> bool
     at_most(p.low, p.high)
 }
 
+#[tactic(auto, unfolding(crate::specs::Inner::both_in_reach))]
 fn both_in_reach(low: Number, high: Number) -> bool
     ensures { result ≡ both_in_reach low high }
 {
@@ -126,16 +111,18 @@ fn both_in_reach(low: Number, high: Number) -> bool
 }
 
 // The pair of two worked ends, if their exponents stayed in reach.
+#[tactic(auto, unfolding(crate::specs::Calls::answer, crate::specs::Calls::ends, crate::specs::Calls::provided, crate::specs::Inner::both_in_reach))]
 fn answered(low: Number, high: Number) -> Answer
     ensures { calls.answer result ≡ calls.ends low high }
 {
     if !both_in_reach(low, high) {
-        return Answer::Refused;
+        return Err(Refused);
     }
-    Answer::Is(Pair { low, high })
+    Ok(Pair { low, high })
 }
 
 // Whether q can be a step's second operand: a pair, whose low end is not 0 where it divides.
+#[tactic(auto, using(crate::proofs::Numbers::pair_low, crate::proofs::Steps::zero_test), unfolding(crate::specs::Inner::is_operand, crate::specs::Inner::divides))]
 fn is_operand(step: Step, q: Pair) -> bool
     ensures { result ≡ is_operand step q }
 {
@@ -151,112 +138,59 @@ fn is_operand(step: Step, q: Pair) -> bool
     }
 }
 
-// The low end of a step from a pair with this low end: by the divisor's high end.
-fn low_by(step: Step, low: Number, q: Pair) -> Number
-    requires { (is_number low ≡ true) × (is_operand step q ≡ true) }
-    ensures { result ≡ low_by step low q }
-{
-    match step {
-        Step::Times => product(false, low, q.low),
-        Step::Over => quotient(false, low, q.high),
-    }
-}
-
-// The high end: by the divisor's low end.
-fn high_by(step: Step, high: Number, q: Pair) -> Number
-    requires { (is_number high ≡ true) × (is_operand step q ≡ true) }
-    ensures { result ≡ high_by step high q }
-{
-    match step {
-        Step::Times => product(true, high, q.high),
-        Step::Over => quotient(true, high, q.low),
-    }
-}
-
-// The last step of a chain, from the two ends of a pair.
-fn last(low: Number, high: Number, step: Step, q: Pair) -> Answer
-    requires { is_pair (record { low = low; high = high }) ≡ true }
-    ensures { calls.answer result ≡ calls.stepped step (record { low = low; high = high }) q }
+// A step of a chain from what is known to be a pair, as what it answers is again: no operand is tested twice. In place, as `added`: handed
+// from call to call in memory, pairs cost a report a fifth more.
+#[inline(always)]
+#[tactic(auto, using(crate::proofs::Numbers::pair_low, crate::proofs::Numbers::pair_high, crate::proofs::Steps::operand_pair, crate::proofs::Steps::divisor_above, crate::proofs::Worked::high_above_lem))]
+fn stepped(p: Pair, step: Step, q: Pair) -> Answer
+    requires { is_pair p ≡ true }
+    ensures { calls.answer result ≡ calls.stepped step p q }
 {
     if !is_operand(step, q) {
-        return Answer::Refused;
+        return Err(Refused);
     }
-    answered(low_by(step, low, q), high_by(step, high, q))
-}
-
-// The last two. What the first of them gives is a pair if its exponents stayed in reach, so no more of it is looked at again.
-fn last_two(low: Number, high: Number, step: Step, q: Pair, next: Step, d: Pair) -> Answer
-    requires { is_pair (record { low = low; high = high }) ≡ true }
-    ensures { calls.answer result ≡ calls.after (calls.stepped next) (calls.stepped step (record { low = low; high = high }) q) (calls.is d) }
-{
-    if !is_operand(step, q) {
-        return Answer::Refused;
-    }
-    let lower = low_by(step, low, q);
-    let upper = high_by(step, high, q);
-    if !both_in_reach(lower, upper) {
-        return Answer::Refused;
-    }
-    last(lower, upper, next, d)
-}
-
-fn no_partial() -> Partial
-    ensures { result ≡ calls.no_partial }
-{
-    Partial {
-        worked: false,
-        term: Pair::ZERO,
-        total: Pair::ZERO,
+    match step {
+        Step::Times => answered(product(false, p.low, q.low), product(true, p.high, q.high)),
+        Step::Over => answered(
+            quotient(false, p.low, q.high),
+            quotient(true, p.high, q.low),
+        ),
     }
 }
 
-// The term with these ends, and the total with it.
-fn with_term(total: Pair, low: Number, high: Number) -> Partial
-    requires { is_pair (record { low = low; high = high }) ≡ true }
-    ensures { result ≡ calls.partial (calls.is (record { low = low; high = high })) (calls.sum total (record { low = low; high = high })) }
+// A sum with what is known to be a pair.
+#[inline(always)]
+#[tactic(auto, using(crate::proofs::Numbers::pair_low, crate::proofs::Numbers::pair_high), unfolding(crate::specs::Calls::answer, crate::specs::Calls::provided, crate::specs::Calls::sum))]
+fn added(p: Pair, q: Pair) -> Answer
+    requires { is_pair q ≡ true }
+    ensures { calls.answer result ≡ calls.sum p q }
 {
-    if !is_pair(total) {
-        return no_partial();
+    if !is_pair(p) {
+        return Err(Refused);
     }
-    let least = sum(false, total.low, low);
-    let most = sum(true, total.high, high);
-    if !both_in_reach(least, most) {
-        return no_partial();
-    }
-    Partial {
-        worked: true,
-        term: Pair { low, high },
-        total: Pair {
-            low: least,
-            high: most,
-        },
-    }
+    answered(sum(false, p.low, q.low), sum(true, p.high, q.high))
 }
 
 impl Number {
     // Whether a number is at most a bound.
-    pub fn compare(self, bound: Number) -> Order
-        ensures { calls.order result ≡ calls.compared self bound }
+    #[tactic(auto, unfolding(crate::specs::Calls::answer, crate::specs::Calls::provided, crate::specs::Calls::compared))]
+    pub fn compare(self, bound: Number) -> Result<bool, Refused>
+        ensures { calls.answer result ≡ calls.compared self bound }
     {
         if !is_number(self) {
-            return Order::Refused;
+            return Err(Refused);
         }
         if !is_number(bound) {
-            return Order::Refused;
+            return Err(Refused);
         }
-        if at_most(self, bound) {
-            return Order::AtMost;
-        }
-        Order::Above
+        Ok(at_most(self, bound))
     }
 
+    #[tactic(auto, using(crate::proofs::Numbers::zero_bits), unfolding(crate::specs::Number::is_zero))]
     pub fn is_zero(self) -> bool
         ensures { result ≡ is_zero self }
     {
-        if self.significand != 0 {
-            return false;
-        }
-        is_zero(self.exponent)
+        self.significand == 0 && self.exponent == 0
     }
 }
 
@@ -284,14 +218,15 @@ impl Pair {
     };
 
     // The pair of a number as printed, significand × 10^exponent, of at most twelve digits. Nine or fewer are a working number.
+    #[tactic(auto, using(crate::proofs::Numbers::reach_mag), unfolding(crate::specs::Calls::answer, crate::specs::Calls::provided, crate::specs::Calls::entry))]
     pub fn entry(significand: u64, exponent: i32) -> Answer
         ensures { calls.answer result ≡ calls.entry significand exponent }
     {
         if MOST_PRINTED < significand {
-            return Answer::Refused;
+            return Err(Refused);
         }
         if !in_reach(exponent) {
-            return Answer::Refused;
+            return Err(Refused);
         }
         if significand <= 999_999_999 {
             let w = normal(significand, exponent);
@@ -304,17 +239,18 @@ impl Pair {
     }
 
     // The pair of (high × 10^18 + low) × 10^exponent, of at most thirty-seven digits, so that a long number is rounded once.
+    #[tactic(auto, using(crate::proofs::Numbers::reach_mag), unfolding(crate::specs::Calls::answer, crate::specs::Calls::provided, crate::specs::Calls::long_entry))]
     pub fn long_entry(high: u64, low: u64, exponent: i32) -> Answer
         ensures { calls.answer result ≡ calls.long_entry high low exponent }
     {
         if 9_999_999_999_999_999_999 < high {
-            return Answer::Refused;
+            return Err(Refused);
         }
         if 999_999_999_999_999_999 < low {
-            return Answer::Refused;
+            return Err(Refused);
         }
         if !in_reach(exponent) {
-            return Answer::Refused;
+            return Err(Refused);
         }
         answered(
             long(false, high, low, exponent),
@@ -323,17 +259,18 @@ impl Pair {
     }
 
     // 1 − significand × 10^exponent, from the digits as printed, so that it is rounded once.
+    #[tactic(auto, unfolding(crate::specs::Calls::answer, crate::specs::Calls::provided, crate::specs::Calls::one_minus_entry))]
     pub fn one_minus_entry(significand: u64, exponent: i32) -> Answer
         ensures { calls.answer result ≡ calls.one_minus_entry significand exponent }
     {
         if MOST_PRINTED < significand {
-            return Answer::Refused;
+            return Err(Refused);
         }
         if !in_reach(exponent) {
-            return Answer::Refused;
+            return Err(Refused);
         }
         if !is_share(significand, exponent) {
-            return Answer::Refused;
+            return Err(Refused);
         }
         answered(
             rest(false, significand, exponent),
@@ -349,81 +286,65 @@ impl Pair {
     }
 
     // The pair itself, if it is one.
+    #[tactic(auto, unfolding(crate::specs::Calls::answer, crate::specs::Calls::provided, crate::specs::Calls::checked))]
     pub fn checked(self) -> Answer
         ensures { calls.answer result ≡ calls.checked self }
     {
         if is_pair(self) {
-            return Answer::Is(self);
+            return Ok(self);
         }
-        Answer::Refused
+        Err(Refused)
     }
 
     // A pair as what a call answered, to begin a chain of calls: it is passed on untested, and the next call tests it.
+    #[tactic(auto, unfolding(crate::specs::Calls::answer))]
     pub fn answer(self) -> Answer
         ensures { calls.answer result ≡ calls.is self }
     {
-        Answer::Is(self)
+        Ok(self)
     }
 
+    #[tactic(auto, unfolding(crate::specs::Calls::answer, crate::specs::Calls::provided, crate::specs::Calls::sum))]
     pub fn sum(self, other: Pair) -> Answer
         ensures { calls.answer result ≡ calls.sum self other }
     {
-        if !is_pair(self) {
-            return Answer::Refused;
-        }
         if !is_pair(other) {
-            return Answer::Refused;
+            return Err(Refused);
         }
-        answered(
-            sum(false, self.low, other.low),
-            sum(true, self.high, other.high),
-        )
+        added(self, other)
     }
 
+    #[tactic(auto, unfolding(crate::specs::Calls::answer, crate::specs::Calls::provided, crate::specs::Calls::stepped, crate::specs::Calls::product))]
     pub fn product(self, other: Pair) -> Answer
         ensures { calls.answer result ≡ calls.product self other }
     {
         if !is_pair(self) {
-            return Answer::Refused;
+            return Err(Refused);
         }
-        if !is_pair(other) {
-            return Answer::Refused;
-        }
-        answered(
-            product(false, self.low, other.low),
-            product(true, self.high, other.high),
-        )
+        stepped(self, Step::Times, other)
     }
 
     // Low by high, high by low.
+    #[tactic(auto, unfolding(crate::specs::Calls::answer, crate::specs::Calls::provided, crate::specs::Calls::stepped, crate::specs::Calls::quotient))]
     pub fn quotient(self, divisor: Pair) -> Answer
         ensures { calls.answer result ≡ calls.quotient self divisor }
     {
         if !is_pair(self) {
-            return Answer::Refused;
+            return Err(Refused);
         }
-        if !is_pair(divisor) {
-            return Answer::Refused;
-        }
-        let least = divisor.low;
-        if least.significand == 0 {
-            return Answer::Refused;
-        }
-        answered(
-            quotient(false, self.low, divisor.high),
-            quotient(true, self.high, least),
-        )
+        stepped(self, Step::Over, divisor)
     }
 
     // 1 − f: the low end from f's high end, the high end from f's low end.
+    #[tactic(auto, using(crate::proofs::Numbers::pair_low, crate::proofs::Numbers::pair_high), unfolding(crate::specs::Calls::answer, crate::specs::Calls::provided, crate::specs::Calls::one_minus, crate::specs::Number::one))]
     pub fn one_minus(self) -> Answer
         ensures { calls.answer result ≡ calls.one_minus self }
     {
         if !is_pair(self) {
-            return Answer::Refused;
+            return Err(Refused);
         }
         if !at_most(self.high, Pair::ONE.high) {
-            return Answer::Refused;
+            return Err(Refused);
         }
         let low = self.low;
         let high = self.high;
@@ -433,34 +354,25 @@ impl Pair {
         )
     }
 
-    // A step of a series: the next term, self × factor / divisor, and the total with it, worked on numbers from end to end.
-    pub fn next_term(self, total: Pair, factor: Pair, divisor: Pair) -> Partial
-        ensures { result ≡ calls.next_term self total factor divisor }
+    // A step of a series: the next term, self × factor / divisor, and the total with it, no pair of its own tested again.
+    #[tactic(auto, using(crate::proofs::Worked::product_first, crate::proofs::Steps::product_again, crate::proofs::Steps::quotient_again), unfolding(crate::specs::Calls::answer, crate::specs::Calls::after, crate::specs::Calls::partial, crate::specs::Calls::next_term, crate::specs::Calls::stepped))]
+    pub fn next_term(self, total: Pair, factor: Pair, divisor: Pair) -> Result<Partial, Refused>
+        ensures { calls.answer result ≡ calls.next_term self total factor divisor }
     {
         if !is_pair(self) {
-            return no_partial();
+            return Err(Refused);
         }
-        if !is_operand(Step::Times, factor) {
-            return no_partial();
-        }
-        let low = low_by(Step::Times, self.low, factor);
-        let high = high_by(Step::Times, self.high, factor);
-        if !both_in_reach(low, high) {
-            return no_partial();
-        }
-        if !is_operand(Step::Over, divisor) {
-            return no_partial();
-        }
-        let next_low = low_by(Step::Over, low, divisor);
-        let next_high = high_by(Step::Over, high, divisor);
-        if !both_in_reach(next_low, next_high) {
-            return no_partial();
-        }
-        with_term(total, next_low, next_high)
+        let product = stepped(self, Step::Times, factor)?;
+        let term = stepped(product, Step::Over, divisor)?;
+        Ok(Partial {
+            term,
+            total: added(total, term)?,
+        })
     }
 
     // Whether other is above 0 and below one unit of the low end's last figure: then a sum keeps the low end, and its high end has one
     // unit more.
+    #[tactic(auto, using(crate::proofs::Numbers::pair_low, crate::proofs::Numbers::pair_high, crate::proofs::Numbers::number_mag), unfolding(crate::specs::Calls::absorbs))]
     pub fn absorbs(self, other: Pair) -> bool
         ensures { result ≡ calls.absorbs self other }
     {
@@ -478,40 +390,42 @@ impl Pair {
         if high.significand == 0 {
             return false;
         }
-        !less(low.exponent, plus(high.exponent, 9))
+        high.exponent + 9 <= low.exponent
     }
 
     // The high end, above 0, with so many units more in its last figure.
+    #[tactic(auto, using(crate::proofs::Numbers::pair_high), unfolding(crate::specs::Calls::answer, crate::specs::Calls::provided, crate::specs::Calls::raised))]
     pub fn raised(self, units: u8) -> Answer
         ensures { calls.answer result ≡ calls.raised units self }
     {
         if !is_pair(self) {
-            return Answer::Refused;
+            return Err(Refused);
         }
         let high = self.high;
         if high.significand == 0 {
-            return Answer::Refused;
+            return Err(Refused);
         }
         answered(self.low, lifted(high, units as u32))
     }
 
     // The ends in units of 10^unit: the low end down, the high end up.
-    pub fn in_units(self, unit: i32) -> Count
-        ensures { calls.count result ≡ calls.in_units self unit }
+    #[tactic(auto, using(crate::proofs::Numbers::pair_low, crate::proofs::Numbers::pair_high), unfolding(crate::specs::Calls::answer, crate::specs::Calls::provided, crate::specs::Calls::in_units))]
+    pub fn in_units(self, unit: i32) -> Result<Units, Refused>
+        ensures { calls.answer result ≡ calls.in_units self unit }
     {
         if !is_pair(self) {
-            return Count::Refused;
+            return Err(Refused);
         }
         if !in_reach(unit) {
-            return Count::Refused;
+            return Err(Refused);
         }
         if !countable(self.low, unit) {
-            return Count::Refused;
+            return Err(Refused);
         }
         if !countable(self.high, unit) {
-            return Count::Refused;
+            return Err(Refused);
         }
-        Count::Is(Units {
+        Ok(Units {
             low: units(false, self.low, unit),
             high: units(true, self.high, unit),
         })
@@ -519,118 +433,80 @@ impl Pair {
 }
 
 // The operations on what earlier calls answered, for chains of them: a refusal is carried along.
-impl Answer {
-    pub fn plus(self, other: Answer) -> Answer
+pub trait Chain {
+    fn plus(self, other: Answer) -> Answer;
+
+    fn times(self, other: Answer) -> Answer;
+
+    fn over(self, other: Answer) -> Answer;
+
+    fn times_over(self, factor: Pair, divisor: Answer) -> Answer;
+
+    fn through(self, first: Step, a: Pair, second: Step, b: Pair, third: Step, c: Pair) -> Answer;
+
+    fn plus_product(self, a: Pair, b: Pair) -> Answer;
+
+    fn one_minus(self) -> Answer;
+}
+
+#[tactic(auto, using(crate::proofs::Worked::product_first, crate::proofs::Steps::not_pair, crate::proofs::Steps::product_again, crate::proofs::Steps::step_again), unfolding(crate::specs::Calls::answer, crate::specs::Calls::after, crate::specs::Calls::after_one, crate::specs::Calls::stepped))]
+impl Chain for Result<Pair, Refused> {
+    fn plus(self, other: Answer) -> Answer
         ensures { calls.answer result ≡ calls.after calls.sum (calls.answer self) (calls.answer other) }
     {
-        let Answer::Is(p) = self else {
-            return Answer::Refused;
-        };
-        let Answer::Is(q) = other else {
-            return Answer::Refused;
-        };
-        p.sum(q)
+        self?.sum(other?)
     }
 
-    pub fn times(self, other: Answer) -> Answer
+    fn times(self, other: Answer) -> Answer
         ensures { calls.answer result ≡ calls.after calls.product (calls.answer self) (calls.answer other) }
     {
-        let Answer::Is(p) = self else {
-            return Answer::Refused;
-        };
-        let Answer::Is(q) = other else {
-            return Answer::Refused;
-        };
-        p.product(q)
+        self?.product(other?)
     }
 
-    pub fn over(self, other: Answer) -> Answer
+    fn over(self, other: Answer) -> Answer
         ensures { calls.answer result ≡ calls.after calls.quotient (calls.answer self) (calls.answer other) }
     {
-        let Answer::Is(p) = self else {
-            return Answer::Refused;
-        };
-        let Answer::Is(q) = other else {
-            return Answer::Refused;
-        };
-        p.quotient(q)
+        self?.quotient(other?)
     }
 
     // self × factor / divisor, as times and over one after the other.
-    pub fn times_over(self, factor: Pair, divisor: Answer) -> Answer
+    fn times_over(self, factor: Pair, divisor: Answer) -> Answer
         ensures { calls.answer result ≡ calls.times_over (calls.answer self) factor (calls.answer divisor) }
     {
-        let Answer::Is(p) = self else {
-            return Answer::Refused;
-        };
-        let Answer::Is(d) = divisor else {
-            return Answer::Refused;
-        };
+        let p = self?;
         if !is_pair(p) {
-            return Answer::Refused;
+            return Err(Refused);
         }
-        last_two(p.low, p.high, Step::Times, factor, Step::Over, d)
+        stepped(stepped(p, Step::Times, factor)?, Step::Over, divisor?)
     }
 
-    // Three steps one after the other, worked on numbers: no answer passes from one to the next.
-    pub fn through(
-        self,
-        first: Step,
-        a: Pair,
-        second: Step,
-        b: Pair,
-        third: Step,
-        c: Pair,
-    ) -> Answer
+    // Three steps one after the other; what a step answers is not tested again.
+    fn through(self, first: Step, a: Pair, second: Step, b: Pair, third: Step, c: Pair) -> Answer
         ensures { calls.answer result ≡ calls.through (calls.answer self) first a second b third c }
     {
-        let Answer::Is(p) = self else {
-            return Answer::Refused;
-        };
+        let p = self?;
         if !is_pair(p) {
-            return Answer::Refused;
+            return Err(Refused);
         }
-        if !is_operand(first, a) {
-            return Answer::Refused;
-        }
-        let low = low_by(first, p.low, a);
-        let high = high_by(first, p.high, a);
-        if !both_in_reach(low, high) {
-            return Answer::Refused;
-        }
-        last_two(low, high, second, b, third, c)
+        let p = stepped(p, first, a)?;
+        let p = stepped(p, second, b)?;
+        stepped(p, third, c)
     }
 
     // self + a × b, as a product and plus one after the other: a term of a weighted sum.
-    pub fn plus_product(self, a: Pair, b: Pair) -> Answer
+    fn plus_product(self, a: Pair, b: Pair) -> Answer
         ensures { calls.answer result ≡ calls.plus_product (calls.answer self) a b }
     {
-        let Answer::Is(p) = self else {
-            return Answer::Refused;
-        };
+        let p = self?;
         if !is_pair(a) {
-            return Answer::Refused;
+            return Err(Refused);
         }
-        if !is_operand(Step::Times, b) {
-            return Answer::Refused;
-        }
-        let low = low_by(Step::Times, a.low, b);
-        let high = high_by(Step::Times, a.high, b);
-        if !both_in_reach(low, high) {
-            return Answer::Refused;
-        }
-        if !is_pair(p) {
-            return Answer::Refused;
-        }
-        answered(sum(false, p.low, low), sum(true, p.high, high))
+        added(p, stepped(a, Step::Times, b)?)
     }
 
-    pub fn one_minus(self) -> Answer
+    fn one_minus(self) -> Answer
         ensures { calls.answer result ≡ calls.after_one calls.one_minus (calls.answer self) }
     {
-        let Answer::Is(f) = self else {
-            return Answer::Refused;
-        };
-        f.one_minus()
+        self?.one_minus()
     }
 }

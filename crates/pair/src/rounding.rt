@@ -5,8 +5,8 @@ ghost use Rattle.pair.specs.Number as numbers;
 ghost use Rattle.pair.specs.Rounding.{divided, carried, rounded};
 
 use crate::Number;
-use crate::exponent::{figures, minus, plus};
 
+// 10^k, read from a table: `10u64.pow(k)` multiplies in a loop, 1 in 100 instructions more on the longest deck.
 pub(crate) fn power(k: usize) -> u64
     requires { k ≤ 12 }
     ensures { result ≡ 10 ^ k }
@@ -28,6 +28,7 @@ pub(crate) fn power(k: usize) -> u64
     }
 }
 
+#[tactic(auto, unfolding(crate::specs::Number::zero))]
 pub(crate) fn zero() -> Number
     ensures { result ≡ numbers.zero }
 {
@@ -37,7 +38,7 @@ pub(crate) fn zero() -> Number
     }
 }
 
-// n / d as a whole number.
+// n / d as a whole number. The direction is a bool all through, as in the definitions (`divided up n d`).
 fn whole(up: bool, n: u64, d: u64) -> u64
     requires d_nonzero { 0 < d }
     requires d_bound { n + d < 18000000000000000000 }
@@ -50,6 +51,7 @@ fn whole(up: bool, n: u64, d: u64) -> u64
 }
 
 // n / 10^g as a whole number. What has twelve figures at most and lies wholly below the point counts as something, no more.
+#[tactic(auto, using(crate::proofs::Powers::ten_above, crate::proofs::Powers::ten_rises))]
 pub(crate) fn lowered(up: bool, n: u64, g: usize) -> u64
     requires { (0 < n) × (n ≤ 999999999999) }
     ensures { result ≡ divided up n (10 ^ g) }
@@ -60,7 +62,9 @@ pub(crate) fn lowered(up: bool, n: u64, g: usize) -> u64
     whole(up, n, power(g))
 }
 
-// m × 10^e, where m may have been rounded up to ten figures.
+// m × 10^e, where m may have been rounded up to ten figures. Each function states the bounds of its own m and e: they are the same for `off`
+// and `figured` alone, so that no type of the two would state them.
+#[tactic(auto, unfolding(crate::specs::Rounding::carried))]
 fn carry(m: u64, e: i32) -> Number
     requires m_bound { m ≤ 1000000000 }
     requires e_bound { mag e < 250000 }
@@ -74,11 +78,12 @@ fn carry(m: u64, e: i32) -> Number
     }
     Number {
         significand: 100_000_000,
-        exponent: plus(e, 1),
+        exponent: e + 1,
     }
 }
 
 // n / d × 10^e, where n / d has nine figures before the point. Only rounding up can carry.
+#[tactic(auto, using(crate::proofs::Dividing::divided_most, crate::proofs::Dividing::down_below))]
 pub(crate) fn nine(up: bool, n: u64, d: u64, e: i32) -> Number
     requires d_nonzero { 0 < d }
     requires d_bound { (100000000 * d ≤ n) × (n < 1000000000 * d) }
@@ -103,7 +108,7 @@ pub(crate) fn ten(up: bool, m: u64, e: i32) -> Number
     ensures { result ≡ rounded up m 1 e }
 {
     if 999_999_999 < m {
-        return nine(up, m, 10, plus(e, 1));
+        return nine(up, m, 10, e + 1);
     }
     Number {
         significand: m as u32,
@@ -111,7 +116,8 @@ pub(crate) fn ten(up: bool, m: u64, e: i32) -> Number
     }
 }
 
-// How many zeros put behind m give it nine figures.
+// How many zeros put behind m give it nine figures: by comparisons, as `ilog10` here and in `surplus` takes 3 in 100
+// instructions more on the longest deck.
 fn zeros(m: u64) -> usize
     requires { (0 < m) × (m ≤ 999999999) }
     ensures { (result ≤ 8) × (100000000 ≤ m * 10 ^ result) × (m * 10 ^ result ≤ 999999999) }
@@ -144,6 +150,7 @@ fn zeros(m: u64) -> usize
 }
 
 // m × 10^e, of at most nine figures, with zeros put behind m until it has nine. Nothing is rounded.
+#[tactic(auto, unfolding(crate::specs::Rounding::rounded))]
 pub(crate) fn normal(m: u64, e: i32) -> Number
     requires m_bound { m ≤ 999999999 }
     requires e_bound { mag e < 250000 }
@@ -155,7 +162,7 @@ pub(crate) fn normal(m: u64, e: i32) -> Number
     let k = zeros(m);
     Number {
         significand: (m * power(k)) as u32,
-        exponent: minus(e, figures(k)),
+        exponent: e - k as i32,
     }
 }
 
@@ -198,13 +205,14 @@ fn surplus(m: u64) -> usize
 }
 
 // m × 10^e, with k figures beyond nine, which are rounded off.
+#[tactic(auto, using(crate::proofs::Rounds::rounded_off, crate::proofs::Rounds::beyond_nine))]
 fn off(up: bool, m: u64, k: usize, e: i32) -> Number
     requires k_bound { (k ≤ 11) × (100000000 * 10 ^ k ≤ m) × (m < 1000000000 * 10 ^ k) }
     requires m_bound { m ≤ 10000000000000000000 }
     requires e_bound { mag e < 200003 }
     ensures { result ≡ rounded up m 1 e }
 {
-    nine(up, m, power(k), plus(e, figures(k)))
+    nine(up, m, power(k), e + k as i32)
 }
 
 // m × 10^e, of at most nineteen figures, or 10^19.
@@ -232,8 +240,8 @@ pub(crate) fn long(up: bool, high: u64, low: u64, e: i32) -> Number
     }
     if high < 1_000_000_000 {
         let first = high * 1_000_000_000 + whole(up, low, 1_000_000_000);
-        return figured(up, first, plus(e, 9));
+        return figured(up, first, e + 9);
     }
     let first = high + whole(up, low, 1_000_000_000_000_000_000);
-    figured(up, first, plus(e, 18))
+    figured(up, first, e + 18)
 }

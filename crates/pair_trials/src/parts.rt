@@ -1,95 +1,110 @@
 //! The parts of a vector: working numbers, pairs and steps as they are written, each after a space. Whether they are numbers and pairs is the
 //! library's to say: here a number is any significand and any exponent of 32 bits.
-ghost use Rattle.std.specs.Prelude.{◌≡◌, true};
-
-use pair::{Number, Pair, Step};
+use pair::{Answer, Number, Pair, Step};
 use trials::{after, read_signed, read_whole};
 
-// Parts that were read: the value, where the text goes on, and whether it and all before it could be read.
+// What is written behind a vector's word, read from a place on: of each part its value, or none where another stands.
 #[derive(Clone, Copy)]
-pub struct Numeral {
-    pub value: Number,
-    pub at: usize,
-    pub good: bool,
+pub struct Parts<'a> {
+    text: &'a [u8],
+    at: usize,
 }
 
-#[derive(Clone, Copy)]
-pub struct Ends {
-    pub value: Pair,
-    pub at: usize,
-    pub good: bool,
-}
+impl<'a> Parts<'a> {
+    pub fn of(text: &'a [u8]) -> Self {
+        Parts { text, at: 0 }
+    }
 
-#[derive(Clone, Copy)]
-pub struct Stepped {
-    pub step: Step,
-    pub value: Pair,
-    pub at: usize,
-    pub good: bool,
-}
+    fn byte(&mut self, byte: u8) -> Option<()> {
+        self.at = after(self.text, self.at, byte)?;
+        Some(())
+    }
 
-// The operation on signed numbers is here, over plain ones.
-pub fn same_exponent(e: i32, f: i32) -> bool
-    ensures { result ≡ true → e ≡ f }
-{
-    e == f
-}
+    pub fn whole(&mut self) -> Option<u64> {
+        let part = read_whole(self.text, self.at)?;
+        self.at = part.at;
+        Some(part.value)
+    }
 
-// A significand and an exponent.
-pub fn read_number(s: &[u8], at: usize, good: bool) -> Numeral {
-    let m = read_whole(s, at, good);
-    let e = read_signed(s, m.at, m.good);
-    let n = m.value;
-    if 4_294_967_295 < n {
-        return Numeral {
-            value: Number {
-                significand: 0,
-                exponent: 0,
-            },
-            at: e.at,
-            good: false,
+    pub fn signed(&mut self) -> Option<i32> {
+        let part = read_signed(self.text, self.at)?;
+        self.at = part.at;
+        Some(part.value)
+    }
+
+    // A significand and an exponent.
+    pub fn number(&mut self) -> Option<Number> {
+        let significand = u32::try_from(self.whole()?).ok()?;
+        let exponent = self.signed()?;
+        Some(Number {
+            significand,
+            exponent,
+        })
+    }
+
+    // The low number and the high one.
+    pub fn pair(&mut self) -> Option<Pair> {
+        let low = self.number()?;
+        let high = self.number()?;
+        Some(Pair { low, high })
+    }
+
+    // * or /, and a pair.
+    pub fn step(&mut self) -> Option<(Step, Pair)> {
+        self.byte(b' ')?;
+        let step = match self.byte(b'*') {
+            Some(()) => Step::Times,
+            None => {
+                self.byte(b'/')?;
+                Step::Over
+            }
         };
+        Some((step, self.pair()?))
     }
-    Numeral {
-        value: Number {
-            significand: n as u32,
-            exponent: e.value,
-        },
-        at: e.at,
-        good: e.good,
+
+    // The place behind " =", where the answer begins.
+    fn answer(mut self) -> Option<Self> {
+        self.byte(b' ')?;
+        self.byte(b'=')?;
+        Some(self)
+    }
+
+    fn is_read(self) -> bool {
+        self.at == self.text.len()
+    }
+
+    // Whether the answer is this number and nothing more.
+    pub fn says(self, n: u64) -> Option<bool> {
+        let mut told = self.answer()?;
+        Some(told.whole()? == n && told.is_read())
+    }
+
+    // Whether it is these two numbers.
+    pub fn says_two(self, m: u64, n: u64) -> Option<bool> {
+        let mut told = self.answer()?;
+        Some(told.whole()? == m && told.whole()? == n && told.is_read())
+    }
+
+    // Whether it is the ends of this pair.
+    fn says_pair(self, p: Pair) -> Option<bool> {
+        let mut told = self.answer()?;
+        Some(told.pair()? == p && told.is_read())
+    }
+
+    // Whether it is the ends of these two pairs.
+    pub fn says_pairs(self, p: Pair, q: Pair) -> Option<bool> {
+        let mut told = self.answer()?;
+        Some(told.pair()? == p && told.pair()? == q && told.is_read())
+    }
+
+    // Whether it is what the library answered.
+    pub fn agree(self, answer: Answer) -> Option<bool> {
+        match answer {
+            Ok(p) => self.says_pair(p),
+            Err(_) => self.says(REFUSED),
+        }
     }
 }
 
-// The low number and the high one.
-pub fn read_ends(s: &[u8], at: usize, good: bool) -> Ends {
-    let low = read_number(s, at, good);
-    let high = read_number(s, low.at, low.good);
-    let l = low.value;
-    let h = high.value;
-    Ends {
-        value: Pair { low: l, high: h },
-        at: high.at,
-        good: high.good,
-    }
-}
-
-fn with_step(step: Step, by: Ends) -> Stepped {
-    let p = by.value;
-    Stepped {
-        step,
-        value: p,
-        at: by.at,
-        good: by.good,
-    }
-}
-
-// * or /, and a pair.
-pub fn read_step(s: &[u8], at: usize, good: bool) -> Stepped {
-    let sign = after(s, at, b' ', good);
-    let times = after(s, sign.at, b'*', sign.good);
-    if times.good {
-        return with_step(Step::Times, read_ends(s, times.at, true));
-    }
-    let over = after(s, sign.at, b'/', sign.good);
-    with_step(Step::Over, read_ends(s, over.at, over.good))
-}
+// The number of a refusal.
+pub const REFUSED: u64 = 53;

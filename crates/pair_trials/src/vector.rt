@@ -1,312 +1,200 @@
 //! One vector: an operation's word, its operands, " =", and the answer: the ends of a pair or of two, one number or two, or 53.
-ghost use Rattle.std.specs.Prelude.{◌≡◌, ◌≤◌, true};
+use crate::parts::{Parts, REFUSED};
+use pair::{Answer, Chain, Pair};
 
-use crate::parts::{read_ends, read_number, read_step, same_exponent};
-use pair::{Answer, Count, Number, Order, Pair};
-use trials::{Whole, after, read_signed, read_whole, starts};
+#[derive(Clone, Copy, PartialEq, Eq)]
+pub enum Operation {
+    Sum,
+    Product,
+    Quotient,
+    OneMinus,
+    Entry,
+    Compare,
+    InUnits,
+    OneMinusEntry,
+    LongEntry,
+    Checked,
+    TimesOver,
+    PlusProduct,
+    Through,
+    NextTerm,
+    Absorbs,
+    Raised,
+}
 
-// The place of a line's operation among the sixteen, or 16 where it names none.
-pub fn operation(s: &[u8]) -> usize
-    ensures { result ≤ 16 }
+// Each operation, the word that its vectors begin with and the name that it is printed by.
+pub static OPERATIONS: [(Operation, &str, &str); 16] = [
+    (Operation::Sum, "add", "sum"),
+    (Operation::Product, "mul", "product"),
+    (Operation::Quotient, "div", "quotient"),
+    (Operation::OneMinus, "rest", "one_minus"),
+    (Operation::Entry, "entry", "entry"),
+    (Operation::Compare, "compare", "compare"),
+    (Operation::InUnits, "units", "in_units"),
+    (Operation::OneMinusEntry, "less", "one_minus_entry"),
+    (Operation::LongEntry, "long", "long_entry"),
+    (Operation::Checked, "checked", "checked"),
+    (Operation::TimesOver, "timesover", "times_over"),
+    (Operation::PlusProduct, "plusproduct", "plus_product"),
+    (Operation::Through, "through", "through"),
+    (Operation::NextTerm, "next", "next_term"),
+    (Operation::Absorbs, "absorbs", "absorbs"),
+    (Operation::Raised, "raised", "raised"),
+];
+
+#[derive(Clone, Copy)]
+pub struct Vector<'a> {
+    pub operation: Operation,
+    parts: Parts<'a>,
+}
+
+impl<'a> Vector<'a> {
+    // The vector of a line; none where its first word names no operation.
+    pub fn of(line: &'a [u8]) -> Option<Self> {
+        let end = line.iter().position(|b| *b == b' ')?;
+        let (first, parts) = line.split_at(end);
+        let (operation, ..) = OPERATIONS
+            .iter()
+            .find(|(_, word, _)| word.as_bytes() == first)?;
+        Some(Vector {
+            operation: *operation,
+            parts: Parts::of(parts),
+        })
+    }
+
+    // Whether the library answers as it is written.
+    pub fn agrees(self) -> bool {
+        self.told() == Some(true)
+    }
+
+    // The same; none where a part cannot be read. A pair's own call and the one on answers must tell the same.
+    fn told(self) -> Option<bool> {
+        let parts = self.parts;
+        match self.operation {
+            Operation::Sum => of_two(parts, |p, q| [p.sum(q), p.answer().plus(q.answer())]),
+            Operation::Product => of_two(
+                parts,
+                |p, q| [p.product(q), p.answer().times(q.answer())],
+            ),
+            Operation::Quotient => of_two(
+                parts,
+                |p, q| [p.quotient(q), p.answer().over(q.answer())],
+            ),
+            Operation::OneMinus => of_one(parts, |f| [f.one_minus(), f.answer().one_minus()]),
+            Operation::Entry => of_entry(parts, Pair::entry),
+            Operation::Compare => of_compare(parts),
+            Operation::InUnits => of_units(parts),
+            Operation::OneMinusEntry => of_entry(parts, Pair::one_minus_entry),
+            Operation::LongEntry => of_long(parts),
+            Operation::Checked => of_one(parts, |p| [p.checked(), Pair::of_ends(p.low, p.high)]),
+            Operation::TimesOver => of_three(
+                parts,
+                |p, by, d| p.answer().times_over(by, d.answer()),
+            ),
+            Operation::PlusProduct => of_three(parts, |p, a, b| p.answer().plus_product(a, b)),
+            Operation::Through => of_through(parts),
+            Operation::NextTerm => of_next(parts),
+            Operation::Absorbs => of_absorbs(parts),
+            Operation::Raised => of_raised(parts),
+        }
+    }
+}
+
+// A pair, by two calls.
+fn of_one<F: FnOnce(Pair) -> [Answer; 2]>(mut parts: Parts, calls: F) -> Option<bool>
+    requires { F.IsAlwaysCallable calls }
 {
-    if starts(s, b"add ") {
-        return 0;
-    }
-    if starts(s, b"mul ") {
-        return 1;
-    }
-    if starts(s, b"div ") {
-        return 2;
-    }
-    if starts(s, b"rest ") {
-        return 3;
-    }
-    if starts(s, b"entry ") {
-        return 4;
-    }
-    if starts(s, b"compare ") {
-        return 5;
-    }
-    if starts(s, b"units ") {
-        return 6;
-    }
-    if starts(s, b"less ") {
-        return 7;
-    }
-    if starts(s, b"long ") {
-        return 8;
-    }
-    if starts(s, b"checked ") {
-        return 9;
-    }
-    if starts(s, b"timesover ") {
-        return 10;
-    }
-    if starts(s, b"plusproduct ") {
-        return 11;
-    }
-    if starts(s, b"through ") {
-        return 12;
-    }
-    if starts(s, b"next ") {
-        return 13;
-    }
-    if starts(s, b"absorbs ") {
-        return 14;
-    }
-    if starts(s, b"raised ") {
-        return 15;
-    }
-    16
+    let [first, second] = calls(parts.pair()?);
+    Some(parts.agree(first)? && parts.agree(second)?)
 }
 
-// The place after " =", where the answer begins.
-fn answer_at(s: &[u8], at: usize, good: bool) -> Whole {
-    let w = after(s, at, b' ', good);
-    after(s, w.at, b'=', w.good)
-}
-
-// Whether a whole number and nothing more is written from a place on.
-fn says(s: &[u8], at: usize, good: bool, n: u64) -> bool {
-    let w = read_whole(s, at, good);
-    w.good && w.at == s.len() && w.value == n
-}
-
-// Whether two whole numbers and nothing more are written from a place on.
-fn says_two(s: &[u8], at: usize, good: bool, m: u64, n: u64) -> bool {
-    let w = read_whole(s, at, good);
-    w.value == m && says(s, w.at, w.good, n)
-}
-
-fn same_number(a: Number, b: Number) -> bool
-    ensures { result ≡ true → a ≡ b }
+// Two pairs, by two calls.
+fn of_two<F: FnOnce(Pair, Pair) -> [Answer; 2]>(mut parts: Parts, calls: F) -> Option<bool>
+    requires { F.IsAlwaysCallable calls }
 {
-    if a.significand == b.significand {
-        return same_exponent(a.exponent, b.exponent);
-    }
-    false
+    let p = parts.pair()?;
+    let q = parts.pair()?;
+    let [first, second] = calls(p, q);
+    Some(parts.agree(first)? && parts.agree(second)?)
 }
 
-fn same_pair(p: Pair, q: Pair) -> bool {
-    same_number(p.low, q.low) && same_number(p.high, q.high)
+// Three pairs in one call.
+fn of_three<F: FnOnce(Pair, Pair, Pair) -> Answer>(mut parts: Parts, call: F) -> Option<bool>
+    requires { F.IsAlwaysCallable call }
+{
+    let p = parts.pair()?;
+    let q = parts.pair()?;
+    let r = parts.pair()?;
+    parts.agree(call(p, q, r))
 }
 
-// Whether the ends of a pair and nothing more are written from a place on.
-fn says_pair(s: &[u8], at: usize, good: bool, p: Pair) -> bool {
-    let e = read_ends(s, at, good);
-    e.good && e.at == s.len() && same_pair(p, e.value)
-}
-
-// Whether the ends of two pairs and nothing more are written from a place on.
-fn says_pairs(s: &[u8], at: usize, good: bool, p: Pair, q: Pair) -> bool {
-    let e = read_ends(s, at, good);
-    same_pair(p, e.value) && says_pair(s, e.at, e.good, q)
-}
-
-// Whether an answer is the one written behind " =" at a place.
-fn same_answer(s: &[u8], at: usize, good: bool, a: Answer) -> bool {
-    let w = answer_at(s, at, good);
-    match a {
-        Answer::Is(p) => says_pair(s, w.at, w.good, p),
-        Answer::Refused => says(s, w.at, w.good, 53),
-    }
-}
-
-fn worked(operation: usize, p: Pair, q: Pair) -> Answer {
-    match operation {
-        0 => p.sum(q),
-        1 => p.product(q),
-        _ => p.quotient(q),
-    }
-}
-
-fn chained(operation: usize, a: Answer, b: Answer) -> Answer {
-    match operation {
-        0 => a.plus(b),
-        1 => a.times(b),
-        _ => a.over(b),
-    }
-}
-
-// A sum, a product or a quotient: two pairs. The call on answers must tell the same.
-fn of_two(operation: usize, s: &[u8]) -> bool {
-    let first = read_ends(s, 3, true);
-    let second = read_ends(s, first.at, first.good);
-    let p = first.value;
-    let q = second.value;
-    same_answer(s, second.at, second.good, worked(operation, p, q))
-        && same_answer(
-            s,
-            second.at,
-            second.good,
-            chained(operation, p.answer(), q.answer()),
-        )
-}
-
-// 1 − f: a pair. The call on answers must tell the same.
-fn of_rest(s: &[u8]) -> bool {
-    let p = read_ends(s, 4, true);
-    let f = p.value;
-    same_answer(s, p.at, p.good, f.one_minus())
-        && same_answer(s, p.at, p.good, f.answer().one_minus())
-}
-
-// An entry: a significand and an exponent.
-fn of_entry(s: &[u8]) -> bool {
-    let m = read_whole(s, 5, true);
-    let e = read_signed(s, m.at, m.good);
-    same_answer(s, e.at, e.good, Pair::entry(m.value, e.value))
+// A printed number: a significand and an exponent.
+fn of_entry<F: FnOnce(u64, i32) -> Answer>(mut parts: Parts, call: F) -> Option<bool>
+    requires { F.IsAlwaysCallable call }
+{
+    let m = parts.whole()?;
+    let e = parts.signed()?;
+    parts.agree(call(m, e))
 }
 
 // A comparison: two working numbers. It answers 1 for at most, 0 for above.
-fn of_compare(s: &[u8]) -> bool {
-    let a = read_number(s, 7, true);
-    let b = read_number(s, a.at, a.good);
-    let from = answer_at(s, b.at, b.good);
-    let w = a.value;
-    match w.compare(b.value) {
-        Order::AtMost => says(s, from.at, from.good, 1),
-        Order::Above => says(s, from.at, from.good, 0),
-        Order::Refused => says(s, from.at, from.good, 53),
-    }
+fn of_compare(mut parts: Parts) -> Option<bool> {
+    let a = parts.number()?;
+    let b = parts.number()?;
+    parts.says(match a.compare(b) {
+        Ok(at_most) => u64::from(at_most),
+        Err(_) => REFUSED,
+    })
 }
 
 // A count in units: a pair and the unit's exponent. It answers two counts.
-fn of_units(s: &[u8]) -> bool {
-    let p = read_ends(s, 5, true);
-    let u = read_signed(s, p.at, p.good);
-    let from = answer_at(s, u.at, u.good);
-    let q = p.value;
-    match q.in_units(u.value) {
-        Count::Is(n) => says_two(s, from.at, from.good, n.low, n.high),
-        Count::Refused => says(s, from.at, from.good, 53),
+fn of_units(mut parts: Parts) -> Option<bool> {
+    let p = parts.pair()?;
+    match p.in_units(parts.signed()?) {
+        Ok(n) => parts.says_two(n.low, n.high),
+        Err(_) => parts.says(REFUSED),
     }
-}
-
-// 1 − a printed number: a significand and an exponent.
-fn of_less(s: &[u8]) -> bool {
-    let m = read_whole(s, 4, true);
-    let e = read_signed(s, m.at, m.good);
-    same_answer(s, e.at, e.good, Pair::one_minus_entry(m.value, e.value))
 }
 
 // A long entry: the words above and below 10^18, and an exponent.
-fn of_long(s: &[u8]) -> bool {
-    let high = read_whole(s, 4, true);
-    let low = read_whole(s, high.at, high.good);
-    let e = read_signed(s, low.at, low.good);
-    same_answer(
-        s,
-        e.at,
-        e.good,
-        Pair::long_entry(high.value, low.value, e.value),
-    )
-}
-
-// A pair that is tested. Made of its ends it must be answered the same.
-fn of_checked(s: &[u8]) -> bool {
-    let e = read_ends(s, 7, true);
-    let p = e.value;
-    same_answer(s, e.at, e.good, p.checked())
-        && same_answer(s, e.at, e.good, Pair::of_ends(p.low, p.high))
-}
-
-// A product and a quotient in one call: three pairs.
-fn of_times_over(s: &[u8]) -> bool {
-    let first = read_ends(s, 9, true);
-    let by = read_ends(s, first.at, first.good);
-    let divisor = read_ends(s, by.at, by.good);
-    let p = first.value;
-    let d = divisor.value;
-    same_answer(
-        s,
-        divisor.at,
-        divisor.good,
-        p.answer().times_over(by.value, d.answer()),
-    )
-}
-
-// A sum with a product in one call: three pairs.
-fn of_plus_product(s: &[u8]) -> bool {
-    let first = read_ends(s, 11, true);
-    let a = read_ends(s, first.at, first.good);
-    let b = read_ends(s, a.at, a.good);
-    let p = first.value;
-    same_answer(s, b.at, b.good, p.answer().plus_product(a.value, b.value))
+fn of_long(mut parts: Parts) -> Option<bool> {
+    let high = parts.whole()?;
+    let low = parts.whole()?;
+    let e = parts.signed()?;
+    parts.agree(Pair::long_entry(high, low, e))
 }
 
 // Three steps in one call: a pair, and three times * or / and a pair.
-fn of_through(s: &[u8]) -> bool {
-    let start = read_ends(s, 7, true);
-    let a = read_step(s, start.at, start.good);
-    let b = read_step(s, a.at, a.good);
-    let c = read_step(s, b.at, b.good);
-    let p = start.value;
-    let first = a.step;
-    let second = b.step;
-    let third = c.step;
-    let told = p
-        .answer()
-        .through(first, a.value, second, b.value, third, c.value);
-    same_answer(s, c.at, c.good, told)
+fn of_through(mut parts: Parts) -> Option<bool> {
+    let start = parts.pair()?;
+    let (first, p) = parts.step()?;
+    let (second, q) = parts.step()?;
+    let (third, r) = parts.step()?;
+    parts.agree(start.answer().through(first, p, second, q, third, r))
 }
 
 // A step of a series: the term, the total, a factor and a divisor. It answers the next term and the total with it.
-fn of_next(s: &[u8]) -> bool {
-    let term = read_ends(s, 4, true);
-    let total = read_ends(s, term.at, term.good);
-    let factor = read_ends(s, total.at, total.good);
-    let divisor = read_ends(s, factor.at, factor.good);
-    let from = answer_at(s, divisor.at, divisor.good);
-    let t = term.value;
-    let next = t.next_term(total.value, factor.value, divisor.value);
-    if next.worked {
-        return says_pairs(s, from.at, from.good, next.term, next.total);
+fn of_next(mut parts: Parts) -> Option<bool> {
+    let term = parts.pair()?;
+    let total = parts.pair()?;
+    let factor = parts.pair()?;
+    let divisor = parts.pair()?;
+    match term.next_term(total, factor, divisor) {
+        Ok(next) => parts.says_pairs(next.term, next.total),
+        Err(_) => parts.says(REFUSED),
     }
-    says(s, from.at, from.good, 53)
 }
 
 // Whether a pair absorbs another. It answers 1 where it does, 0 where it does not.
-fn of_absorbs(s: &[u8]) -> bool {
-    let first = read_ends(s, 7, true);
-    let second = read_ends(s, first.at, first.good);
-    let from = answer_at(s, second.at, second.good);
-    let p = first.value;
-    if p.absorbs(second.value) {
-        return says(s, from.at, from.good, 1);
-    }
-    says(s, from.at, from.good, 0)
+fn of_absorbs(mut parts: Parts) -> Option<bool> {
+    let p = parts.pair()?;
+    let q = parts.pair()?;
+    parts.says(u64::from(p.absorbs(q)))
 }
 
 // A pair with so many units more in the last figure of its high end, at most 255.
-fn of_raised(s: &[u8]) -> bool {
-    let e = read_ends(s, 6, true);
-    let w = read_whole(s, e.at, e.good);
-    let n = w.value;
-    if 255 < n {
-        return false;
-    }
-    let p = e.value;
-    same_answer(s, w.at, w.good, p.raised(n as u8))
-}
-
-// Whether the library answers a line as it is written there.
-pub fn agrees(operation: usize, s: &[u8]) -> bool {
-    match operation {
-        0 | 1 | 2 => of_two(operation, s),
-        3 => of_rest(s),
-        4 => of_entry(s),
-        5 => of_compare(s),
-        6 => of_units(s),
-        7 => of_less(s),
-        8 => of_long(s),
-        9 => of_checked(s),
-        10 => of_times_over(s),
-        11 => of_plus_product(s),
-        12 => of_through(s),
-        13 => of_next(s),
-        14 => of_absorbs(s),
-        15 => of_raised(s),
-        _ => false,
-    }
+fn of_raised(mut parts: Parts) -> Option<bool> {
+    let p = parts.pair()?;
+    let n = u8::try_from(parts.whole()?).ok()?;
+    parts.agree(p.raised(n))
 }

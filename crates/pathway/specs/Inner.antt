@@ -1,6 +1,6 @@
 -- For the contracts of this crate's inner functions only.
 use Rattle.pair.specs.declared.Pair.{Pair}
-use Rattle.std.specs.Prelude.{◌≡◌, Bool, true, false}
+use Rattle.std.specs.Prelude.{◌≡◌, Bool, true, false, None}
 use Rattle.pair.specs.Calls.{Outcome, is, mapped, after, quotient}
 use Rattle.equations.specs.declared.Pathway.{Pathway}
 use Rattle.equations.specs.declared.Values.{Values}
@@ -9,7 +9,7 @@ use Rattle.media.specs.declared.AirConc.{AirConc}
 use Rattle.pathway.specs.declared.Absorbed.{Absorbed}
 use Rattle.pathway.specs.declared.References.{References}
 use Rattle.pathway.specs.declared.TimeShare.{TimeShare}
-use Rattle.pathway.specs.Lines.{none, Figured, exposure_from, air_figures_with, Breathed, by_dose, by_time}
+use Rattle.pathway.specs.Lines.{Figured, exposure_from, air_figures_with, Breathed, by_dose, by_time}
 
 -- one share for each letter of a chemical
 unfoldable pub each : Pair → Absorbed
@@ -29,5 +29,5 @@ is_timed by_dose p = false
 is_timed (by_time t) p = by_route p true false
 
 unfoldable pub timed_figures : Breathed → AirConc → References → Figured
-timed_figures by_dose air refs = record { hazard = is none; cancer = is none }
+timed_figures by_dose air refs = record { hazard = is None; cancer = is None }
 timed_figures (by_time t) air refs = air_figures_with t air refs

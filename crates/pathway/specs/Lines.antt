@@ -3,8 +3,9 @@
 -- 02, P6) the air is no dose: a share of time × the air's concentration is an exposure concentration, which goes by a reference concentration and a
 -- unit risk.
 use Rattle.pair.specs.declared.Pair.{Pair}
-use Rattle.std.specs.Prelude.{ℕ, cond, eqb}
-use Rattle.pair.specs.Calls.{Outcome, is, refused, answer, mapped, after, product, quotient}
+use Rattle.std.specs.Prelude.{ℕ, cond, eqb, Option, Some, None}
+use Rattle.std.specs.Option.{option_map}
+use Rattle.pair.specs.Calls.{Outcome, is, answer, mapped, after, product, quotient}
 use Rattle.equations.specs.declared.Pathway.{Pathway}
 use Rattle.equations.specs.declared.Pathway.TheVariants.{Air, SoilSummer, SoilWinter, Skin, AboveGround, BelowGround}
 use Rattle.equations.specs.declared.Effect.{Effect}
@@ -23,42 +24,19 @@ use Rattle.media.specs.declared.Media.{Media}
 use Rattle.pathway.specs.declared.Factor.{Factor}
 use Rattle.pathway.specs.declared.Dose.{Dose}
 use Rattle.pathway.specs.declared.Medium.{Medium}
-use Rattle.pathway.specs.declared.GivenRfd.{GivenRfd}
-use Rattle.pathway.specs.declared.GivenRfd.TheVariants as Rfds
-use Rattle.pathway.specs.declared.GivenCsf.{GivenCsf}
-use Rattle.pathway.specs.declared.GivenCsf.TheVariants as Csfs
-use Rattle.pathway.specs.declared.Printed.{Printed}
-use Rattle.pathway.specs.declared.Printed.TheVariants as Prints
+use Rattle.pathway.specs.declared.Rfd.{Rfd}
+use Rattle.pathway.specs.declared.Csf.{Csf}
+use Rattle.pathway.specs.declared.Rfc.{Rfc}
+use Rattle.pathway.specs.declared.UnitRisk.{UnitRisk}
 use Rattle.pathway.specs.declared.References.{References}
-use Rattle.pathway.specs.declared.Figure.{Figure}
-use Rattle.pathway.specs.declared.Figure.TheVariants as Figures
 use Rattle.pathway.specs.declared.Line.{Line}
 use Rattle.pathway.specs.declared.Absorbed.{Absorbed}
 use Rattle.pathway.specs.declared.Habits.{Habits}
 use Rattle.pathway.specs.declared.TimeShare.{TimeShare}
 use Rattle.pathway.specs.declared.AirExposure.{AirExposure}
-use Rattle.pathway.specs.declared.GivenRfc.{GivenRfc}
-use Rattle.pathway.specs.declared.GivenRfc.TheVariants as Rfcs
-use Rattle.pathway.specs.declared.GivenUnitRisk.{GivenUnitRisk}
-use Rattle.pathway.specs.declared.GivenUnitRisk.TheVariants as UnitRisks
-use Rattle.pathway.specs.declared.Timed.{Timed}
-use Rattle.pathway.specs.declared.Timed.TheVariants as Times
-use Rattle.pathway.specs.declared.Exposed.{Exposed}
-use Rattle.pathway.specs.declared.Exposed.TheVariants as Exposures
 use Rattle.pathway.specs.declared.InAir.{InAir}
 use Rattle.pathway.specs.declared.Breathing.{Breathing}
 use Rattle.pathway.specs.declared.Breathing.TheVariants as Breathings
-
--- a value, or none where the reference value is missing
-pub data Optional (A : Type 0) : Type 0 where
-  some : A → Optional A
-  none : Optional A
-
--- each case of an answer in document 01's numbers
-unfoldable pub figure : Figure → Outcome (Optional Pair)
-figure (Figures.Is p) = is (some p)
-figure Figures.Absent = is none
-figure Figures.Refused = refused 53
 
 -- a formula read from the values of a site, a chemical and a receptor; no factor has a series or a difference in it
 unfoldable pub worked_for : Values → Values → Values → Formula → Outcome Pair
@@ -87,63 +65,47 @@ unfoldable pub dose_for : Pathway → Outcome Factor → Media → Outcome Dose
 dose_for p f m = mapped (λ (q : Pair). record { 0 = q }) (after product (mapped (λ (g : Factor). g.0) f) (is (medium_for p m).0))
 
 -- the figure of a dose with its reference value, dose / RfD or dose × CSF; none without one, whatever the dose
-unfoldable pub figure_of : Effect → Outcome Dose → Optional Pair → Outcome (Optional Pair)
-figure_of e d (some v) = mapped (λ (q : Pair). some q) (of_two (figure_by e) (mapped (λ (g : Dose). g.0) d) (is v))
-figure_of e d none = is none
+unfoldable pub figure_of : Effect → Outcome Dose → Option Pair → Outcome (Option Pair)
+figure_of e d (Some v) = mapped (λ (q : Pair). Some q) (of_two (figure_by e) (mapped (λ (g : Dose). g.0) d) (is v))
+figure_of e d None = is None
 
-unfoldable pub rfd_value : GivenRfd → Optional Pair
-rfd_value (Rfds.Is r) = some r.0
-rfd_value Rfds.Absent = none
+unfoldable pub rfd_value : Option Rfd → Option Pair
+rfd_value = option_map (λ (r : Rfd). r.0)
 
-unfoldable pub csf_value : GivenCsf → Optional Pair
-csf_value (Csfs.Is f) = some f.0
-csf_value Csfs.Absent = none
+unfoldable pub csf_value : Option Csf → Option Pair
+csf_value = option_map (λ (f : Csf). f.0)
 
 -- what a chemical's slots hold, as reference values: the oral slots at once, the inhaled ones as the air is taken
-unfoldable pub as_rfd : Printed → GivenRfd
-as_rfd (Prints.Is p) = Rfds.Is (record { 0 = p })
-as_rfd Prints.Absent = Rfds.Absent
+unfoldable pub as_rfd : Option Pair → Option Rfd
+as_rfd = option_map (λ (p : Pair). record { 0 = p })
 
-unfoldable pub as_csf : Printed → GivenCsf
-as_csf (Prints.Is p) = Csfs.Is (record { 0 = p })
-as_csf Prints.Absent = Csfs.Absent
+unfoldable pub as_csf : Option Pair → Option Csf
+as_csf = option_map (λ (p : Pair). record { 0 = p })
 
-unfoldable pub references_from : Printed → Printed → Printed → Printed → References
+unfoldable pub references_from : Option Pair → Option Pair → Option Pair → Option Pair → References
 references_from RfDo RfDi CSFo CSFi = record { rfd_o = as_rfd RfDo; rfd_i = RfDi; csf_o = as_csf CSFo; csf_i = CSFi }
 
 -- a line's two figures, each by itself
 pub record Figured : Type 0 where
-  pub hazard : Outcome (Optional Pair)
-  pub cancer : Outcome (Optional Pair)
+  pub hazard : Outcome (Option Pair)
+  pub cancer : Outcome (Option Pair)
 
 unfoldable pub figured : Line → Figured
-figured l = record { hazard = figure l.hazard; cancer = figure l.cancer }
+figured l = record { hazard = answer l.hazard; cancer = answer l.cancer }
 
 -- ---- pathway 1 by the guidance of 2009
-unfoldable pub timed : Timed → Outcome TimeShare
-timed (Times.Is t) = is t
-timed Times.Refused = refused 53
+unfoldable pub rfc_value : Option Rfc → Option Pair
+rfc_value = option_map (λ (r : Rfc). r.0)
 
-unfoldable pub exposed : Exposed → Outcome AirExposure
-exposed (Exposures.Is x) = is x
-exposed Exposures.Refused = refused 53
-
-unfoldable pub rfc_value : GivenRfc → Optional Pair
-rfc_value (Rfcs.Is r) = some r.0
-rfc_value Rfcs.Absent = none
-
-unfoldable pub unit_risk_value : GivenUnitRisk → Optional Pair
-unit_risk_value (UnitRisks.Is r) = some r.0
-unit_risk_value UnitRisks.Absent = none
+unfoldable pub unit_risk_value : Option UnitRisk → Option Pair
+unit_risk_value = option_map (λ (r : UnitRisk). r.0)
 
 -- the slots RfDi and CSFi hold a reference concentration and a unit risk then
-unfoldable pub as_rfc : Printed → GivenRfc
-as_rfc (Prints.Is p) = Rfcs.Is (record { 0 = p })
-as_rfc Prints.Absent = Rfcs.Absent
+unfoldable pub as_rfc : Option Pair → Option Rfc
+as_rfc = option_map (λ (p : Pair). record { 0 = p })
 
-unfoldable pub as_unit_risk : Printed → GivenUnitRisk
-as_unit_risk (Prints.Is p) = UnitRisks.Is (record { 0 = p })
-as_unit_risk Prints.Absent = UnitRisks.Absent
+unfoldable pub as_unit_risk : Option Pair → Option UnitRisk
+as_unit_risk = option_map (λ (p : Pair). record { 0 = p })
 
 -- the share of the averaging time that a receptor spends in the air, as the page writes it
 unfoldable pub time_share_of : Effect → Values → Outcome TimeShare
@@ -154,9 +116,9 @@ unfoldable pub air_exposure_of : Outcome TimeShare → AirConc → Outcome AirEx
 air_exposure_of t a = mapped (λ (q : Pair). record { 0 = q }) (after product (mapped (λ (g : TimeShare). g.0) t) (is a.0))
 
 -- its figure with a reference value, exposure concentration / reference concentration or exposure concentration × 1000 × unit risk; none without one, whatever the share of time
-unfoldable pub air_figure_of : Effect → Outcome AirExposure → Optional Pair → Outcome (Optional Pair)
-air_figure_of e x (some v) = mapped (λ (q : Pair). some q) (of_two (air_figure_by e) (mapped (λ (g : AirExposure). g.0) x) (is v))
-air_figure_of e x none = is none
+unfoldable pub air_figure_of : Effect → Outcome AirExposure → Option Pair → Outcome (Option Pair)
+air_figure_of e x (Some v) = mapped (λ (q : Pair). Some q) (of_two (air_figure_by e) (mapped (λ (g : AirExposure). g.0) x) (is v))
+air_figure_of e x None = is None
 
 -- the shares of time of a receptor's lines, hazard's and cancer's
 pub record SharesOfTime : Type 0 where
@@ -164,7 +126,7 @@ pub record SharesOfTime : Type 0 where
   pub cancer : Outcome TimeShare
 
 unfoldable pub shares_of_time : InAir → SharesOfTime
-shares_of_time t = record { hazard = timed t.hazard; cancer = timed t.cancer }
+shares_of_time t = record { hazard = answer t.hazard; cancer = answer t.cancer }
 
 unfoldable pub in_air_of : Values → SharesOfTime
 in_air_of r = record { hazard = time_share_of Hazard r; cancer = time_share_of Cancer r }

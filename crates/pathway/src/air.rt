@@ -1,20 +1,16 @@
 //! Pathway 1 by the guidance of 2009 (document 02, P6): the concentration in air over a share of time, which is no dose.
-ghost use Rattle.std.specs.Prelude.{◌≡◌};
-ghost use Rattle.pair.specs.Calls.{answer};
+ghost use Rattle.std.specs.Prelude.{◌≡◌, Some};
+ghost use Rattle.pair.specs.Calls.{answer, is};
 ghost use Rattle.equations.specs.declared.Effect.TheVariants.{Hazard, Cancer};
 ghost use Rattle.equations.specs.Page.{AT, time_in_air};
 ghost use Rattle.pathway.specs.Inner.{share_with, is_timed, timed_figures};
-ghost use Rattle.pathway.specs.Lines.{worked_of, figure, figured, some, timed, exposed, rfc_value, unit_risk_value, air_exposure_of, air_figure_of, shares_of_time, in_air_of, breathed, breathed_by, air_figures_with};
+ghost use Rattle.pathway.specs.Lines.{worked_of, figured, rfc_value, unit_risk_value, air_exposure_of, air_figure_of, shares_of_time, in_air_of, breathed, breathed_by, air_figures_with};
 
-use crate::doses::worked_figure;
-use crate::given::{as_rfc, as_unit_risk, is_inhaled};
-use crate::{
-    AirExposure, Breathing, Exposed, Figure, GivenRfc, GivenUnitRisk, InAir, Line, References, Rfc,
-    TimeShare, Timed, UnitRisk,
-};
+use crate::given::is_inhaled;
+use crate::{AirExposure, Breathing, Figure, InAir, Line, References, Rfc, TimeShare, UnitRisk};
 use equations::{Effect, Pathway, Values};
 use media::AirConc;
-use pair::{Answer, Pair};
+use pair::{Answer, Chain, Pair, Refused};
 use slots::{ATC, ED, EF_INH, ET_INH, Guidance};
 
 // AT.
@@ -35,13 +31,10 @@ fn time_in_air(r: Values) -> Answer
 }
 
 // The share of time spent in the air, from that time: it / AT.
-fn share_of_time(spent: Answer, r: Values, effect: Effect) -> Timed
-    ensures { timed result ≡ share_with (answer spent) (worked_of r (AT effect)) }
+fn share_of_time(spent: Answer, r: Values, effect: Effect) -> Result<TimeShare, Refused>
+    ensures { answer result ≡ share_with (answer spent) (worked_of r (AT effect)) }
 {
-    match spent.over(averaging_time(r, effect)) {
-        Answer::Is(p) => Timed::Is(TimeShare(p)),
-        Answer::Refused => Timed::Refused,
-    }
+    Ok(TimeShare(spent.over(averaging_time(r, effect))?))
 }
 
 // The shares of time of a receptor's lines, the time in the air worked once.
@@ -66,56 +59,48 @@ pub(crate) fn breathing_of(guidance: Guidance, receptor: Values) -> Breathing
 }
 
 // Share of time × the air's concentration.
-fn exposed_of(share: Timed, air: AirConc) -> Exposed
-    ensures { exposed result ≡ air_exposure_of (timed share) air }
+fn exposed_of(share: Result<TimeShare, Refused>, air: AirConc) -> Result<AirExposure, Refused>
+    ensures { answer result ≡ air_exposure_of (answer share) air }
 {
-    let Timed::Is(t) = share else {
-        return Exposed::Refused;
-    };
-    match t.0.product(air.pair()) {
-        Answer::Is(p) => Exposed::Is(AirExposure(p)),
-        Answer::Refused => Exposed::Refused,
-    }
+    Ok(AirExposure(share?.0.product(air.pair())?))
 }
 
 // Quotient = exposure concentration / reference concentration, mg/m³ both.
-fn quotient_in_air(exposure: Exposed, rfc: Rfc) -> Figure
-    ensures { figure result ≡ air_figure_of Hazard (exposed exposure) (some rfc.0) }
+fn quotient_in_air(exposure: AirExposure, rfc: Rfc) -> Figure
+    ensures { answer result ≡ air_figure_of Hazard (is exposure) (Some rfc.0) }
 {
-    let Exposed::Is(x) = exposure else {
-        return Figure::Refused;
-    };
-    worked_figure(x.0.answer().over(rfc.0.answer()))
+    Ok(Some(exposure.0.quotient(rfc.0)?))
 }
 
 // Risk = exposure concentration × 1000 × unit risk: mg/m³, µg/mg, and per µg/m³.
-fn risk_in_air(exposure: Exposed, unit_risk: UnitRisk) -> Figure
-    ensures { figure result ≡ air_figure_of Cancer (exposed exposure) (some unit_risk.0) }
+fn risk_in_air(exposure: AirExposure, unit_risk: UnitRisk) -> Figure
+    ensures { answer result ≡ air_figure_of Cancer (is exposure) (Some unit_risk.0) }
 {
-    let Exposed::Is(x) = exposure else {
-        return Figure::Refused;
-    };
-    let micrograms = x.0.answer().times(Pair::entry(1000, 0));
-    worked_figure(micrograms.times(unit_risk.0.answer()))
+    let micrograms = exposure.0.answer().times(Pair::entry(1000, 0));
+    Ok(Some(micrograms.times(unit_risk.0.answer())?))
 }
 
-// No figure without the reference value, whatever the share of time.
-fn hazard_in_air(share: Timed, air: AirConc, rfc: GivenRfc) -> Figure
-    ensures { figure result ≡ air_figure_of Hazard (air_exposure_of (timed share) air) (rfc_value rfc) }
+// No figure without the reference value, whatever the share of time. Two functions, as for doses: the formulas and types differ.
+fn hazard_in_air(share: Result<TimeShare, Refused>, air: AirConc, rfc: Option<Rfc>) -> Figure
+    ensures { answer result ≡ air_figure_of Hazard (air_exposure_of (answer share) air) (rfc_value rfc) }
 {
-    let GivenRfc::Is(least) = rfc else {
-        return Figure::Absent;
+    let Some(least) = rfc else {
+        return Ok(None);
     };
-    quotient_in_air(exposed_of(share, air), least)
+    quotient_in_air(exposed_of(share, air)?, least)
 }
 
-fn cancer_in_air(share: Timed, air: AirConc, unit_risk: GivenUnitRisk) -> Figure
-    ensures { figure result ≡ air_figure_of Cancer (air_exposure_of (timed share) air) (unit_risk_value unit_risk) }
+fn cancer_in_air(
+    share: Result<TimeShare, Refused>,
+    air: AirConc,
+    unit_risk: Option<UnitRisk>,
+) -> Figure
+    ensures { answer result ≡ air_figure_of Cancer (air_exposure_of (answer share) air) (unit_risk_value unit_risk) }
 {
-    let GivenUnitRisk::Is(slope) = unit_risk else {
-        return Figure::Absent;
+    let Some(slope) = unit_risk else {
+        return Ok(None);
     };
-    risk_in_air(exposed_of(share, air), slope)
+    risk_in_air(exposed_of(share, air)?, slope)
 }
 
 // Both figures, from the receptor's shares of time.
@@ -127,8 +112,8 @@ fn air_figures_with(in_air: InAir, air: AirConc, references: References) -> Line
     let rfd_i = references.rfd_i;
     let csf_i = references.csf_i;
     Line {
-        hazard: hazard_in_air(noncancer, air, as_rfc(rfd_i)),
-        cancer: cancer_in_air(lifetime, air, as_unit_risk(csf_i)),
+        hazard: hazard_in_air(noncancer, air, rfd_i.map(Rfc)),
+        cancer: cancer_in_air(lifetime, air, csf_i.map(UnitRisk)),
     }
 }
 
@@ -148,8 +133,8 @@ pub(crate) fn timed_figures(breathing: Breathing, air: AirConc, references: Refe
 {
     let Breathing::Time(in_air) = breathing else {
         return Line {
-            hazard: Figure::Absent,
-            cancer: Figure::Absent,
+            hazard: Ok(None),
+            cancer: Ok(None),
         };
     };
     air_figures_with(in_air, air, references)

@@ -1,14 +1,14 @@
-//! Factors, doses and figures, each a quantity of its own. What an operation answers becomes one where it is told, and in no enum of its own between:
-//! that is some ten parts in a hundred of a report's time.
-ghost use Rattle.std.specs.Prelude.{◌≡◌};
+//! Factors, doses and figures, each a quantity of its own.
+ghost use Rattle.std.specs.Prelude.{◌≡◌, Some};
 ghost use Rattle.equations.specs.declared.Effect.TheVariants.{Hazard, Cancer};
+ghost use Rattle.pair.specs.declared.Pair.{Pair};
 ghost use Rattle.pair.specs.Calls.{is, answer, mapped, product};
-ghost use Rattle.pathway.specs.Lines.{figure, some, rfd_value, csf_value, factor_with, breathed_in, eaten, medium_for, dose_for, figure_of};
+ghost use Rattle.pathway.specs.Lines.{rfd_value, csf_value, factor_with, breathed_in, eaten, medium_for, dose_for, figure_of};
 
-use crate::{Csf, Dose, Factor, Figure, GivenCsf, GivenRfd, Medium, Rfd};
+use crate::{Csf, Dose, Factor, Figure, Medium, Rfd};
 use equations::Pathway;
 use media::{AirConc, Conc, Media};
-use pair::{Answer, Pair};
+use pair::{Answer, Chain, Refused};
 
 // Air, as a dose by the guidance of 2005 takes it.
 fn breathed_in(air: AirConc) -> Medium
@@ -38,56 +38,54 @@ fn medium_of(pathway: Pathway, media: Media) -> Medium
 }
 
 // A dose = factor × concentration.
-fn dose_of(factor: Factor, medium: Medium) -> Answer
-    ensures { answer result ≡ product factor.0 medium.0 }
+fn dose_of(factor: Factor, medium: Medium) -> Result<Dose, Refused>
+    ensures { answer result ≡ mapped (λ (q : Pair). record { 0 = q }) (product factor.0 medium.0) }
 {
-    factor.0.product(medium.0)
+    Ok(Dose(factor.0.product(medium.0)?))
 }
 
-// A worked figure.
-pub(crate) fn worked_figure(a: Answer) -> Figure
-    ensures { figure result ≡ mapped (λ (q : Pair). some q) (answer a) }
+// A pathway's dose, from exposure / B.
+fn dose_from(
+    pathway: Pathway,
+    exposure: Answer,
+    base: Answer,
+    media: Media,
+) -> Result<Dose, Refused>
+    ensures { answer result ≡ dose_for pathway (factor_with (answer exposure) (answer base)) media }
 {
-    let Answer::Is(p) = a else {
-        return Figure::Refused;
-    };
-    Figure::Is(p)
+    let factor = Factor(exposure.over(base)?);
+    dose_of(factor, medium_of(pathway, media))
 }
 
 // Quotient = dose / RfD.
 fn quotient_of(dose: Dose, rfd: Rfd) -> Figure
-    ensures { figure result ≡ figure_of Hazard (is dose) (some rfd.0) }
+    ensures { answer result ≡ figure_of Hazard (is dose) (Some rfd.0) }
 {
-    worked_figure(dose.0.answer().over(rfd.0.answer()))
+    Ok(Some(dose.0.quotient(rfd.0)?))
 }
 
 // Risk = dose × CSF.
 fn risk_of(dose: Dose, csf: Csf) -> Figure
-    ensures { figure result ≡ figure_of Cancer (is dose) (some csf.0) }
+    ensures { answer result ≡ figure_of Cancer (is dose) (Some csf.0) }
 {
-    worked_figure(dose.0.product(csf.0))
+    Ok(Some(dose.0.product(csf.0)?))
 }
 
-// The quotient of a pathway's dose, from exposure / B; no figure without the reference value, whatever the dose.
+// The quotient of a pathway's dose; no figure without the reference value, whatever the dose. It and the risk have a formula and types each, and
+// one function of both would be longer than the two.
 pub(crate) fn hazard_from(
     pathway: Pathway,
     exposure: Answer,
     base: Answer,
     media: Media,
-    rfd: GivenRfd,
+    rfd: Option<Rfd>,
 ) -> Figure
-    ensures { figure result ≡ figure_of Hazard (dose_for pathway (factor_with (answer exposure) (answer base)) media) (rfd_value rfd) }
+    ensures { answer result ≡ figure_of Hazard (dose_for pathway (factor_with (answer exposure) (answer base)) media) (rfd_value rfd) }
 {
-    let GivenRfd::Is(least) = rfd else {
-        return Figure::Absent;
+    let Some(least) = rfd else {
+        return Ok(None);
     };
-    let Answer::Is(f) = exposure.over(base) else {
-        return Figure::Refused;
-    };
-    let Answer::Is(d) = dose_of(Factor(f), medium_of(pathway, media)) else {
-        return Figure::Refused;
-    };
-    quotient_of(Dose(d), least)
+    quotient_of(dose_from(pathway, exposure, base, media)?, least)
 }
 
 // The risk, likewise.
@@ -96,18 +94,12 @@ pub(crate) fn cancer_from(
     exposure: Answer,
     base: Answer,
     media: Media,
-    csf: GivenCsf,
+    csf: Option<Csf>,
 ) -> Figure
-    ensures { figure result ≡ figure_of Cancer (dose_for pathway (factor_with (answer exposure) (answer base)) media) (csf_value csf) }
+    ensures { answer result ≡ figure_of Cancer (dose_for pathway (factor_with (answer exposure) (answer base)) media) (csf_value csf) }
 {
-    let GivenCsf::Is(slope) = csf else {
-        return Figure::Absent;
+    let Some(slope) = csf else {
+        return Ok(None);
     };
-    let Answer::Is(f) = exposure.over(base) else {
-        return Figure::Refused;
-    };
-    let Answer::Is(d) = dose_of(Factor(f), medium_of(pathway, media)) else {
-        return Figure::Refused;
-    };
-    risk_of(Dose(d), slope)
+    risk_of(dose_from(pathway, exposure, base, media)?, slope)
 }

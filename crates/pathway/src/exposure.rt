@@ -10,7 +10,7 @@ ghost use Rattle.pathway.specs.Lines.{worked_of, absorbed_of, shared, begun_in, 
 use crate::air::averaging_time;
 use crate::{Absorbed, Habits};
 use equations::{Effect, Pathway, Values};
-use pair::{Answer, Pair, Step};
+use pair::{Answer, Chain, Pair, Step};
 use slots::{
     AF_DERM, AF_INH, AF_ORAL, BW, ED, EF_INH, EF_P, EF_S, EF_W, ET_DERM, ET_INH, ET_SOIL, F_AG,
     F_BG, FR_SNOW, IR_AG, IR_BG, IR_INH, IR_SOIL, SA_B, SA_H, SAF_B, SAF_H, WP,
@@ -92,62 +92,72 @@ pub(crate) fn begun_in(habits: Habits, receptor: Values, pathway: Pathway) -> An
     }
 }
 
-fn times_three(x: Answer, a: Pair, b: Pair, c: Pair) -> Answer
-    ensures { answer result ≡ after product (after product (after product (answer x) (is a)) (is b)) (is c) }
-{
-    x.through(Step::Times, a, Step::Times, b, Step::Times, c)
+// What an exposure is worked from: the site, the receptor, the share that is absorbed, and what it begins with.
+#[derive(Clone, Copy)]
+pub(crate) struct Intake<'a> {
+    pub(crate) site: &'a Values,
+    pub(crate) receptor: &'a Values,
+    pub(crate) share: Pair,
+    pub(crate) begun: Answer,
 }
 
-fn air(s: Values, r: Values, share: Pair, begun: Answer) -> Answer
-    ensures { answer result ≡ exposure_from (answer begun) Air s (each share) r }
-{
-    let inhaled = times_three(begun, share, r.value(ET_INH), r.value(EF_INH));
-    inhaled.times(r.at(ED))
-}
+impl Intake<'_> {
+    fn times_three(&self, a: Pair, b: Pair) -> Answer
+        ensures { answer result ≡ after product (after product (after product (answer self.now.begun) (is self.now.share)) (is a)) (is b) }
+    {
+        self.begun
+            .through(Step::Times, self.share, Step::Times, a, Step::Times, b)
+    }
 
-fn soil_summer(s: Values, r: Values, share: Pair, begun: Answer) -> Answer
-    ensures { answer result ≡ exposure_from (answer begun) SoilSummer s (each share) r }
-{
-    let eaten = times_three(begun, share, r.value(ET_SOIL), r.value(EF_S));
-    eaten.times(r.at(ED)).times(per_million())
-}
+    fn air(&self) -> Answer
+        ensures { answer result ≡ exposure_from (answer self.now.begun) Air self.now.site.now (each self.now.share) self.now.receptor.now }
+    {
+        let r = self.receptor;
+        let inhaled = self.times_three(r.value(ET_INH), r.value(EF_INH));
+        inhaled.times(r.at(ED))
+    }
 
-fn soil_winter(s: Values, r: Values, share: Pair, begun: Answer) -> Answer
-    ensures { answer result ≡ exposure_from (answer begun) SoilWinter s (each share) r }
-{
-    let eaten = times_three(begun, share, s.value(FR_SNOW), r.value(ET_SOIL));
-    eaten.times(r.at(EF_W)).times(r.at(ED)).times(per_million())
-}
+    fn soil_summer(&self) -> Answer
+        ensures { answer result ≡ exposure_from (answer self.now.begun) SoilSummer self.now.site.now (each self.now.share) self.now.receptor.now }
+    {
+        let r = self.receptor;
+        let eaten = self.times_three(r.value(ET_SOIL), r.value(EF_S));
+        eaten.times(r.at(ED)).times(per_million())
+    }
 
-fn skin(s: Values, r: Values, share: Pair, begun: Answer) -> Answer
-    ensures { answer result ≡ exposure_from (answer begun) Skin s (each share) r }
-{
-    let taken = times_three(begun, share, r.value(ET_DERM), r.value(EF_S));
-    taken.times(r.at(ED)).times(per_million())
-}
+    fn soil_winter(&self) -> Answer
+        ensures { answer result ≡ exposure_from (answer self.now.begun) SoilWinter self.now.site.now (each self.now.share) self.now.receptor.now }
+    {
+        let r = self.receptor;
+        let eaten = self.times_three(self.site.value(FR_SNOW), r.value(ET_SOIL));
+        eaten.times(r.at(EF_W)).times(r.at(ED)).times(per_million())
+    }
 
-fn produce(s: Values, r: Values, share: Pair, begun: Answer) -> Answer
-    ensures { answer result ≡ exposure_from (answer begun) AboveGround s (each share) r }
-{
-    times_three(begun, share, r.value(EF_P), r.value(ED))
-}
+    fn skin(&self) -> Answer
+        ensures { answer result ≡ exposure_from (answer self.now.begun) Skin self.now.site.now (each self.now.share) self.now.receptor.now }
+    {
+        let r = self.receptor;
+        let taken = self.times_three(r.value(ET_DERM), r.value(EF_S));
+        taken.times(r.at(ED)).times(per_million())
+    }
 
-// An exposure from what it begins with and the share that is absorbed.
-pub(crate) fn exposure_from(
-    s: Values,
-    r: Values,
-    pathway: Pathway,
-    share: Pair,
-    begun: Answer,
-) -> Answer
-    ensures { answer result ≡ exposure_from (answer begun) pathway s (each share) r }
-{
-    match pathway {
-        Pathway::Air => air(s, r, share, begun),
-        Pathway::SoilSummer => soil_summer(s, r, share, begun),
-        Pathway::SoilWinter => soil_winter(s, r, share, begun),
-        Pathway::Skin => skin(s, r, share, begun),
-        Pathway::AboveGround => produce(s, r, share, begun),
-        Pathway::BelowGround => produce(s, r, share, begun),
+    fn produce(&self) -> Answer
+        ensures { answer result ≡ exposure_from (answer self.now.begun) AboveGround self.now.site.now (each self.now.share) self.now.receptor.now }
+    {
+        self.times_three(self.receptor.value(EF_P), self.receptor.value(ED))
+    }
+
+    // The exposure of a pathway.
+    pub(crate) fn exposure(&self, pathway: Pathway) -> Answer
+        ensures { answer result ≡ exposure_from (answer self.now.begun) pathway self.now.site.now (each self.now.share) self.now.receptor.now }
+    {
+        match pathway {
+            Pathway::Air => self.air(),
+            Pathway::SoilSummer => self.soil_summer(),
+            Pathway::SoilWinter => self.soil_winter(),
+            Pathway::Skin => self.skin(),
+            Pathway::AboveGround => self.produce(),
+            Pathway::BelowGround => self.produce(),
+        }
     }
 }

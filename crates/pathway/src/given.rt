@@ -1,57 +1,26 @@
 //! Reference values, made of what a chemical's slots hold: the oral ones at once, the inhaled ones by the year's guidance (document 02, P6).
 ghost use Rattle.std.specs.Prelude.{◌≡◌, true, false};
 ghost use Rattle.equations.specs.Page.{by_route};
-ghost use Rattle.pathway.specs.Lines.{as_rfd, as_csf, as_rfc, as_unit_risk, references_from};
+ghost use Rattle.pathway.specs.Lines.{as_rfd, as_csf, references_from};
 
-use crate::{
-    Csf, GivenCsf, GivenRfc, GivenRfd, GivenUnitRisk, Printed, References, Rfc, Rfd, UnitRisk,
-};
+use crate::{Csf, References, Rfd};
 use equations::Pathway;
-
-fn as_rfd(slot: Printed) -> GivenRfd
-    ensures { result ≡ as_rfd slot }
-{
-    match slot {
-        Printed::Is(p) => GivenRfd::Is(Rfd(p)),
-        Printed::Absent => GivenRfd::Absent,
-    }
-}
-
-fn as_csf(slot: Printed) -> GivenCsf
-    ensures { result ≡ as_csf slot }
-{
-    match slot {
-        Printed::Is(p) => GivenCsf::Is(Csf(p)),
-        Printed::Absent => GivenCsf::Absent,
-    }
-}
-
-pub(crate) fn as_rfc(slot: Printed) -> GivenRfc
-    ensures { result ≡ as_rfc slot }
-{
-    match slot {
-        Printed::Is(p) => GivenRfc::Is(Rfc(p)),
-        Printed::Absent => GivenRfc::Absent,
-    }
-}
-
-pub(crate) fn as_unit_risk(slot: Printed) -> GivenUnitRisk
-    ensures { result ≡ as_unit_risk slot }
-{
-    match slot {
-        Printed::Is(p) => GivenUnitRisk::Is(UnitRisk(p)),
-        Printed::Absent => GivenUnitRisk::Absent,
-    }
-}
+use pair::Pair;
 
 // A chemical's reference values, from its four slots.
-pub fn references_from(rfd_o: Printed, rfd_i: Printed, csf_o: Printed, csf_i: Printed) -> References
+#[tactic(auto, unfolding(crate::specs::Lines::references_from, crate::specs::Lines::as_rfd, crate::specs::Lines::as_csf))]
+pub fn references_from(
+    rfd_o: Option<Pair>,
+    rfd_i: Option<Pair>,
+    csf_o: Option<Pair>,
+    csf_i: Option<Pair>,
+) -> References
     ensures { result ≡ references_from rfd_o rfd_i csf_o csf_i }
 {
     References {
-        rfd_o: as_rfd(rfd_o),
+        rfd_o: rfd_o.map(Rfd),
         rfd_i,
-        csf_o: as_csf(csf_o),
+        csf_o: csf_o.map(Csf),
         csf_i,
     }
 }
@@ -60,33 +29,24 @@ pub fn references_from(rfd_o: Printed, rfd_i: Printed, csf_o: Printed, csf_i: Pr
 pub(crate) fn is_inhaled(pathway: Pathway) -> bool
     ensures { result ≡ by_route pathway true false }
 {
-    match pathway {
-        Pathway::Air => true,
-        Pathway::SoilSummer => false,
-        Pathway::SoilWinter => false,
-        Pathway::Skin => false,
-        Pathway::AboveGround => false,
-        Pathway::BelowGround => false,
-    }
+    matches!(pathway, Pathway::Air)
 }
 
 // What a dose of a pathway is set against.
-pub(crate) fn rfd_of(pathway: Pathway, references: References) -> GivenRfd
+pub(crate) fn rfd_of(pathway: Pathway, references: References) -> Option<Rfd>
     ensures { result ≡ by_route pathway (as_rfd references.rfd_i) references.rfd_o }
 {
     if is_inhaled(pathway) {
-        let slot = references.rfd_i;
-        return as_rfd(slot);
+        return references.rfd_i.map(Rfd);
     }
     references.rfd_o
 }
 
-pub(crate) fn csf_of(pathway: Pathway, references: References) -> GivenCsf
+pub(crate) fn csf_of(pathway: Pathway, references: References) -> Option<Csf>
     ensures { result ≡ by_route pathway (as_csf references.csf_i) references.csf_o }
 {
     if is_inhaled(pathway) {
-        let slot = references.csf_i;
-        return as_csf(slot);
+        return references.csf_i.map(Csf);
     }
     references.csf_o
 }

@@ -12,12 +12,12 @@ ghost use Rattle.pathway.specs.Lines as specs;
 use crate::air::{breathing_of, is_timed, timed_figures};
 use crate::doses::{cancer_from, hazard_from};
 pub use crate::exposure::absorbed_of;
-use crate::exposure::{base_of, begun_in, begun_of, exposure_from, share_of};
+use crate::exposure::{Intake, base_of, begun_in, begun_of, share_of};
 pub use crate::given::references_from;
 use crate::given::{csf_of, rfd_of};
 use equations::{Effect, Pathway, Values};
 use media::Media;
-use pair::{Answer, Pair};
+use pair::{Answer, Pair, Refused};
 use slots::Guidance;
 
 // An intake factor: what of a medium is taken in, per day and kg of body weight. Only this crate makes one, a dose and a reference value.
@@ -35,33 +35,13 @@ pub struct Rfd(Pair);
 #[derive(Clone, Copy)]
 pub struct Csf(Pair);
 
-// Reference values, which a chemical may lack.
-#[derive(Clone, Copy)]
-pub enum GivenRfd {
-    Is(Rfd),
-    Absent,
-}
-
-#[derive(Clone, Copy)]
-pub enum GivenCsf {
-    Is(Csf),
-    Absent,
-}
-
-// What a chemical's slot holds for a reference value, or nothing. It is none yet: the slot and, for what is inhaled, the year say of which kind.
-#[derive(Clone, Copy)]
-pub enum Printed {
-    Is(Pair),
-    Absent,
-}
-
 // A chemical's reference values: o oral, i inhaled. What is inhaled goes by doses or by concentrations, as the year's guidance takes the air.
 #[derive(Clone, Copy)]
 pub struct References {
-    rfd_o: GivenRfd,
-    rfd_i: Printed,
-    csf_o: GivenCsf,
-    csf_i: Printed,
+    rfd_o: Option<Rfd>,
+    rfd_i: Option<Pair>,
+    csf_o: Option<Csf>,
+    csf_i: Option<Pair>,
 }
 
 // The concentration of a pathway's own medium, as a factor takes it: of air, or of soil or produce.
@@ -69,12 +49,7 @@ pub struct References {
 pub struct Medium(Pair);
 
 // A hazard quotient or a cancer risk: the pair, none without a reference value, or document 01's 53.
-#[derive(Clone, Copy)]
-pub enum Figure {
-    Is(Pair),
-    Absent,
-    Refused,
-}
+pub type Figure = Result<Option<Pair>, Refused>;
 
 // The two figures of a report line.
 #[derive(Clone, Copy)]
@@ -117,37 +92,11 @@ pub struct Rfc(Pair);
 #[derive(Clone, Copy)]
 pub struct UnitRisk(Pair);
 
-#[derive(Clone, Copy)]
-pub enum GivenRfc {
-    Is(Rfc),
-    Absent,
-}
-
-#[derive(Clone, Copy)]
-pub enum GivenUnitRisk {
-    Is(UnitRisk),
-    Absent,
-}
-
-// A share of time, or document 01's 53.
-#[derive(Clone, Copy)]
-pub enum Timed {
-    Is(TimeShare),
-    Refused,
-}
-
-// An exposure concentration, or document 01's 53.
-#[derive(Clone, Copy)]
-pub enum Exposed {
-    Is(AirExposure),
-    Refused,
-}
-
 // The shares of time of a receptor's lines, whatever the chemical.
 #[derive(Clone, Copy)]
 pub struct InAir {
-    pub hazard: Timed,
-    pub cancer: Timed,
+    pub hazard: Result<TimeShare, Refused>,
+    pub cancer: Result<TimeShare, Refused>,
 }
 
 // How the air is taken: as a dose, by the guidance of 2005, or by that of 2009 over a share of time.
@@ -191,13 +140,13 @@ pub fn figures_with(
         let air = highest.air;
         return timed_figures(breathing, air, references);
     }
-    let exposure = exposure_from(
-        site,
-        receptor,
-        pathway,
-        share_of(pathway, absorbed),
-        begun_in(habits, receptor, pathway),
-    );
+    let intake = Intake {
+        site: &site,
+        receptor: &receptor,
+        share: share_of(pathway, absorbed),
+        begun: begun_in(habits, receptor, pathway),
+    };
+    let exposure = intake.exposure(pathway);
     let noncancer = habits.hazard;
     let lifetime = habits.cancer;
     Line {

@@ -5,6 +5,7 @@ ghost use Rattle.std.specs.Prelude.{◌≡◌};
 ghost use Rattle.powers.specs.Powers.{ten_to, above, below};
 
 // 10^n; above 19 the largest power of ten that 64 bits hold, 10^19.
+#[tactic(auto, unfolding(crate::specs::Powers::ten_to))]
 pub fn ten_to(n: u32) -> u64
     ensures { result ≡ ten_to n }
 {
@@ -33,19 +34,17 @@ pub fn ten_to(n: u32) -> u64
 }
 
 // A power of ten above 0, or 0.
+#[tactic(auto, unfolding(crate::specs::Powers::above))]
 pub fn raised(power: i32) -> u32
     ensures { result ≡ above power }
 {
-    if 0 < power { power as u32 } else { 0 }
+    power.max(0).unsigned_abs()
 }
 
-// How far a power of ten lies below 0, or 0. One is added first: the smallest i32 has no opposite.
+// How far a power of ten lies below 0, or 0.
+#[tactic(auto, unfolding(crate::specs::Powers::below))]
 pub fn lowered(power: i32) -> u32
     ensures { result ≡ below power }
 {
-    if power < 0 {
-        (0 - (power + 1)) as u32 + 1
-    } else {
-        0
-    }
+    power.min(0).unsigned_abs()
 }

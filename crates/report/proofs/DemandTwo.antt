@@ -1,4 +1,6 @@
 -- Demands 1 and 2 of document 01: the report or the first refusal, for every deck and buffer. Assumes nothing.
+use Rattle.cases.specs.declared.Stop.{Stop}
+use Rattle.std.specs.Prelude.{Ok, Err}
 use mathlib.Core.Path.{◌≡◌, refl, sym, ap, ◌∙◌, subst}
 use mathlib.Core.Bool.{Bool, true, false, cond}
 use mathlib.Core.List.{List, [], ◌∷◌, ◌++◌, append_assoc}
@@ -13,8 +15,8 @@ use Rattle.slots.specs.declared.Sort.{Sort}
 use Rattle.slots.specs.declared.Sort.TheVariants.{Ordinary}
 use Rattle.slots.specs.Slots.{Slot, place_of, at_most_one}
 use Rattle.cases.specs.declared.Case.{Case}
-use Rattle.cases.specs.declared.Status.{Status}
-use Rattle.cases.specs.declared.Status.TheVariants.{Passed, Stopped}
+use Rattle.cases.specs.Conditions.{Status}
+use Rattle.cases.specs.Conditions.{passed, stopped}
 use Rattle.cases.specs.Conditions.{Condition, first, NoneHolds}
 use Rattle.deck.specs.DeckConditions.{conditions}
 use Rattle.cases.specs.declared.Value.TheVariants as Values
@@ -31,7 +33,8 @@ use Rattle.text.specs.Text.{report_line_width, row_text, lines_text}
 use Rattle.text.proofs.Rows.{length_row, length_lines, lines_append}
 use Rattle.scenario.specs.declared.Receptor as receptors
 use Rattle.scenario.specs.declared.Receptors.{Receptors}
-use Rattle.scenario.specs.Scenario.{Scenario, chemical_in, receptor_in, stay_in, given_in, pairs_at, time_given, deposition_of, receptor_with, scenario_with, entered, entered_from, ordinary_of, exact_at, Exact}
+use Rattle.scenario.specs.declared.Scenario.{Scenario}
+use Rattle.scenario.specs.Scenario.{chemical_in, receptor_in, stay_in, given_in, pairs_at, time_given, deposition_of, receptor_with, scenario_with, entered, entered_from, ordinary_of, exact_at, Exact}
 use Rattle.sheet.specs.Sheet.{lines_per_receptor, large_lines}
 use Rattle.lists.specs.Lists.{chained}
 use Rattle.report.specs.Forms.{Form, length_of, too_short, form_conditions, Call, scenario_of, exact_of, rows_for, all_conditions, status_of, outcome_for, outcome_of, buffer_for, buffer_of}
@@ -50,32 +53,32 @@ use Rattle.deck.proofs.LinePlaces.{all_lines}
 use Rattle.report.proofs.Fitting.{SmallIds, row_fits, total_row_fits}
 
 -- ---- the first condition that holds
-record Met (cs : List Condition) (number line field : ℕ) : Type 0 where
+record Met (cs : List Condition) (halt : Stop) : Type 0 where
   before : List Condition
   met : Condition
   after : List Condition
   order : cs ≡ before ++ (met ∷ after)
   none : NoneHolds before
   holds : met.holds ≡ true
-  told : Stopped number line field ≡ Stopped met.number met.line met.field
+  told : Err halt ≡ stopped met.number met.line met.field
 
-met_here : (c : Condition) (cs : List Condition) (number line field : ℕ) (b : Bool) → c.holds ≡ b
-    → (cond b (Stopped c.number c.line c.field) (first cs) ≡ Stopped number line field)
-    → (first cs ≡ Stopped number line field → Met cs number line field) → Met (c ∷ cs) number line field
-met_here c cs number line field true h e later = record { before = []; met = c; after = cs; order = refl; none = tt; holds = h; told = sym e }
-met_here c cs number line field false h e later =
-    let m : Met cs number line field = later e in
+met_here : (c : Condition) (cs : List Condition) (halt : Stop) (b : Bool) → c.holds ≡ b
+    → (cond b (stopped c.number c.line c.field) (first cs) ≡ Err halt)
+    → (first cs ≡ Err halt → Met cs halt) → Met (c ∷ cs) halt
+met_here c cs halt true h e later = record { before = []; met = c; after = cs; order = refl; none = tt; holds = h; told = sym e }
+met_here c cs halt false h e later =
+    let m : Met cs halt = later e in
     record { before = c ∷ m.before; met = m.met; after = m.after; order = ap (λ (l : List Condition). c ∷ l) m.order; none = (h, m.none); holds = m.holds; told = m.told }
 
-stopped_met : (cs : List Condition) (number line field : ℕ) → first cs ≡ Stopped number line field → Met cs number line field
+stopped_met : (cs : List Condition) (halt : Stop) → first cs ≡ Err halt → Met cs halt
 unfolding first
-stopped_met [] number line field e = absurd (never (Stopped number line field) number line field refl (sym e))
-stopped_met (c ∷ cs) number line field e = met_here c cs number line field c.holds refl e (stopped_met cs number line field)
+stopped_met [] halt e = absurd (never (Err halt) halt refl (sym e))
+stopped_met (c ∷ cs) halt e = met_here c cs halt c.holds refl e (stopped_met cs halt)
 
-refused : (call : Call) (deck buffer : List ℕ) (number line field : ℕ) → status_of call deck (length buffer) ≡ Stopped number line field → Refused call deck buffer
+refused : (call : Call) (deck buffer : List ℕ) (halt : Stop) → status_of call deck (length buffer) ≡ Err halt → Refused call deck buffer
 unfolding status_of outcome_of outcome_for buffer_of buffer_for
-refused call deck buffer number line field e =
-    let m : Met (all_conditions call deck (length buffer)) number line field = stopped_met (all_conditions call deck (length buffer)) number line field e in
+refused call deck buffer halt e =
+    let m : Met (all_conditions call deck (length buffer)) halt = stopped_met (all_conditions call deck (length buffer)) halt e in
     record {
       before = m.before;
       met = m.met;
@@ -166,7 +169,7 @@ module _ (scenario : Scenario) where
       (at_after (chained (lines scenario j) scenario.chemicals.count) (total_row scenario j ∷ []) (scenario.chemicals.count * pathways_per_chemical) 0 (total_row scenario j) (lines_all scenario j) (alone (total_row scenario j)))
 
   -- the whole of it
-  module _ (ids : SmallIds scenario) {exact : Exact} (sound : Sound scenario exact) (small : first (large_lines scenario) ≡ Passed) where
+  module _ (ids : SmallIds scenario) {exact : Exact} (sound : Sound scenario exact) (small : first (large_lines scenario) ≡ passed) where
     printed : Sources scenario → (rest : List ℕ) → Printed scenario (lines_text (rows_of scenario) ++ rest)
     printed sources rest =
         record {
@@ -188,14 +191,14 @@ module _ (scenario : Scenario) where
 -- What the laws ask of a call: that every deck which it reads gives a sound scenario with ids of six digits, and receptors made as it says; and that it
 -- prints the report.
 pub record Sounds (call : Call) (Made : Case → Type 0) : Type 0 where
-  pub sound : (deck : List ℕ) → first (conditions call.sort deck) ≡ Passed → Sound (scenario_of call deck) (exact_of call deck)
-  pub ids : (deck : List ℕ) → first (conditions call.sort deck) ≡ Passed → SmallIds (scenario_of call deck)
-  pub made : (deck : List ℕ) → first (conditions call.sort deck) ≡ Passed → Made (case_of deck)
+  pub sound : (deck : List ℕ) → first (conditions call.sort deck) ≡ passed → Sound (scenario_of call deck) (exact_of call deck)
+  pub ids : (deck : List ℕ) → first (conditions call.sort deck) ≡ passed → SmallIds (scenario_of call deck)
+  pub made : (deck : List ℕ) → first (conditions call.sort deck) ≡ passed → Made (case_of deck)
   pub form : call.form ≡ rows_of
 
 -- none of the conditions after the deck's own holds
-pub clear : (call : Call) (deck : List ℕ) (room : ℕ) → first (all_conditions call deck room) ≡ Passed
-    → (first (conditions call.sort deck) ≡ Passed) × (first (large_lines (scenario_of call deck)) ≡ Passed)
+pub clear : (call : Call) (deck : List ℕ) (room : ℕ) → first (all_conditions call deck room) ≡ passed
+    → (first (conditions call.sort deck) ≡ passed) × (first (large_lines (scenario_of call deck)) ≡ passed)
 unfolding all_conditions form_conditions
 clear call deck room e =
     let scenario = scenario_of call deck in
@@ -204,11 +207,11 @@ clear call deck room e =
     (t.0, u.1)
 
 module _ (call : Call) (Made : Case → Type 0) (sounds : Sounds call Made) where
-  deck_sources : (deck : List ℕ) → first (conditions call.sort deck) ≡ Passed → Sources (scenario_of call deck)
+  deck_sources : (deck : List ℕ) → first (conditions call.sort deck) ≡ passed → Sources (scenario_of call deck)
   unfolding scenario_of
   deck_sources deck e = sources_of_lem call.sort (case_of deck) (accepted call.sort deck e) (call.receptors (case_of deck))
 
-  own_lines : (sort : Sort) (deck : List ℕ) → first (conditions sort deck) ≡ Passed → lines_of deck ≡ site_lines + record_lines * ((case_of deck).chemicals.count + (case_of deck).receptors.count) + 1
+  own_lines : (sort : Sort) (deck : List ℕ) → first (conditions sort deck) ≡ passed → lines_of deck ≡ site_lines + record_lines * ((case_of deck).chemicals.count + (case_of deck).receptors.count) + 1
   unfolding case_of case_with
   own_lines sort deck e = all_lines sort deck e
 
@@ -216,7 +219,7 @@ module _ (call : Call) (Made : Case → Type 0) (sounds : Sounds call Made) wher
   unfolding scenario_of scenario_with
   chemicals_own call deck = refl
 
-  reported : (deck buffer : List ℕ) → status_of call deck (length buffer) ≡ Passed → Reported call Made deck buffer
+  reported : (deck buffer : List ℕ) → status_of call deck (length buffer) ≡ passed → Reported call Made deck buffer
   unfolding status_of outcome_of outcome_for buffer_of buffer_for length_of rows_for
   reported deck buffer e =
       let scenario = scenario_of call deck in
@@ -236,8 +239,8 @@ module _ (call : Call) (Made : Case → Type 0) (sounds : Sounds call Made) wher
       }
 
   by_status : (deck buffer : List ℕ) (s : Status) → status_of call deck (length buffer) ≡ s → Reported call Made deck buffer ⊎ Refused call deck buffer
-  by_status deck buffer Passed e = inl (reported deck buffer e)
-  by_status deck buffer (Stopped number line field) e = inr (refused call deck buffer number line field e)
+  by_status deck buffer (Ok done) e = inl (reported deck buffer e)
+  by_status deck buffer (Err halt) e = inr (refused call deck buffer halt e)
 
   -- for any such call
   pub demand_2_of : Demand2 call Made

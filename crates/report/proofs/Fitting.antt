@@ -9,15 +9,15 @@ use lib.Dec.{ltb, eqb, lit≤, lit<}
 use lib.ListN.{length, get_or, take, drop, replicate, length-take, length-drop}
 use Rattle.equations.specs.declared.Effect.{Effect}
 use Rattle.equations.specs.declared.Effect.TheVariants.{Hazard, Cancer}
-use Rattle.cases.specs.declared.Status.TheVariants.{Passed}
+use Rattle.cases.specs.Conditions.{passed}
 use Rattle.cases.specs.Conditions.{first}
-use Rattle.totals.specs.declared.Columns.{Columns}
-use Rattle.totals.specs.declared.Columns.TheVariants.{Absent, Counted}
+use Rattle.std.specs.Prelude.{Some, None}
 use Rattle.sizes.specs.Sizes.{pathways_per_chemical, most_lines}
 use Rattle.spelling.specs.Columns.{id_width}
-use Rattle.totals.specs.Totals.{largest_number}
+use Rattle.totals.specs.Totals.{Columns, largest_number}
 use Rattle.text.specs.Text.{count_width, CountsFit, FitsColumns}
-use Rattle.scenario.specs.Scenario.{Scenario, chemical_in, receptor_in, Exact}
+use Rattle.scenario.specs.declared.Scenario.{Scenario}
+use Rattle.scenario.specs.Scenario.{chemical_in, receptor_in, Exact}
 use Rattle.sheet.specs.Sheet.{pathway_at, columns_at, total_at, large_lines}
 use Rattle.sheet.specs.Counts.{CountsMost}
 use Rattle.report.specs.Report.{row_at, total_row}
@@ -32,11 +32,11 @@ pub record SmallIds (scenario : Scenario) : Type 0 where
 -- ---- counts
 counts_fit : (m : ℕ) (columns : Columns) → m < 10 ^ count_width → CountsMost m columns → CountsFit columns
 unfolding CountsFit CountsMost
-counts_fit m Absent h most = tt
-counts_fit m (Counted low high) h most = (omega (arith, most.0), omega (arith, most.1))
+counts_fit m None h most = tt
+counts_fit m (Some n) h most = (omega (arith, most.0), omega (arith, most.1))
 
 -- ---- lines
-module _ (scenario : Scenario) (ids : SmallIds scenario) {exact : Exact} (sound : Sound scenario exact) (small : first (large_lines scenario) ≡ Passed) where
+module _ (scenario : Scenario) (ids : SmallIds scenario) {exact : Exact} (sound : Sound scenario exact) (small : first (large_lines scenario) ≡ passed) where
   pub row_fits : (j i p : ℕ) → j < scenario.receptors.count → i < scenario.chemicals.count → p < pathways_per_chemical → FitsColumns (row_at scenario j i p)
   unfolding row_at
   row_fits j i p a b h =

@@ -17,8 +17,8 @@ use Rattle.equations.specs.declared.Stay.{Stay}
 use Rattle.equations.specs.Page.{AT, by_medium, by_route, reference_slot, reference, intake_line, time_in_air, time_share, air_figure_by, air_line, by_guidance, line}
 use Rattle.equations.specs.Readings.{worked, paces_of, exactly}
 use Rattle.cases.specs.declared.Case.{Case}
-use Rattle.cases.specs.declared.Status.{Status}
-use Rattle.cases.specs.declared.Status.TheVariants.{Passed, Stopped}
+use Rattle.cases.specs.Conditions.{Status}
+use Rattle.cases.specs.Conditions.{passed, stopped}
 use Rattle.spelling.specs.declared.Word.TheVariants.{Blank}
 use Rattle.cases.specs.Conditions.{first}
 use Rattle.deck.specs.DeckConditions.{conditions, misspelled, misplaced, out_of_range, field_conditions}
@@ -30,7 +30,8 @@ use Rattle.deck.specs.Guidance.{year_word, is2005, without_year}
 use Rattle.cases.proofs.FirstMet.{or_else, first_append}
 use Rattle.deck.proofs.WithoutYear.{case_without, status_without, year_printed, guidance_2005, guidance_2009, read_2009}
 use Rattle.scenario.specs.declared.Receptors.{Receptors}
-use Rattle.scenario.specs.Scenario.{exact_stay, Scenario, scenario_from, scenario_with, stay_in, guidance_in, pairs_at}
+use Rattle.scenario.specs.declared.Scenario.{Scenario}
+use Rattle.scenario.specs.Scenario.{exact_stay, scenario_from, scenario_with, stay_in, guidance_in, pairs_at}
 use Rattle.sheet.specs.Sheet.{has_reference, figure_at}
 use Rattle.sheet.specs.DemandThree.{in_units_of, nothing, exact_line}
 use Rattle.sheet.proofs.YearLaws.{year_blank, entered_blank}

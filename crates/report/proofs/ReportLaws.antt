@@ -11,10 +11,11 @@ use Rattle.report.specs.Forms.{length_of}
 use Rattle.sizes.specs.Sizes.{pathways_per_chemical}
 use Rattle.cases.specs.Cases.{no_record}
 use Rattle.equations.specs.declared.Effect.TheVariants.{Hazard, Cancer}
-use Rattle.cases.specs.declared.Status.TheVariants.{Passed}
+use Rattle.cases.specs.Conditions.{passed}
 use Rattle.cases.specs.Conditions.{first}
 use Rattle.text.specs.declared.Row.{Row}
-use Rattle.scenario.specs.Scenario.{Scenario, chemical_in, receptor_in}
+use Rattle.scenario.specs.declared.Scenario.{Scenario}
+use Rattle.scenario.specs.Scenario.{chemical_in, receptor_in}
 use Rattle.lists.specs.Lists.{chained}
 use Rattle.sheet.specs.Sheet.{lines_per_receptor, large_lines}
 use Rattle.sheet.specs.Counts.{cells_of}
@@ -54,7 +55,7 @@ module _ (scenario : Scenario) where
   past_rows out rows buffer e = e ∙ ap (λ (n : ℕ). lines_text rows ++ drop n buffer) (length_is _ refl)
 
 -- ---- what the cells hold where no line is refused and none too large
-module _ (scenario : Scenario) (figured : Figured scenario) (small : first (large_lines scenario) ≡ Passed) where
+module _ (scenario : Scenario) (figured : Figured scenario) (small : first (large_lines scenario) ≡ passed) where
   module _ (j : ℕ) (here : j < scenario.receptors.count) where
     line_held : (q : ℕ) → q < scenario.chemicals.count * pathways_per_chemical
         → row_in (cells_of scenario) j (receptor_in scenario j).id (chemical_in scenario (q / pathways_per_chemical)).id q ≡ row_at scenario j (q / pathways_per_chemical) (q % pathways_per_chemical)

@@ -1,17 +1,19 @@
 -- No call on a deck tells 41, nor do the calls on a scenario in memory. Assumes nothing.
+use Rattle.std.specs.Prelude.{Ok, Err}
 use Prim.Native.Nat.{ℕ}
 use native.Mathlib.Omega.{arith}
 use mathlib.Core.Path.{◌≡◌, refl}
 use mathlib.Core.List.{List}
 use mathlib.Core.Logic.{◌≢◌}
 use lib.Dec.{lit<}
-use Rattle.cases.specs.declared.Status.{Status}
-use Rattle.cases.specs.declared.Status.TheVariants.{Passed, Stopped}
+use Rattle.cases.specs.Conditions.{Status}
+use Rattle.cases.specs.Conditions.{passed, stopped}
 use Rattle.cases.specs.Conditions.{Condition, Without, first, told_of}
 use Rattle.deck.specs.DeckConditions.{conditions}
 use Rattle.cases.proofs.FirstMet.{without_append, told_without}
 use Rattle.deck.proofs.DeckWithout.{deck_without}
-use Rattle.scenario.specs.Scenario.{Scenario, scenario_conditions}
+use Rattle.scenario.specs.declared.Scenario.{Scenario}
+use Rattle.scenario.specs.Scenario.{scenario_conditions}
 use Rattle.sheet.proofs.SheetWithout.{large_without, scenario_without, refusals_without, entered_without}
 use Rattle.text.specs.declared.Row.{Row}
 use Rattle.report.specs.Forms.{Form, too_short, form_conditions, Call, scenario_of, rows_for, all_conditions, status_of, outcome_for, outcome_of}
@@ -19,8 +21,8 @@ use Rattle.report.specs.InMemory.{on_memory, as_read, written_status, written_ou
 
 pub same_number : (s : Status) (rows : List Row) → (outcome_for s rows).number ≡ (told_of s).number
 unfolding outcome_for told_of
-same_number Passed rows = refl
-same_number (Stopped number line field) rows = refl
+same_number (Ok done) rows = refl
+same_number (Err stop) rows = refl
 
 outcome_without : (cs : List Condition) (rows : List Row) → Without 41 cs → (outcome_for (first cs) rows).number ≢ 41
 outcome_without cs rows h = rw (same_number (first cs) rows) (told_without 41 (λ e. omega arith) cs h)

@@ -1,4 +1,6 @@
 -- The rooms that a program lends are large enough: 51 is never told, and input past the deck's room changes nothing. Assumes nothing.
+use Rattle.cases.specs.declared.Stop.{Stop}
+use Rattle.std.specs.Prelude.{Ok, Err}
 use mathlib.Core.Path.{◌≡◌, refl, sym, ap, ◌∙◌}
 use mathlib.Core.Bool.{Bool, true, false}
 use mathlib.Core.List.{List}
@@ -11,8 +13,8 @@ use lib.Dec.{ltb, lit<}
 use lib.ListN.{length, take}
 use lib.Seq.{take_all, length-take-le}
 use Rattle.cases.specs.declared.Case.{Case}
-use Rattle.cases.specs.declared.Status.{Status}
-use Rattle.cases.specs.declared.Status.TheVariants.{Passed, Stopped}
+use Rattle.cases.specs.Conditions.{Status}
+use Rattle.cases.specs.Conditions.{passed, stopped}
 use Rattle.cases.specs.Conditions.{first, told_of}
 use Rattle.cases.proofs.FirstMet.{or_else, first_append, told_without}
 use Rattle.deck.specs.DeckConditions.{bad_length, conditions, max_length}
@@ -35,7 +37,7 @@ module _ (call : Call) where
   unfolding bad_length
   long_bad deck h = rw (ne_eqb (length deck) 0 (λ e. omega arith), lt-ltb (max_length call.sort) (length deck) h) refl
 
-  long_status : (deck : List ℕ) (room : ℕ) → max_length call.sort < length deck → status_of call deck room ≡ Stopped 11 0 0
+  long_status : (deck : List ℕ) (room : ℕ) → max_length call.sort < length deck → status_of call deck room ≡ stopped 11 0 0
   unfolding status_of all_conditions conditions first
   long_status deck room h = rw (long_bad deck h) refl
 
@@ -58,8 +60,8 @@ module _ (call : Call) where
 
 -- ---- a call that prints the report of so many receptors at most
 module _ (call : Call) (Made : Case → Type 0) (sounds : Sounds call Made) (most : ℕ)
-    (few : (deck : List ℕ) → first (conditions call.sort deck) ≡ Passed → (scenario_of call deck).receptors.count ≤ most) where
-  fits : (deck : List ℕ) → first (conditions call.sort deck) ≡ Passed → length_of (rows_for call deck) ≤ longest_for most
+    (few : (deck : List ℕ) → first (conditions call.sort deck) ≡ passed → (scenario_of call deck).receptors.count ≤ most) where
+  fits : (deck : List ℕ) → first (conditions call.sort deck) ≡ passed → length_of (rows_for call deck) ≤ longest_for most
   unfolding length_of rows_for lines_per_receptor
   fits deck e =
       let scenario = scenario_of call deck in
@@ -68,26 +70,26 @@ module _ (call : Call) (Made : Case → Type 0) (sounds : Sounds call Made) (mos
       mul-le-mul_left report_line_width (rw rows (mul-le-mul (few deck e) lines))
 
   -- where the deck is read, only 42 is left
-  read_status : (deck : List ℕ) → first (conditions call.sort deck) ≡ Passed → status_of call deck (longest_for most) ≡ first (large_lines (scenario_of call deck))
+  read_status : (deck : List ℕ) → first (conditions call.sort deck) ≡ passed → status_of call deck (longest_for most) ≡ first (large_lines (scenario_of call deck))
   unfolding status_of all_conditions form_conditions too_short first or_else
   read_status deck e =
       first_append (conditions call.sort deck) (form_conditions (rows_for call deck) (scenario_of call deck) (longest_for most))
       ∙ ap (λ (s : Status). or_else s (first (form_conditions (rows_for call deck) (scenario_of call deck) (longest_for most)))) e
       ∙ rw (le-ltb (longest_for most) (length_of (rows_for call deck)) (fits deck e)) refl
 
-  stopped_status : (deck : List ℕ) (number line field : ℕ) → first (conditions call.sort deck) ≡ Stopped number line field
+  stopped_status : (deck : List ℕ) (halt : Stop) → first (conditions call.sort deck) ≡ Err halt
       → status_of call deck (longest_for most) ≡ first (conditions call.sort deck)
   unfolding status_of all_conditions or_else
-  stopped_status deck number line field e =
+  stopped_status deck halt e =
       first_append (conditions call.sort deck) (form_conditions (rows_for call deck) (scenario_of call deck) (longest_for most))
       ∙ ap (λ (s : Status). or_else s (first (form_conditions (rows_for call deck) (scenario_of call deck) (longest_for most)))) e
       ∙ sym e
 
   never_if : (deck : List ℕ) (s : Status) → first (conditions call.sort deck) ≡ s → (told_of (status_of call deck (longest_for most))).number ≢ 51
-  never_if deck Passed e =
+  never_if deck (Ok done) e =
       rw (read_status deck e) (told_without 51 (λ z. omega arith) (large_lines (scenario_of call deck)) (large_without 51 (λ z. omega arith) (scenario_of call deck)))
-  never_if deck (Stopped number line field) e =
-      rw (stopped_status deck number line field e) (told_without 51 (λ z. omega arith) (conditions call.sort deck) (deck_without 51 (lit< tt) call.sort deck))
+  never_if deck (Err halt) e =
+      rw (stopped_status deck halt e) (told_without 51 (λ z. omega arith) (conditions call.sort deck) (deck_without 51 (lit< tt) call.sort deck))
 
   pub rooms_of : Rooms call (longest_for most)
   unfolding outcome_of

@@ -5,7 +5,8 @@ use Prim.Native.Nat.{ℕ}
 use mathlib.Core.List.{List}
 use Rattle.text.specs.declared.Row.{Row}
 use Rattle.slots.specs.declared.Guidance.TheVariants.{Of2005}
-use Rattle.scenario.specs.Scenario.{Scenario, chemical_in, receptor_in, guidance_in}
+use Rattle.scenario.specs.declared.Scenario.{Scenario}
+use Rattle.scenario.specs.Scenario.{chemical_in, receptor_in, guidance_in}
 use Rattle.sheet.specs.Sheet.{lines_per_receptor}
 use Rattle.lists.proofs.Chained.{chained_same}
 use Rattle.sheet.proofs.YearLaws.{year_blank, columns_same, total_same, large_same}

@@ -2,6 +2,7 @@
 -- holds, and the whole report stands in the buffer, each line the working rule's, to be read back; or one holds, the first of them is told,
 -- and no byte changed.
 use Rattle.std.specs.Prelude.{◌≡◌, Bool, true, false, not, List, ◌∷◌, ◌++◌, ◌⊎◌, ℕ, ◌+◌, ◌*◌, ◌<◌, ℤ, length, take, drop}
+use Rattle.std.specs.Option.{unwrap_or}
 use Rattle.pair.specs.declared.Pair.{Pair}
 use Rattle.pair.specs.Calls.{is, entry, one_minus_entry}
 use Rattle.slots.specs.Slots.{Slot, owner_of, place_of, at_most_one}
@@ -20,7 +21,8 @@ use Rattle.deck.specs.DeckConditions.{id_of}
 use Rattle.deck.specs.DeckCase.{chemicals_start, case_of}
 use Rattle.cases.specs.Cases.{value_at, chemical_at, receptor_at}
 use Rattle.text.specs.Text.{report_line_width, row_text, FitsColumns}
-use Rattle.scenario.specs.Scenario.{Scenario, receptor_in, stay_in, given_in, pairs_at, time_given, deposition_of, ordinary_of}
+use Rattle.scenario.specs.declared.Scenario.{Scenario}
+use Rattle.scenario.specs.Scenario.{receptor_in, stay_in, given_in, pairs_at, time_given, deposition_of, ordinary_of}
 use Rattle.sizes.specs.Sizes.{site_lines, record_lines, pathways_per_chemical}
 use Rattle.sheet.specs.Sheet.{pathway_at, has_reference, ByRule, lines_per_receptor}
 use Rattle.report.specs.Forms.{Call, scenario_of, all_conditions, length_of, outcome_of, buffer_of, rows_for}
@@ -51,9 +53,9 @@ pub record Printed (scenario : Scenario) (report : List ℕ) : Type 0 where
 -- The deck has the lines of its records and EN and no other, so that none is left out, and a record's id is that of its first line.
 pub record OwnLines (deck : List ℕ) : Type 0 where
   pub all : lines_of deck ≡ site_lines + record_lines * ((case_of deck).chemicals.count + (case_of deck).receptors.count) + 1
-  pub chemical : (i : ℕ) → i < (case_of deck).chemicals.count → (chemical_at (case_of deck) i).id ≡ id_of (line_of deck (chemicals_start + record_lines * i))
+  pub chemical : (i : ℕ) → i < (case_of deck).chemicals.count → (chemical_at (case_of deck) i).id ≡ unwrap_or (id_of (line_of deck (chemicals_start + record_lines * i))) 0
   pub receptor : (j : ℕ) → j < (case_of deck).receptors.count
-      → (receptor_at (case_of deck) j).id ≡ id_of (line_of deck (chemicals_start + record_lines * (case_of deck).chemicals.count + record_lines * j))
+      → (receptor_at (case_of deck) j).id ≡ unwrap_or (id_of (line_of deck (chemicals_start + record_lines * (case_of deck).chemicals.count + record_lines * j))) 0
 
 -- no condition holds: 0, the report's length, 0; the report, of receptors made so; and past it what was there before
 pub record Reported (call : Call) (Made : Case → Type 0) (deck buffer : List ℕ) : Type 0 where

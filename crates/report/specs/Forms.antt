@@ -1,12 +1,13 @@
 -- What the calls that print a sheet share: 51, what is told and what the buffer holds afterwards, over the rows that a form prints. Document 01's
 -- report (Report.antt) is a form; another sheet over the same scenarios is another.
+use Rattle.std.specs.Prelude.{Ok, Err}
 use Rattle.std.specs.Prelude.{ℕ, ◌*◌, List, ◌∷◌, ◌++◌, ltb, length, drop}
 use Rattle.pair.specs.Fraction.{Fraction}
 use Rattle.slots.specs.declared.Sort.{Sort}
 use Rattle.slots.specs.Slots.{Slot}
 use Rattle.cases.specs.declared.Case.{Case}
-use Rattle.cases.specs.declared.Status.{Status}
-use Rattle.cases.specs.declared.Status.TheVariants.{Passed, Stopped}
+use Rattle.cases.specs.Conditions.{Status}
+use Rattle.cases.specs.Conditions.{passed, stopped}
 use Rattle.cases.specs.declared.Told.{Told}
 use Rattle.cases.specs.Conditions.{Condition, at, first}
 use Rattle.deck.specs.DeckConditions.{conditions}
@@ -14,7 +15,8 @@ use Rattle.deck.specs.DeckCase.{case_of}
 use Rattle.text.specs.declared.Row.{Row}
 use Rattle.text.specs.Text.{report_line_width, lines_text}
 use Rattle.scenario.specs.declared.Receptors.{Receptors}
-use Rattle.scenario.specs.Scenario.{Scenario, scenario_with, exact_with}
+use Rattle.scenario.specs.declared.Scenario.{Scenario}
+use Rattle.scenario.specs.Scenario.{scenario_with, exact_with}
 use Rattle.sheet.specs.Sheet.{large_lines}
 
 -- a form: the rows that it prints of a scenario
@@ -34,13 +36,13 @@ form_conditions rows scenario room = too_short rows room ∷ large_lines scenari
 -- ---- what is told, and the buffer afterwards
 -- success returns 0, the rows' length, 0; a refusal its number, line and field
 unfoldable pub outcome_for : Status → List Row → Told
-outcome_for Passed rows = record { number = 0; line = length_of rows; field = 0 }
-outcome_for (Stopped number line field) rows = record { number = number; line = line; field = field }
+outcome_for (Ok done) rows = record { number = 0; line = length_of rows; field = 0 }
+outcome_for (Err stop) rows = record { number = stop.number; line = stop.line; field = stop.field }
 
 -- the rows, and past them what was there before; a refusal changes no byte
 unfoldable pub buffer_for : Status → List Row → List ℕ → List ℕ
-buffer_for Passed rows buffer = lines_text rows ++ drop (length_of rows) buffer
-buffer_for (Stopped number line field) rows buffer = buffer
+buffer_for (Ok done) rows buffer = lines_text rows ++ drop (length_of rows) buffer
+buffer_for (Err stop) rows buffer = buffer
 
 -- ---- A call on a deck: the sort of deck that it reads, the receptors that it makes of the case, as pairs and exactly, and the form that it prints.
 pub record Call : Type 0 where

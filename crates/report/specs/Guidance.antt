@@ -11,7 +11,7 @@ use Rattle.equations.specs.Formula.{Formula, letter, slot, ◌⊗◌, ◌⊘◌}
 use Rattle.equations.specs.Letters.{ETinh, EFinh, ED, ATc}
 use Rattle.equations.specs.Page.{days_per_year, thousand, A, intake_line}
 use Rattle.equations.specs.Readings.{worked, paces_of, exactly}
-use Rattle.cases.specs.declared.Status.TheVariants.{Passed}
+use Rattle.cases.specs.Conditions.{passed}
 use Rattle.cases.specs.Conditions.{first}
 use Rattle.spelling.specs.declared.Word.TheVariants.{Blank}
 use Rattle.deck.specs.Parts.{deck_line_width}
@@ -53,7 +53,7 @@ pub record As2009 (call : Call) (deck : List ℕ) : Type 0 where
   -- the line of every other pathway is that of an intake, as by 2005
   pub other : (e : Effect) (j i : ℕ) (p : Pathway) → (p ≡ Air → ⊥) → LineIs call deck e j i p (λ stay. intake_line e stay p)
   -- and no condition of slot 12 holds
-  pub year : (n f : ℕ) → first (field_conditions guidance_year (year_word deck) n f) ≡ Passed
+  pub year : (n f : ℕ) → first (field_conditions guidance_year (year_word deck) n f) ≡ passed
 
 unfoldable pub Law2009 : Call → Type 0
 Law2009 call = (deck : List ℕ) → is2009 (year_word deck) ≡ true → As2009 call deck

@@ -1,12 +1,13 @@
 -- A sheet of a scenario in memory, by any form: where it stops and what is written. For the scenario of a deck that is read these are the call's own
 -- (Forms.antt): `proofs/CallLaws.antt`.
 use Rattle.std.specs.Prelude.{ℕ, List, ◌∷◌, ◌++◌, length}
-use Rattle.cases.specs.declared.Status.{Status}
+use Rattle.cases.specs.Conditions.{Status}
 use Rattle.cases.specs.declared.Told.{Told}
 use Rattle.cases.specs.Conditions.{Condition, at, first}
 use Rattle.text.specs.declared.Row.{Row}
 use Rattle.sheet.specs.Counts.{miscounted, refusals, entered_conditions}
-use Rattle.scenario.specs.Scenario.{Scenario, scenario_conditions}
+use Rattle.scenario.specs.declared.Scenario.{Scenario}
+use Rattle.scenario.specs.Scenario.{scenario_conditions}
 use Rattle.report.specs.Forms.{Form, too_short, outcome_for, buffer_for}
 
 -- where a report stops: by which list

@@ -5,7 +5,8 @@ use Rattle.lists.specs.Lists.{chained}
 use Rattle.slots.specs.declared.Sort.TheVariants.{Ordinary}
 use Rattle.equations.specs.declared.Effect.TheVariants.{Hazard, Cancer}
 use Rattle.text.specs.declared.Row.{Row}
-use Rattle.scenario.specs.Scenario.{Scenario, chemical_in, receptor_in, entered_from, exact_from}
+use Rattle.scenario.specs.declared.Scenario.{Scenario}
+use Rattle.scenario.specs.Scenario.{chemical_in, receptor_in, entered_from, exact_from}
 use Rattle.sheet.specs.Sheet.{pathway_at, columns_at, total_at}
 use Rattle.report.specs.Forms.{Call}
 

@@ -7,7 +7,6 @@ ghost use Rattle.std.specs.Prelude.{◌≡◌, ◌*◌, ◌≤◌, length, take}
 ghost use Rattle.sizes.specs.Sizes.{max_chemicals, most_receptors};
 ghost use Rattle.text.specs.Text.{report_line_width};
 ghost use Rattle.slots.specs.declared.Sort.TheVariants.{Ordinary};
-ghost use Rattle.scenario.specs.Scenario.{scenario_from};
 ghost use Rattle.report.specs.Forms.{outcome_of, buffer_of};
 ghost use Rattle.report.specs.Report.{rows_of, ordinary};
 ghost use Rattle.report.specs.InMemory.{on_memory, as_read, written_outcome, written_buffer};
@@ -15,8 +14,9 @@ ghost use Rattle.report.specs.Inner.{per_receptor, from_room};
 ghost use Rattle.report.specs.Rooms.{deck_room, longest_report};
 
 use crate::rows::write_rows;
-use cases::{Chemicals, Record, Status, Told, Verdict};
-use scenario::Receptors;
+use cases::numbers::{MISCOUNTED, TOO_SHORT};
+use cases::{Refusal, Told};
+use scenario::Scenario;
 use sheet::CELLS;
 use sizes::{MAX_CHEMICALS, MAX_RECEPTORS, PATHWAYS};
 use slots::Sort;
@@ -27,10 +27,6 @@ pub const MAX_REPORT: usize = LINE_WIDTH * MAX_RECEPTORS * (MAX_CHEMICALS * PATH
 
 // A byte more than the longest deck: input that fills it is no deck, whatever is in it.
 pub const DECK_ROOM: usize = deck::MAX_LENGTH + 1;
-
-const MISCOUNTED: u32 = 21;
-
-const TOO_SHORT: u32 = 51;
 
 // How many bytes a report has for so many chemicals and receptors.
 fn length_of(chemicals: usize, receptors: usize) -> usize
@@ -51,28 +47,23 @@ fn refused(number: u32) -> Told
     }
 }
 
-// The report of a scenario for whose records there is room, from 51 on.
-fn write_from(
-    tested: bool,
-    site: Record,
-    chemicals: Chemicals,
-    receptors: Receptors,
-    out: &mut [u8],
-) -> Told
-    requires { (chemicals.count ≤ max_chemicals) × (receptors.count ≤ most_receptors) }
-    ensures value { result ≡ written_outcome (from_room tested) rows_of (scenario_from site chemicals receptors) (length out.old) }
-    ensures out_after { out.new ≡ written_buffer (from_room tested) rows_of (scenario_from site chemicals receptors) out.old }
+// The report of a scenario for whose records there is room, from 51 on. That its values were tested is a bool, as in the definitions
+// (`from_room tested`).
+fn write_from(tested: bool, scenario: &Scenario, out: &mut [u8]) -> Told
+    requires { (scenario.now.chemicals.count ≤ max_chemicals) × (scenario.now.receptors.count ≤ most_receptors) }
+    ensures value { result ≡ written_outcome (from_room tested) rows_of scenario.now (length out.old) }
+    ensures out_after { out.new ≡ written_buffer (from_room tested) rows_of scenario.now out.old }
 {
-    let length = length_of(chemicals.count, receptors.count);
+    let length = length_of(scenario.chemicals.count, scenario.receptors.count);
     if out.len() < length {
         return refused(TOO_SHORT);
     }
     let mut cells = [0u64; CELLS];
-    let worked = sheet::counts_from(tested, site, chemicals, receptors, &mut cells);
-    let Status::Passed = worked else {
-        return cases::tell(worked);
-    };
-    write_rows(out, &cells, chemicals, receptors);
+    let worked = sheet::counts_from(tested, scenario, &mut cells);
+    if let Err(stop) = worked {
+        return cases::tell(Err(stop));
+    }
+    write_rows(out, &cells, scenario);
     Told {
         number: 0,
         line: length,
@@ -82,37 +73,30 @@ fn write_from(
 
 // The report of a scenario into the buffer, whatever its values are: 0, the report's length, 0; or the number, line and field of the first
 // condition that stops it, and the buffer as it was.
-pub fn write_report(
-    site: Record,
-    chemicals: Chemicals,
-    receptors: Receptors,
-    out: &mut [u8],
-) -> Told
-    ensures value { result ≡ written_outcome on_memory rows_of (scenario_from site chemicals receptors) (length out.old) }
-    ensures out_after { out.new ≡ written_buffer on_memory rows_of (scenario_from site chemicals receptors) out.old }
+pub fn write_report(scenario: &Scenario, out: &mut [u8]) -> Told
+    ensures value { result ≡ written_outcome on_memory rows_of scenario.now (length out.old) }
+    ensures out_after { out.new ≡ written_buffer on_memory rows_of scenario.now out.old }
 {
-    let verdict = scenario::scenario_verdict(site, chemicals, receptors);
-    if let Verdict::Refused(number) = verdict {
+    if let Err(Refusal(number)) = scenario.verdict() {
         return refused(number);
     }
-    write_from(false, site, chemicals, receptors, out)
+    write_from(false, scenario, out)
 }
 
 // The same of values that a deck's reading has tested, and that are not tested again. Every call on a deck ends here, however it made its
 // receptors.
-pub fn write_entered(
-    site: Record,
-    chemicals: Chemicals,
-    receptors: Receptors,
-    out: &mut [u8],
-) -> Told
-    ensures value { result ≡ written_outcome as_read rows_of (scenario_from site chemicals receptors) (length out.old) }
-    ensures out_after { out.new ≡ written_buffer as_read rows_of (scenario_from site chemicals receptors) out.old }
+pub fn write_entered(scenario: &Scenario, out: &mut [u8]) -> Told
+    ensures value { result ≡ written_outcome as_read rows_of scenario.now (length out.old) }
+    ensures out_after { out.new ≡ written_buffer as_read rows_of scenario.now out.old }
 {
-    if cases::counts_outside(Sort::Ordinary, chemicals.count, receptors.count) {
+    if cases::counts_outside(
+        Sort::Ordinary,
+        scenario.chemicals.count,
+        scenario.receptors.count,
+    ) {
         return refused(MISCOUNTED);
     }
-    write_from(true, site, chemicals, receptors, out)
+    write_from(true, scenario, out)
 }
 
 // The report of an ordinary deck into the buffer.
@@ -120,13 +104,16 @@ pub fn report(deck: &[u8], out: &mut [u8]) -> Told
     ensures value { result ≡ outcome_of ordinary deck.now (length out.old) }
     ensures out_after { out.new ≡ buffer_of ordinary deck.now out.old }
 {
-    let reading = deck::read(deck, Sort::Ordinary);
-    let status = reading.status;
-    let Status::Passed = status else {
-        return cases::tell(status);
+    let case = match deck::read(deck, Sort::Ordinary) {
+        Ok(case) => case,
+        Err(stop) => return cases::tell(Err(stop)),
     };
-    let receptors = scenario::entered_from(reading.case);
-    write_entered(reading.case.site, reading.case.chemicals, receptors, out)
+    let scenario = Scenario {
+        site: case.site,
+        chemicals: case.chemicals,
+        receptors: scenario::entered_from(&case),
+    };
+    write_entered(&scenario, out)
 }
 
 // The report of the first n bytes of the input, with room for every deck and a byte more and for every report: 51 is never told

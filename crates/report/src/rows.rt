@@ -6,7 +6,7 @@ ghost use Rattle.report.specs.Inner.{per_receptor, row_in, total_row_in, rows_in
 
 use cases::Chemicals;
 use equations::Effect;
-use scenario::Receptors;
+use scenario::Scenario;
 use sizes::PATHWAYS;
 use text::{LINE_WIDTH, Row, put_row};
 
@@ -35,41 +35,40 @@ fn total_row(cells: &[u64], receptor: usize, id: u32, lines: usize) -> Row
     }
 }
 
-// Writes a receptor's lines and its total line into their part of the report.
-fn write_receptor(part: &mut [u8], cells: &[u64], receptor: usize, id: u32, chemicals: Chemicals)
-    requires count_le_max_chemicals { chemicals.count ≤ max_chemicals }
-    requires part_len { length part.old ≡ report_line_width * per_receptor chemicals.count }
-    ensures { part.new ≡ lines_text (rows_in cells.now receptor id chemicals) }
+// Writes a receptor's lines and its total line into their part of the report. Each is lent a whole line, so that no line is too short.
+fn write_receptor(part: &mut [u8], cells: &[u64], receptor: usize, id: u32, chemicals: &Chemicals)
+    requires count_le_max_chemicals { chemicals.now.count ≤ max_chemicals }
+    requires part_len { length part.old ≡ report_line_width * per_receptor chemicals.now.count }
+    ensures { part.new ≡ lines_text (rows_in cells.now receptor id chemicals.now) }
 {
     let count = chemicals.count * PATHWAYS;
-    let mut q: usize = 0;
-    while q < count {
-        let next = q + 1;
+    for q in 0..count {
         let chemical = chemicals.records[q / PATHWAYS];
         let row = row_of(cells, receptor, id, chemical.id, q);
         let at = LINE_WIDTH * q;
-        put_row(&mut part[at..at + LINE_WIDTH], row);
-        q = next;
+        let _ = put_row(&mut part[at..at + LINE_WIDTH], row);
     }
     let row = total_row(cells, receptor, id, count);
     let at = LINE_WIDTH * count;
-    put_row(&mut part[at..at + LINE_WIDTH], row);
+    let _ = put_row(&mut part[at..at + LINE_WIDTH], row);
 }
 
 // Writes the report from the start of the buffer.
-pub(crate) fn write_rows(out: &mut [u8], cells: &[u64], chemicals: Chemicals, receptors: Receptors)
-    requires count_le_max_chemicals { (chemicals.count ≤ max_chemicals) × (receptors.count ≤ most_receptors) }
-    requires count_in_bounds { report_line_width * (receptors.count * per_receptor chemicals.count) ≤ length out.old }
-    ensures { out.new ≡ lines_text (report_in cells.now chemicals receptors.list receptors.count) ++ drop (report_line_width * (receptors.count * per_receptor chemicals.count)) out.old }
+pub(crate) fn write_rows(out: &mut [u8], cells: &[u64], scenario: &Scenario)
+    requires count_le_max_chemicals { (scenario.now.chemicals.count ≤ max_chemicals) × (scenario.now.receptors.count ≤ most_receptors) }
+    requires count_in_bounds { report_line_width * (scenario.now.receptors.count * per_receptor scenario.now.chemicals.count) ≤ length out.old }
+    ensures { out.new ≡ lines_text (report_in cells.now scenario.now.chemicals scenario.now.receptors.list scenario.now.receptors.count) ++ drop (report_line_width * (scenario.now.receptors.count * per_receptor scenario.now.chemicals.count)) out.old }
 {
-    let count = receptors.count;
-    let width = LINE_WIDTH * (chemicals.count * PATHWAYS + 1);
-    let mut j: usize = 0;
-    while j < count {
-        let next = j + 1;
-        let receptor = receptors.list[j];
+    let width = LINE_WIDTH * (scenario.chemicals.count * PATHWAYS + 1);
+    for j in 0..scenario.receptors.count {
+        let receptor = scenario.receptors.list[j];
         let at = width * j;
-        write_receptor(&mut out[at..at + width], cells, j, receptor.id, chemicals);
-        j = next;
+        write_receptor(
+            &mut out[at..at + width],
+            cells,
+            j,
+            receptor.id,
+            &scenario.chemicals,
+        );
     }
 }

@@ -18,20 +18,28 @@ const DECK_ROOM: usize = MAX_COMPOSITE_LENGTH + LINE_WIDTH;
 
 const REPORT_ROOM: usize = report::MAX_REPORT + 700;
 
+// A deck, the buffer that the call writes into, and what that must then be.
+#[derive(Drop)]
+struct Rooms {
+    deck: [u8; DECK_ROOM],
+    buffer: [u8; REPORT_ROOM],
+    expected: [u8; REPORT_ROOM],
+}
+
 // Whether the call was lent the buffer and told what is stored.
 fn agrees(head: Head, room: usize, told: Told) -> bool {
-    head.numbers[1] == room as u64
-        && head.numbers[2] == told.number as u64
-        && head.numbers[3] == told.line as u64
-        && head.numbers[4] == told.field as u64
+    let [_, lent, number, line, field] = head;
+    lent == room as u64
+        && number == told.number as u64
+        && line == told.line as u64
+        && field == told.field as u64
 }
 
 // How many report bytes follow the deck.
 fn report_length(head: Head) -> u64 {
-    if head.numbers[2] == 0 {
-        head.numbers[3]
-    } else {
-        0
+    match head {
+        [_, _, 0, line, _] => line,
+        _ => 0,
     }
 }
 
@@ -51,86 +59,48 @@ fn reported(sort: Sort, deck: &[u8], buffer: &mut [u8]) -> Told {
     }
 }
 
-// Runs a deck in as much of a filled buffer as its head asks for. The whole buffer must then be the one that is expected.
-fn answered<W: Write>(
+// Runs the deck behind its head in the file, in as much of a filled buffer as the head asks for. The whole buffer must then be the one that is
+// expected.
+fn next<R: Read, W: Write>(
+    rooms: &mut Rooms,
     to: &mut W,
     sort: Sort,
     head: Head,
-    deck: &[u8],
-    buffer: &mut [u8],
-    expected: &[u8],
+    file: &mut R,
     tally: Tally,
-) -> io::Result<Tally> {
+) -> io::Result<Option<Tally>> {
+    let length = report_length(head);
+    trials::fill(&mut rooms.expected);
+    let n = trials::next_part(file, &mut rooms.deck, head[0]);
+    let m = trials::next_part(file, &mut rooms.expected, length);
+    if n as u64 != head[0] || m as u64 != length {
+        return Ok(None);
+    }
+    let buffer = &mut rooms.buffer[..];
     trials::fill(buffer);
-    let room = trials::room(head.numbers[1], buffer);
-    let told = reported(sort, deck, &mut buffer[..room]);
-    let right = agrees(head, room, told) && *buffer == *expected;
+    let room = trials::room(head[1], buffer);
+    let told = reported(sort, &rooms.deck[..n], &mut buffer[..room]);
+    let right = agrees(head, room, told) && rooms.buffer == rooms.expected;
     let all = tally.with(told.number != 0, right);
     if !right {
         put_difference(to, all.run, told)?;
     }
-    Ok(all)
-}
-
-// The deck that stands next in the file, in lent buffers.
-fn next_in<R: Read, W: Write>(
-    deck: &mut [u8],
-    buffer: &mut [u8],
-    expected: &mut [u8],
-    file: &mut R,
-    to: &mut W,
-    sort: Sort,
-    tally: Tally,
-) -> io::Result<Tally> {
-    let head = trials::next_head(file);
-    let length = report_length(head);
-    trials::fill(expected);
-    let n = trials::next_part(file, deck, head.numbers[0]);
-    let m = trials::next_part(file, expected, length);
-    if !head.good || n as u64 != head.numbers[0] || m as u64 != length {
-        return Ok(tally.end());
-    }
-    answered(to, sort, head, &deck[..n], buffer, expected, tally)
-}
-
-fn next<R: Read, W: Write>(
-    file: &mut R,
-    to: &mut W,
-    sort: Sort,
-    tally: Tally,
-) -> io::Result<Tally> {
-    let mut deck = [0u8; DECK_ROOM];
-    let mut buffer = [0u8; REPORT_ROOM];
-    let mut expected = [0u8; REPORT_ROOM];
-    next_in(&mut deck, &mut buffer, &mut expected, file, to, sort, tally)
-}
-
-// Each deck in turn, up to the file's end.
-fn trial<R: Read, W: Write>(file: &mut R, to: &mut W, sort: Sort) -> io::Result<Tally> {
-    let mut tally = Tally::new();
-    for _ in 0..trials::MOST {
-        tally = next(file, to, sort, tally)?;
-        if tally.ended {
-            break;
-        }
-    }
-    Ok(tally)
+    Ok(Some(all))
 }
 
 // The file's decks, each one of this sort; none where it cannot be opened.
 fn run(rt: &(impl Files + Print + Eprint), path: &str, sort: Sort) -> io::Result<()> {
-    let mut out = io::writer(rt);
-    let all = match trials::open(rt, path.as_bytes()) {
-        Some(mut file) => trial(&mut file, &mut out, sort)?,
-        None => Tally::new(),
+    let mut rooms = Rooms {
+        deck: [0; DECK_ROOM],
+        buffer: [0; REPORT_ROOM],
+        expected: [0; REPORT_ROOM],
     };
+    let mut out = io::writer(rt);
+    let all = Tally::of_file(rt, path, |head, file, tally| {
+        next(&mut rooms, &mut out, sort, head, file, tally)
+    })?;
     said(&mut out, b"decks ", all.run, b"\n")?;
-    said(
-        &mut out,
-        b"accepted ",
-        trials::others(all.run, all.refused),
-        b"\n",
-    )?;
+    said(&mut out, b"accepted ", all.accepted(), b"\n")?;
     said(&mut out, b"refused ", all.refused, b"\n")?;
     said(&mut out, b"differing ", all.failed, b"\n")
 }

@@ -35,11 +35,10 @@ use Rattle.equations.proofs.LineLaws.{of_printed, of_slot, of_rest, of_later, In
 use Rattle.cases.specs.declared.Case.{Case}
 use Rattle.cases.specs.declared.Value.{Value}
 use Rattle.cases.specs.declared.Value.TheVariants.{Absent, Given}
-use Rattle.cases.specs.declared.Filled.{Filled}
 use Rattle.cases.specs.declared.Record.{Record}
 use Rattle.powers.specs.Powers.{above, below}
 use Rattle.cases.specs.Ranges.{in_range}
-use Rattle.cases.specs.Cases.{no_slot, value_at, chemical_at, receptor_at, owners_record, given, is_other_year}
+use Rattle.cases.specs.Cases.{value_at, chemical_at, receptor_at, owners_record, given, is_other_year}
 use Rattle.cases.specs.CaseConditions.{lacks}
 use Rattle.cases.specs.Ranged.{Spelled, Fits, Ranged}
 use Rattle.cases.proofs.Complete.{lacks_none}
@@ -49,7 +48,8 @@ use Rattle.lists.specs.Lists.{tabulate}
 use Rattle.lists.proofs.ListLaws.{read_any}
 use Rattle.scenario.specs.declared.Receptor as receptors
 use Rattle.scenario.specs.declared.Receptors.{Receptors}
-use Rattle.scenario.specs.Scenario.{Scenario, or_no_pair, ids_of, pair_of, rest_of, values_of, no_receptor, chemical_in, receptor_in, stay_in, given_in, pairs_at, scenario_with, fraction_of, exact_with, no_guidance, stay_by, exact_stay}
+use Rattle.scenario.specs.declared.Scenario.{Scenario}
+use Rattle.scenario.specs.Scenario.{or_no_pair, ids_of, pair_of, rest_of, values_of, no_receptor, chemical_in, receptor_in, stay_in, given_in, pairs_at, scenario_with, fraction_of, exact_with, no_guidance, stay_by, exact_stay}
 use Rattle.scenario.proofs.Sound.{Sound}
 use Rattle.scenario.proofs.ValueLaws.{told_is}
 
@@ -191,7 +191,7 @@ value_entered sort s m e f = entry_is (printed_printable sort s m e f)
 -- ---- the pair at a place of a record is the pair of what is printed there
 pub value_at_lem : (r : Record) (k : ℕ) → value_in (values_of r) k ≡ pair_of (value_at r k)
 unfolding value_in values_of value_at pair_of
-value_at_lem r k = get_or-map (λ (s : Filled). pair_of s.value) r.slots k no_slot
+value_at_lem r k = get_or-map pair_of r.slots k Absent
 
 absent_printed : {power : ℤ} {digits : ℕ} → Absent ≡ Given power digits → ⊥
 absent_printed e = let z : ◌≡◌ {A = ℕ} 0 1 = cc in omega arith

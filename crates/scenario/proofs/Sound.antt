@@ -12,7 +12,8 @@ use Rattle.slots.specs.declared.Sort.TheVariants.{Ordinary}
 use Rattle.cases.specs.CaseConditions.{lacks}
 use Rattle.equations.proofs.LineLaws.{of_later, InRange}
 use Rattle.sizes.specs.Sizes.{max_chemicals, most_receptors}
-use Rattle.scenario.specs.Scenario.{Scenario, chemical_in, stay_in, pairs_at, no_guidance, Exact, exact_stay}
+use Rattle.scenario.specs.declared.Scenario.{Scenario}
+use Rattle.scenario.specs.Scenario.{chemical_in, stay_in, pairs_at, no_guidance, Exact, exact_stay}
 
 pub record Sound (scenario : Scenario) (exact : Exact) : Type 0 where
   pub some_chemicals : 1 ≤ scenario.chemicals.count

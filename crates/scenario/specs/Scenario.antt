@@ -17,7 +17,6 @@ use Rattle.equations.specs.declared.Stay.TheVariants.{Within, Beyond}
 use Rattle.equations.specs.Readings.{Inputs, by_owner, inputs}
 use Rattle.cases.specs.declared.Case.{Case}
 use Rattle.cases.specs.declared.Chemicals.{Chemicals}
-use Rattle.cases.specs.declared.Filled.{Filled}
 use Rattle.cases.specs.declared.Ids.{Ids}
 use Rattle.cases.specs.declared.Record.{Record}
 use Rattle.cases.specs.declared.Value.{Value}
@@ -29,6 +28,7 @@ use Rattle.lists.specs.Lists.{tabulate, any_of}
 use Rattle.scenario.specs.declared.Receptor.{Receptor}
 use Rattle.scenario.specs.declared.Receptors.{Receptors}
 use Rattle.sizes.specs.Sizes.{max_chemicals, most_receptors, most_stages, slots_per_record}
+use Rattle.scenario.specs.declared.Scenario.{Scenario}
 use Rattle.scenario.specs.declared.Site.{Site}
 
 -- what is no pair, from 1 down to 0: every call refuses it, so that no figure is worked from it
@@ -64,7 +64,7 @@ rest_of Absent = zero_pair
 
 -- a record's, place by place
 unfoldable pub values_of : Record → Values
-values_of r = record { list = map (λ (s : Filled). pair_of s.value) r.slots }
+values_of r = record { list = map pair_of r.slots }
 
 -- the particle share of a chemical, 1 − Fv
 unfoldable pub particles_of : Record → Pair
@@ -72,11 +72,6 @@ particles_of r = rest_of (value_at r (place_of "Fv"))
 
 -- ---- a scenario: a site and chemicals as given, and receptors made of pairs. Whether a receptor's values were printed or made of life stages,
 -- nothing after this asks.
-pub record Scenario : Type 0 where
-  pub site : Record
-  pub chemicals : Chemicals
-  pub receptors : Receptors
-
 abbrev pub scenario_from : Record → Chemicals → Receptors → Scenario
 scenario_from site' chemicals' receptors' = record { site = site'; chemicals = chemicals'; receptors = receptors' }
 

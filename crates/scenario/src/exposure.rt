@@ -1,17 +1,16 @@
 // A receptor's exposure against the deposition (document 02, P4), on the printed digits.
 ghost use Rattle.std.specs.Prelude.{◌≡◌};
-ghost use Rattle.pair.specs.Calls.{order};
+ghost use Rattle.pair.specs.Calls.{answer};
 ghost use Rattle.times.specs.Times as years;
-ghost use Rattle.times.specs.Times.{time};
-ghost use Rattle.scenario.specs.Scenario.{or_no_time, of_value, told, time_given, deposition_of, stay_if, later_if, receptor_with};
+ghost use Rattle.scenario.specs.Scenario.{or_no_time, told, time_given, deposition_of, stay_if, later_if, receptor_with};
 
 use crate::Receptor;
-use crate::values::or_no_pair;
-use cases::{Record, Value, plain};
+use crate::values::{or_no_pair, told};
+use cases::{Record, Value};
 use equations::{Stay, Values};
-use pair::{Order, Pair};
+use pair::{Pair, Refused};
 use slots::TD;
-use times::{Time, Years};
+use times::Years;
 
 // What is no time: every call refuses it.
 const NO_TIME: Years = Years {
@@ -19,33 +18,17 @@ const NO_TIME: Years = Years {
     low: 0,
 };
 
-pub fn or_no_time(t: Time) -> Years
-    ensures { result ≡ or_no_time (time t) }
+pub fn or_no_time(t: Result<Years, Refused>) -> Years
+    ensures { result ≡ or_no_time (answer t) }
 {
-    let Time::Is(y) = t else {
-        return NO_TIME;
-    };
-    y
-}
-
-// A time as it is given.
-fn time_of(v: Value) -> Time
-    ensures { time result ≡ of_value years.printed v }
-{
-    let Value::Given { digits, power } = v else {
-        return Time::Refused;
-    };
-    Years::printed(digits, power)
+    t.unwrap_or(NO_TIME)
 }
 
 // A given time, exact.
-pub(crate) fn timed(v: Value) -> Time
-    ensures { time result ≡ told years.printed v }
+pub(crate) fn timed(v: Value) -> Result<Years, Refused>
+    ensures { answer result ≡ told years.printed v }
 {
-    let Time::Is(y) = time_of(v) else {
-        return time_of(plain(v));
-    };
-    Time::Is(y)
+    told(Years::printed, v)
 }
 
 pub fn time_given(v: Value) -> Years
@@ -58,19 +41,18 @@ pub fn time_given(v: Value) -> Years
 pub fn deposition_of(site: Record) -> Years
     ensures { result ≡ deposition_of site }
 {
-    let slot = site.slots[TD];
-    let v = slot.value;
-    time_given(v)
+    time_given(site.slots[TD])
 }
 
 // What cannot be compared goes beyond, where T2 − tD is no pair.
-fn stay_if(compared: Order) -> Stay
-    ensures { result ≡ stay_if (order compared) }
+#[tactic(auto, unfolding(pair::specs::Calls::answer, crate::specs::Scenario::stay_if))]
+fn stay_if(compared: Result<bool, Refused>) -> Stay
+    ensures { result ≡ stay_if (answer compared) }
 {
     match compared {
-        Order::AtMost => Stay::Within,
-        Order::Above => Stay::Beyond,
-        Order::Refused => Stay::Beyond,
+        Ok(true) => Stay::Within,
+        Ok(false) => Stay::Beyond,
+        Err(_) => Stay::Beyond,
     }
 }
 

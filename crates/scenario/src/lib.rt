@@ -7,9 +7,9 @@ mod memory;
 mod ordinary;
 mod values;
 
+use cases::{Chemicals, Record};
 use equations::{Stay, Values};
 pub use exposure::{deposition_of, or_no_time, receptor_with, time_given};
-pub use memory::{scenario_verdict, unpaired_in};
 pub use ordinary::entered_from;
 use pair::Pair;
 use sizes::MAX_RECEPTORS;
@@ -28,11 +28,19 @@ pub struct Receptor {
     pub later: Pair,
 }
 
-// The first count receptors of the list, in deck order.
+// The first count receptors of the list, in deck order: a fixed list, since nothing here has a heap.
 #[derive(Clone, Copy)]
 pub struct Receptors {
     pub count: usize,
     pub list: [Receptor; MAX_RECEPTORS],
+}
+
+// What a sheet is worked from: a site and chemicals as given, and receptors made of pairs.
+#[derive(Clone, Copy)]
+pub struct Scenario {
+    pub site: Record,
+    pub chemicals: Chemicals,
+    pub receptors: Receptors,
 }
 
 // A site as the lines take it: the guidance that its year names, and its values.

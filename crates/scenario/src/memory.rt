@@ -1,40 +1,30 @@
 // A scenario in memory, whatever its values are.
-ghost use Rattle.std.specs.Prelude.{◌≡◌, ◌≤◌, get_or};
+ghost use Rattle.std.specs.Prelude.{◌≡◌, ◌||◌, ltb, get_or};
 ghost use Rattle.sizes.specs.Sizes.{max_chemicals};
 ghost use Rattle.cases.specs.Cases.{no_record, value_at};
 ghost use Rattle.cases.specs.Conditions.{first, verdict_of};
 ghost use Rattle.lists.specs.Lists.{any_of};
 ghost use Rattle.slots.specs.Slots.{place_of};
 ghost use Rattle.times.specs.Times as years;
-ghost use Rattle.scenario.specs.Scenario.{scenario_from, ids_of, scenario_conditions, is_refused, told, is_unpaired, unpaired, unpaired_in};
+ghost use Rattle.scenario.specs.Scenario.{ids_of, scenario_conditions, is_refused, told, is_unpaired, unpaired, unpaired_in};
 
-use crate::Receptors;
 use crate::exposure::timed;
 use crate::values::entered;
+use crate::{Receptors, Scenario};
 use cases::{Chemicals, Ids, Record, Value, Verdict, memory_verdict};
-use pair::Answer;
 use sizes::{MAX_CHEMICALS, SLOTS};
 use slots::{Sort, TD};
-use times::Time;
 
-fn ids_of(receptors: Receptors) -> Ids
-    ensures { result ≡ ids_of receptors }
-{
-    let a = receptors.list[0];
-    let b = receptors.list[1];
-    let c = receptors.list[2];
-    let d = receptors.list[3];
-    Ids {
-        count: receptors.count,
-        list: [a.id, b.id, c.id, d.id, 0, 0, 0, 0],
+impl Receptors {
+    fn ids(&self) -> Ids
+        ensures { result ≡ ids_of self.now }
+    {
+        let [a, b, c, d] = self.list;
+        Ids {
+            count: self.count,
+            list: [a.id, b.id, c.id, d.id, 0, 0, 0, 0],
+        }
     }
-}
-
-// The first condition of a scenario's counts, ids, and slots that are given, by its number: 21, 22, 32, 33.
-pub fn scenario_verdict(site: Record, chemicals: Chemicals, receptors: Receptors) -> Verdict
-    ensures { result ≡ verdict_of (first (scenario_conditions (scenario_from site chemicals receptors))) }
-{
-    memory_verdict(Sort::Ordinary, site, chemicals, ids_of(receptors))
 }
 
 fn is_unpaired(v: Value) -> bool
@@ -47,66 +37,54 @@ fn is_unpaired(v: Value) -> bool
     else {
         return false;
     };
-    let Answer::Is(_) = entered(v) else {
+    let Ok(_) = entered(v) else {
         return true;
     };
     false
 }
 
-fn unpaired(r: Record) -> bool
-    ensures { result ≡ unpaired r }
+fn unpaired(r: &Record) -> bool
+    ensures { result ≡ unpaired r.now }
 {
-    let mut k: usize = 0;
-    while k < SLOTS {
-        let slot = r.slots[k];
-        let v = slot.value;
-        if is_unpaired(v) {
-            return true;
-        }
-        k += 1;
-    }
-    false
+    r.slots.iter().any(|v| is_unpaired(*v))
 }
 
-fn untimed(site: Record) -> bool
-    ensures { result ≡ is_refused (told years.printed (value_at site (place_of "tD"))) }
+fn untimed(site: &Record) -> bool
+    ensures { result ≡ is_refused (told years.printed (value_at site.now (place_of "tD"))) }
 {
-    let slot = site.slots[TD];
-    let v = slot.value;
-    let Time::Is(_) = timed(v) else {
+    let Ok(_) = timed(site.slots[TD]) else {
         return true;
     };
     false
 }
 
-fn chemicals_unpaired(chemicals: Chemicals) -> bool
-    requires { chemicals.count ≤ max_chemicals }
-    ensures { result ≡ any_of (λ i. unpaired (get_or chemicals.records i no_record)) chemicals.count }
+// Whether a chemical has a value without a pair; and of more chemicals than there is room for.
+fn chemicals_unpaired(chemicals: &Chemicals) -> bool
+    ensures { result ≡ (ltb max_chemicals chemicals.now.count || any_of (λ i. unpaired (get_or chemicals.now.records i no_record)) chemicals.now.count) }
 {
-    let count = chemicals.count;
-    let mut i: usize = 0;
-    while i < count {
-        let chemical = chemicals.records[i];
-        if unpaired(chemical) {
-            return true;
-        }
-        i += 1;
-    }
-    false
+    let Some(records) = chemicals.records.get(..chemicals.count) else {
+        return true;
+    };
+    records.iter().any(unpaired)
 }
 
-// Whether some value of the site or of the chemicals has no pair, or tD is no time; and of more chemicals than there is room for.
-pub fn unpaired_in(site: Record, chemicals: Chemicals) -> bool
-    ensures { result ≡ unpaired_in site chemicals }
-{
-    if untimed(site) {
-        return true;
+impl Scenario {
+    // The first condition of its counts, ids, and slots that are given, by its number: 21, 22, 32, 33.
+    pub fn verdict(&self) -> Verdict
+        ensures { result ≡ verdict_of (first (scenario_conditions self.now)) }
+    {
+        memory_verdict(
+            Sort::Ordinary,
+            &self.site,
+            &self.chemicals,
+            &self.receptors.ids(),
+        )
     }
-    if unpaired(site) {
-        return true;
+
+    // Whether some value of the site or of the chemicals has no pair, or tD is no time; and of more chemicals than there is room for.
+    pub fn is_unpaired(&self) -> bool
+        ensures { result ≡ unpaired_in self.now.site self.now.chemicals }
+    {
+        untimed(&self.site) || unpaired(&self.site) || chemicals_unpaired(&self.chemicals)
     }
-    if MAX_CHEMICALS < chemicals.count {
-        return true;
-    }
-    chemicals_unpaired(chemicals)
 }

@@ -8,6 +8,7 @@ use crate::{Receptor, Receptors};
 use cases::{Case, Record, lacks};
 use equations::Values;
 use slots::{Owner, Sort, T2};
+use std::array;
 use times::Years;
 
 // A receptor's values; nothing is worked of one that lacks a needed value.
@@ -24,30 +25,21 @@ fn values_if(lacking: bool, r: Record) -> Values
 fn enter(deposition: Years, r: Record) -> Receptor
     ensures { result ≡ entered deposition r }
 {
-    let slot = r.slots[T2];
-    let v = slot.value;
     receptor_with(
         r.id,
-        values_if(lacks(Sort::Ordinary, Owner::Receptor, r), r),
-        time_given(v),
+        values_if(lacks(Sort::Ordinary, Owner::Receptor, &r), r),
+        time_given(r.slots[T2]),
         deposition,
     )
 }
 
 // The receptors that an ordinary deck's sheet is worked for.
-pub fn entered_from(case: Case) -> Receptors
-    ensures { result ≡ entered_from case }
+pub fn entered_from(case: &Case) -> Receptors
+    ensures { result ≡ entered_from case.now }
 {
     let deposition = deposition_of(case.site);
-    let receptors = case.receptors;
-    let list = [
-        enter(deposition, receptors.records[0]),
-        enter(deposition, receptors.records[1]),
-        enter(deposition, receptors.records[2]),
-        enter(deposition, receptors.records[3]),
-    ];
     Receptors {
-        count: receptors.count,
-        list,
+        count: case.receptors.count,
+        list: array::from_fn(|j| enter(deposition, case.receptors.records[j])),
     }
 }

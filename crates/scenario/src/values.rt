@@ -1,14 +1,15 @@
 // The values of a record's slots as pairs, for the equations.
-ghost use Rattle.std.specs.Prelude.{◌≡◌};
+ghost use Rattle.std.specs.Prelude.{◌≡◌, ℕ, ℤ, Result};
 ghost use Rattle.cases.specs.Cases.{value_at, is_other_year};
-ghost use Rattle.pair.specs.Calls.{answer, entry, one_minus_entry};
+ghost use Rattle.pair.specs.Calls.{Outcome, answer, entry, one_minus_entry};
+ghost use Rattle.pair.specs.declared.Refused.{Refused};
 ghost use Rattle.slots.specs.Slots.{place_of};
 ghost use Rattle.scenario.specs.Scenario.{no_pair, or_no_pair, of_value, told, pair_of, rest_of, no_pairs, values_of, particles_of, site_of};
 
 use crate::Site;
 use cases::{Record, Value, guidance_of, is_other_year, plain};
 use equations::Values;
-use pair::{Answer, Pair};
+use pair::{Answer, Pair, Refused};
 use sizes::SLOTS;
 use slots::{FV, YEAR};
 
@@ -25,49 +26,56 @@ pub fn no_pair() -> Pair
 pub fn or_no_pair(a: Answer) -> Pair
     ensures { result ≡ or_no_pair (answer a) }
 {
-    let Answer::Is(p) = a else {
+    let Ok(p) = a else {
         return no_pair();
     };
     p
 }
 
-// The entry of a value, and 1 less it, as it is given.
-fn entry_of(v: Value) -> Answer
-    ensures { answer result ≡ of_value entry v }
+// What a call tells of a value as it is given. A missing one is refused.
+fn of_value<T: Copy, F: Fn(u64, i32) -> Result<T, Refused>>(
+    call: &F,
+    v: Value,
+) -> Result<T, Refused>
+    ghost f: { ℕ → ℤ → Outcome T }
+    requires callable { F.IsAlwaysCallable call.now }
+    requires tells { (digits : ℕ) (power : ℤ) (a : Result T Refused) → F.post call.now digits power a → answer a ≡ f digits power }
+    ensures { answer result ≡ of_value f v }
 {
     let Value::Given { digits, power } = v else {
-        return Answer::Refused;
+        return Err(Refused);
     };
-    Pair::entry(digits, power)
+    call(digits, power)
 }
 
-fn one_minus(v: Value) -> Answer
-    ensures { answer result ≡ of_value one_minus_entry v }
+// What it tells of a value however it is given: as it is or, where that is refused, without zeros at its end.
+pub(crate) fn told<T: Copy, F: Fn(u64, i32) -> Result<T, Refused>>(
+    call: F,
+    v: Value,
+) -> Result<T, Refused>
+    ghost f: { ℕ → ℤ → Outcome T }
+    requires callable { F.IsAlwaysCallable call }
+    requires tells { (digits : ℕ) (power : ℤ) (a : Result T Refused) → F.post call digits power a → answer a ≡ f digits power }
+    ensures { answer result ≡ told f v }
 {
-    let Value::Given { digits, power } = v else {
-        return Answer::Refused;
+    let Ok(p) = of_value(&call, v) else {
+        return of_value(&call, plain(v));
     };
-    Pair::one_minus_entry(digits, power)
+    Ok(p)
 }
 
-// The entry of a value, however it is given.
+// The entry of a value.
 pub(crate) fn entered(v: Value) -> Answer
     ensures { answer result ≡ told entry v }
 {
-    let Answer::Is(p) = entry_of(v) else {
-        return entry_of(plain(v));
-    };
-    Answer::Is(p)
+    told(Pair::entry, v)
 }
 
-// 1 less a value, however it is given.
+// 1 less a value.
 fn rested(v: Value) -> Answer
     ensures { answer result ≡ told one_minus_entry v }
 {
-    let Answer::Is(p) = one_minus(v) else {
-        return one_minus(plain(v));
-    };
-    Answer::Is(p)
+    told(Pair::one_minus_entry, v)
 }
 
 // A given value as a pair. A missing one is read by no line; 1 stands in its place.
@@ -84,7 +92,7 @@ pub fn pair_of(v: Value) -> Pair
     or_no_pair(entered(v))
 }
 
-// 1 less a given value, from its digits.
+// 1 less a given value, from its digits. Beside `pair_of` for its other call and its other pair where none is given.
 fn rest_of(v: Value) -> Pair
     ensures { result ≡ rest_of v }
 {
@@ -102,9 +110,7 @@ fn rest_of(v: Value) -> Pair
 pub fn particles_of(chemical: Record) -> Pair
     ensures { result ≡ particles_of chemical }
 {
-    let slot = chemical.slots[FV];
-    let v = slot.value;
-    rest_of(v)
+    rest_of(chemical.slots[FV])
 }
 
 // No value.
@@ -121,34 +127,24 @@ pub fn no_values() -> Values
 pub fn values_of(r: Record) -> Values
     ensures { result ≡ values_of r }
 {
-    let mut list = [Pair::ONE; SLOTS];
-    let mut k: usize = 0;
-    while k < SLOTS {
-        let slot = r.slots[k];
-        let v = slot.value;
-        list[k] = pair_of(v);
-        k += 1;
+    Values {
+        list: r.slots.map(pair_of),
     }
-    Values { list }
 }
 
 // Whether a site's year is that of no guidance.
 pub fn has_no_guidance(site: Record) -> bool
     ensures { result ≡ is_other_year (value_at site (place_of "year")) }
 {
-    let slot = site.slots[YEAR];
-    let v = slot.value;
-    is_other_year(v)
+    is_other_year(site.slots[YEAR])
 }
 
 // A site's guidance and values.
 pub fn site_of(site: Record) -> Site
     ensures { result ≡ site_of site }
 {
-    let slot = site.slots[YEAR];
-    let v = slot.value;
     Site {
-        guidance: guidance_of(v),
+        guidance: guidance_of(site.slots[YEAR]),
         values: values_of(site),
     }
 }

@@ -16,7 +16,7 @@ use Rattle.equations.specs.declared.Effect.{Effect}
 use Rattle.equations.specs.declared.Effect.TheVariants.{Hazard, Cancer}
 use Rattle.equations.specs.declared.Values.{Values}
 use Rattle.lists.proofs.Tabulated.{tabulated, length_tabulate}
-use Rattle.totals.specs.declared.Columns.{Columns}
+use Rattle.totals.specs.Totals.{Columns}
 use Rattle.scenario.specs.declared.Receptor.{Receptor}
 use Rattle.scenario.specs.declared.Site.{Site}
 use Rattle.sheet.specs.declared.Sources.{Sources}

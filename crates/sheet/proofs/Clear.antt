@@ -5,11 +5,11 @@ use mathlib.Core.List.{[]}
 use Prim.Native.Nat.{ℕ, suc, ◌+◌, ◌*◌, ◌<◌}
 use Rattle.equations.specs.declared.Effect.{Effect}
 use Rattle.equations.specs.declared.Effect.TheVariants.{Hazard, Cancer}
-use Rattle.cases.specs.declared.Status.TheVariants.{Passed}
+use Rattle.cases.specs.Conditions.{passed}
 use Rattle.cases.specs.Conditions.{at, first}
 use Rattle.cases.proofs.FirstMet.{first_read, chained_each}
 use Rattle.lists.proofs.Booleans.{neither}
-use Rattle.scenario.specs.Scenario.{Scenario}
+use Rattle.scenario.specs.declared.Scenario.{Scenario}
 use Rattle.sheet.specs.Sheet.{pathway_at, lines_per_receptor, unworked, over_cap, report_line, line_refused, line_too_large, over_lines, refused_lines, large_lines}
 use Rattle.sizes.specs.Sizes.{pathways_per_chemical}
 use Rattle.lists.specs.Lists.{chained}
@@ -19,7 +19,7 @@ either Hazard f h = (neither (f Hazard) (f Cancer) h).0
 either Cancer f h = (neither (f Hazard) (f Cancer) h).1
 
 -- 42 does not hold
-pub not_large : (scenario : Scenario) → first (large_lines scenario) ≡ Passed → (e : Effect) (j i p : ℕ) → j < scenario.receptors.count → i < scenario.chemicals.count → p < pathways_per_chemical → over_cap e scenario j i (pathway_at p) ≡ false
+pub not_large : (scenario : Scenario) → first (large_lines scenario) ≡ passed → (e : Effect) (j i p : ℕ) → j < scenario.receptors.count → i < scenario.chemicals.count → p < pathways_per_chemical → over_cap e scenario j i (pathway_at p) ≡ false
 unfolding large_lines over_lines line_too_large report_line
 not_large scenario none e j i p a b c =
     let r = chained_each (λ j. chained (λ i. chained (line_too_large scenario j i) pathways_per_chemical) scenario.chemicals.count) scenario.receptors.count none j a in
@@ -28,7 +28,7 @@ not_large scenario none e j i p a b c =
     either e (λ d. over_cap d scenario j i (pathway_at p)) (first_read (at 42 (j * lines_per_receptor scenario + i * pathways_per_chemical + suc p) 0 (over_cap Hazard scenario j i (pathway_at p) || over_cap Cancer scenario j i (pathway_at p))) [] t).0
 
 -- 53 does not hold of a line
-pub lines_unworked : (scenario : Scenario) → first (refused_lines scenario) ≡ Passed → (e : Effect) (j i p : ℕ) → j < scenario.receptors.count → i < scenario.chemicals.count → p < pathways_per_chemical → unworked e scenario j i (pathway_at p) ≡ false
+pub lines_unworked : (scenario : Scenario) → first (refused_lines scenario) ≡ passed → (e : Effect) (j i p : ℕ) → j < scenario.receptors.count → i < scenario.chemicals.count → p < pathways_per_chemical → unworked e scenario j i (pathway_at p) ≡ false
 unfolding refused_lines over_lines line_refused
 lines_unworked scenario none e j i p a b c =
     let r = chained_each (λ j. chained (λ i. chained (line_refused scenario j i) pathways_per_chemical) scenario.chemicals.count) scenario.receptors.count none j a in

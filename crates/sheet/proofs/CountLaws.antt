@@ -1,5 +1,8 @@
 -- The counts of a scenario as they are worked are those that Counts.antt defines: the condition that stops it, and every cell.
 -- Assumes nothing.
+use Rattle.cases.specs.declared.Stop.{Stop}
+use Rattle.std.specs.Prelude.{Err}
+use Rattle.cases.specs.Conditions.{accepted}
 use mathlib.Core.Path.{◌≡◌, refl, sym, ap, ap₂, ◌∙◌}
 use mathlib.Core.Bool.{Bool, true, false, cond, ◌&&◌, ◌||◌}
 use mathlib.Core.List.{List, [], ◌∷◌, ◌++◌}
@@ -15,10 +18,10 @@ use Rattle.equations.specs.declared.Effect.{Effect}
 use Rattle.equations.specs.declared.Effect.TheVariants.{Hazard, Cancer}
 use Rattle.equations.specs.declared.Values.{Values}
 use Rattle.pathway.specs.Lines.{Figured}
-use Rattle.cases.specs.declared.Status.{Status}
-use Rattle.cases.specs.declared.Status.TheVariants.{Passed, Stopped}
-use Rattle.cases.specs.declared.Verdict.{Verdict}
-use Rattle.cases.specs.declared.Verdict.TheVariants as Verdicts
+use Rattle.cases.specs.Conditions.{Status}
+use Rattle.cases.specs.Conditions.{passed, stopped}
+use Rattle.cases.specs.Conditions.{Verdict}
+use Rattle.cases.specs.declared.Refusal.{Refusal}
 use Rattle.cases.specs.Conditions.{Condition, at, first, told_of, verdict_of}
 use Rattle.cases.specs.CaseConditions.{memory_conditions, lacks}
 use Rattle.cases.proofs.CaseConditionLaws.{counts_inside, memory_nowhere}
@@ -27,8 +30,9 @@ use Rattle.slots.specs.declared.Sort.TheVariants.{Ordinary}
 use Rattle.lists.proofs.Booleans.{neither}
 use Rattle.cases.proofs.FirstMet.{or_else, first_append, first_read, chained_each, told_without, told_alone, verdict_passed}
 use Rattle.lists.proofs.Tabulated.{tabulated, length_tabulate}
-use Rattle.totals.specs.declared.Columns.TheVariants as Cols
-use Rattle.scenario.specs.Scenario.{Scenario, values_of, chemical_in, receptor_in, no_guidance, site_of, is_refused, ids_of, scenario_conditions, unpaired_in}
+use Rattle.std.specs.Prelude.{None}
+use Rattle.scenario.specs.declared.Scenario.{Scenario}
+use Rattle.scenario.specs.Scenario.{values_of, chemical_in, receptor_in, no_guidance, site_of, is_refused, ids_of, scenario_conditions, unpaired_in}
 use Rattle.scenario.specs.declared.Site.{Site}
 use Rattle.sheet.specs.declared.Source.{Source}
 use Rattle.sheet.specs.declared.Sources.{Sources}
@@ -58,7 +62,7 @@ module _ (scenario : Scenario) (site' : Site) (sources : Sources) (cells : List 
     (agree : (j q : ℕ) → j < scenario.receptors.count → q < scenario.chemicals.count * pathways_per_chemical → (e : Effect) → columns_worked site' sources j (receptor_in scenario j).values q e ≡ columns_at e scenario j (q / pathways_per_chemical) (pathway_at (q % pathways_per_chemical)))
     (filled : CellsFilled site' sources scenario.receptors.list scenario.receptors.count cells) (rest : ZeroFrom (receptor_cells * scenario.receptors.count) cells) where
   cell_is : (j q k : ℕ) (e : Effect) (w : Part) → k ≡ receptor_cells * j + effect_cells * side_of e + most_lines * part_of w + q → receptor_cells * j ≤ k → q < most_lines → (t u : Bool) → ltb j scenario.receptors.count ≡ t
-      → ltb q (scenario.chemicals.count * pathways_per_chemical) ≡ u → get_or cells k 0 ≡ cell_of w (cond (t && u) (columns_at e scenario j (q / pathways_per_chemical) (pathway_at (q % pathways_per_chemical))) Cols.Absent)
+      → ltb q (scenario.chemicals.count * pathways_per_chemical) ≡ u → get_or cells k 0 ≡ cell_of w (cond (t && u) (columns_at e scenario j (q / pathways_per_chemical) (pathway_at (q % pathways_per_chemical))) None)
   unfolding cell_of receptor_in
   cell_is j q k e w place least small true true a b =
       rw place
@@ -84,7 +88,7 @@ module _ (scenario : Scenario) (site' : Site) (sources : Sources) (cells : List 
 
 -- ---- the lines of a scenario of which no chemical stops
 module _ (scenario : Scenario) (site' : Site) (sources : Sources) (capped : Bool) (at_site : site' ≡ site_of scenario.site) (sources_are : sources ≡ sources_of site'.values scenario.receptors scenario.chemicals)
-    (none : first (chained (no_media_at scenario) scenario.chemicals.count) ≡ Passed) where
+    (none : first (chained (no_media_at scenario) scenario.chemicals.count) ≡ passed) where
   count_is : sources.count ≡ scenario.chemicals.count
   unfolding sources_of
   count_is = ap (λ (x : Sources). x.count) sources_are
@@ -153,16 +157,16 @@ module _ (scenario : Scenario) where
   abbrev pub Told : List Condition → Status → List ℕ → Type 0
   Told conditions s cells = (s ≡ first conditions) × (cells ≡ cells_for s scenario)
 
-  stopped : (conditions : List Condition) (s : Status) (number line field : ℕ) → s ≡ Stopped number line field → s ≡ first conditions → (cells : List ℕ) → cells ≡ no_cells → Told conditions s cells
+  stops_first : (conditions : List Condition) (s : Status) (halt : Stop) → s ≡ Err halt → s ≡ first conditions → (cells : List ℕ) → cells ≡ no_cells → Told conditions s cells
   unfolding cells_for
-  stopped conditions s number line field stop is_first cells none = (is_first, none ∙ sym (ap (λ (t : Status). cells_for t scenario) stop))
+  stops_first conditions s halt stop is_first cells none = (is_first, none ∙ sym (ap (λ (t : Status). cells_for t scenario) stop))
 
   -- as they are worked
   module _ (capped : Bool) where
     -- 53: the site lacks a value
-    pub site_stops : lacks Ordinary OfSite scenario.site ≡ true → (cells : List ℕ) → cells ≡ no_cells → Told (worked_by capped scenario) (Stopped 53 0 0) cells
+    pub site_stops : lacks Ordinary OfSite scenario.site ≡ true → (cells : List ℕ) → cells ≡ no_cells → Told (worked_by capped scenario) (stopped 53 0 0) cells
     unfolding worked_by unmade first
-    site_stops h cells none = stopped (worked_by capped scenario) (Stopped 53 0 0) 53 0 0 refl (rw h refl) cells none
+    site_stops h cells none = stops_first (worked_by capped scenario) (stopped 53 0 0) _ refl (rw h refl) cells none
 
     module _ (few_chemicals : scenario.chemicals.count ≤ max_chemicals) (whole : lacks Ordinary OfSite scenario.site ≡ false) (site' : Site) (at_site : site' ≡ site_of scenario.site) where
       conditions_are : first (worked_by capped scenario) ≡ or_else (first (chained (no_media_at scenario) scenario.chemicals.count)) (first (lines_faulty capped scenario))
@@ -176,20 +180,20 @@ module _ (scenario : Scenario) where
           (λ i h. ap (λ (v : Site). refused_source v.values scenario.receptors scenario.chemicals.records i) at_site)
 
       -- 53 by chemical
-      pub chemical_stops : (s : Status) → s ≡ first (chained (refused_source site'.values scenario.receptors scenario.chemicals.records) scenario.chemicals.count) → (number line field : ℕ)
-          → s ≡ Stopped number line field → (cells : List ℕ) → cells ≡ no_cells → Told (worked_by capped scenario) s cells
+      pub chemical_stops : (s : Status) → s ≡ first (chained (refused_source site'.values scenario.receptors scenario.chemicals.records) scenario.chemicals.count) → (halt : Stop)
+          → s ≡ Err halt → (cells : List ℕ) → cells ≡ no_cells → Told (worked_by capped scenario) s cells
       unfolding or_else
-      chemical_stops s is_first number line field stop cells none =
-          let here : first (chained (no_media_at scenario) scenario.chemicals.count) ≡ Stopped number line field = sym (is_first ∙ ap first chemicals_agree) ∙ stop in
-          stopped (worked_by capped scenario) s number line field stop (stop ∙ sym (conditions_are ∙ ap (λ (t : Status). or_else t (first (lines_faulty capped scenario))) here)) cells none
+      chemical_stops s is_first halt stop cells none =
+          let here : first (chained (no_media_at scenario) scenario.chemicals.count) ≡ Err halt = sym (is_first ∙ ap first chemicals_agree) ∙ stop in
+          stops_first (worked_by capped scenario) s halt stop (stop ∙ sym (conditions_are ∙ ap (λ (t : Status). or_else t (first (lines_faulty capped scenario))) here)) cells none
 
       module _ (sources : Sources) (sources_are : sources ≡ sources_of site'.values scenario.receptors scenario.chemicals)
-          (ready : first (chained (refused_source site'.values scenario.receptors scenario.chemicals.records) scenario.chemicals.count) ≡ Passed) where
+          (ready : first (chained (refused_source site'.values scenario.receptors scenario.chemicals.records) scenario.chemicals.count) ≡ passed) where
         pub sources_few : sources.count ≤ max_chemicals
         unfolding sources_of
         sources_few = rw sources_are few_chemicals
 
-        none : first (chained (no_media_at scenario) scenario.chemicals.count) ≡ Passed
+        none : first (chained (no_media_at scenario) scenario.chemicals.count) ≡ passed
         none = sym (ap first chemicals_agree) ∙ ready
 
         module _ (s : Status) (is_first : s ≡ first (all_faulty capped site' sources scenario.receptors.list scenario.receptors.count)) where
@@ -201,11 +205,11 @@ module _ (scenario : Scenario) where
               ∙ sym (conditions_are ∙ ap (λ (t : Status). or_else t (first (lines_faulty capped scenario))) none)
 
           -- 53 or 42 by line
-          pub line_stops : (number line field : ℕ) → s ≡ Stopped number line field → (cells : List ℕ) → cells ≡ no_cells → Told (worked_by capped scenario) s cells
-          line_stops number line field stop cells none = stopped (worked_by capped scenario) s number line field stop fault_first cells none
+          pub line_stops : (halt : Stop) → s ≡ Err halt → (cells : List ℕ) → cells ≡ no_cells → Told (worked_by capped scenario) s cells
+          line_stops halt stop cells none = stops_first (worked_by capped scenario) s halt stop fault_first cells none
 
           -- every line's counts
-          pub all_counted : s ≡ Passed → (cells : List ℕ) → length cells ≡ all_cells
+          pub all_counted : s ≡ passed → (cells : List ℕ) → length cells ≡ all_cells
               → CellsFilled site' sources scenario.receptors.list scenario.receptors.count cells × ZeroFrom (receptor_cells * scenario.receptors.count) cells
               → Told (worked_by capped scenario) s cells
           unfolding cells_for
@@ -224,9 +228,9 @@ module _ (scenario : Scenario) where
       mixed_lines scenario (report_line scenario) (λ j i p. unworked Hazard scenario j i (pathway_at p) || unworked Cancer scenario j i (pathway_at p))
       (λ j i p. over_cap Hazard scenario j i (pathway_at p) || over_cap Cancer scenario j i (pathway_at p))
 
-  unmade_number : (n x y : ℕ) → first (unmade scenario) ≡ Stopped n x y → n ≢ 42
+  unmade_number : (halt : Stop) → first (unmade scenario) ≡ Err halt → halt.number ≢ 42
   unfolding told_of
-  unmade_number n x y e h = told_without 42 (λ z. omega arith) (unmade scenario) (unmade_without 42 (λ z. omega arith) scenario) (ap (λ (s : Status). (told_of s).number) e ∙ h)
+  unmade_number halt e h = told_without 42 (λ z. omega arith) (unmade scenario) (unmade_without 42 (λ z. omega arith) scenario) (ap (λ (s : Status). (told_of s).number) e ∙ h)
 
   capped_is : first (worked_by true scenario) ≡ or_else (first (unmade scenario)) turn
   unfolding worked_by turn
@@ -244,35 +248,35 @@ module _ (scenario : Scenario) where
     at_once : or_else (first (unmade scenario)) turn ≡ s
     at_once = sym (told.0 ∙ capped_is)
 
-    pub strict_passed : s ≡ Passed → Told (strictly scenario) s cells
+    pub strict_passed : s ≡ passed → Told (strictly scenario) s cells
     strict_passed e =
         (e ∙ sym (strictly_is ∙ strict_passes (first (unmade scenario)) turn (first (refused_lines scenario)) (first (large_lines scenario)) mixed unmade_number (at_once ∙ e)), told.1)
 
-    pub strict_stopped : (number line field : ℕ) → s ≡ Stopped number line field → number ≢ 42 → Told (strictly scenario) s cells
-    strict_stopped number line field e d =
-        (sym (strictly_is ∙ strict_other (first (unmade scenario)) turn (first (refused_lines scenario)) (first (large_lines scenario)) mixed unmade_number number line field (at_once ∙ e) d ∙ at_once), told.1)
+    pub strict_stopped : (halt : Stop) → s ≡ Err halt → halt.number ≢ 42 → Told (strictly scenario) s cells
+    strict_stopped halt e d =
+        (sym (strictly_is ∙ strict_other (first (unmade scenario)) turn (first (refused_lines scenario)) (first (large_lines scenario)) mixed unmade_number halt (at_once ∙ e) d ∙ at_once), told.1)
 
     -- the cells are as before
-    pub cells_cleared : (number line field : ℕ) → s ≡ Stopped number line field → cells ≡ no_cells
+    pub cells_cleared : (halt : Stop) → s ≡ Err halt → cells ≡ no_cells
     unfolding cells_for
-    cells_cleared number line field e = told.1 ∙ ap (λ (t : Status). cells_for t scenario) e
+    cells_cleared halt e = told.1 ∙ ap (λ (t : Status). cells_for t scenario) e
 
-    module _ (number line field : ℕ) (e : s ≡ Stopped number line field) (large : number ≡ 42) (u : Status) (again : u ≡ first (worked_by false scenario)) (after : List ℕ) (cleared : after ≡ no_cells) where
-      s_large : or_else (first (unmade scenario)) turn ≡ Stopped 42 line field
-      s_large = at_once ∙ e ∙ ap (λ (n : ℕ). Stopped n line field) large
+    module _ (halt : Stop) (e : s ≡ Err halt) (large : halt.number ≡ 42) (u : Status) (again : u ≡ first (worked_by false scenario)) (after : List ℕ) (cleared : after ≡ no_cells) where
+      s_large : or_else (first (unmade scenario)) turn ≡ stopped 42 halt.line halt.field
+      s_large = at_once ∙ e ∙ ap (λ (n : ℕ). stopped n halt.line halt.field) large
 
       u_is : or_else (first (unmade scenario)) (first (refused_lines scenario)) ≡ u
       u_is = sym (again ∙ uncapped_is)
 
-      pub strict_broken : (n a c : ℕ) → u ≡ Stopped n a c → Told (strictly scenario) u after
-      strict_broken n a c d =
-          stopped (strictly scenario) u n a c d
-          (sym (strictly_is ∙ strict_refused (first (unmade scenario)) turn (first (refused_lines scenario)) (first (large_lines scenario)) mixed unmade_number line field s_large n a c (u_is ∙ d) ∙ u_is)) after cleared
+      pub strict_broken : (other : Stop) → u ≡ Err other → Told (strictly scenario) u after
+      strict_broken other d =
+          stops_first (strictly scenario) u other d
+          (sym (strictly_is ∙ strict_refused (first (unmade scenario)) turn (first (refused_lines scenario)) (first (large_lines scenario)) mixed unmade_number halt.line halt.field s_large other (u_is ∙ d) ∙ u_is)) after cleared
 
-      pub strict_capped : u ≡ Passed → (t : Status) → t ≡ s → Told (strictly scenario) t after
+      pub strict_capped : u ≡ passed → (t : Status) → t ≡ s → Told (strictly scenario) t after
       strict_capped d t same =
-          stopped (strictly scenario) t number line field (same ∙ e)
-          (same ∙ sym (strictly_is ∙ strict_large (first (unmade scenario)) turn (first (refused_lines scenario)) (first (large_lines scenario)) mixed unmade_number line field s_large (u_is ∙ d) ∙ at_once)) after cleared
+          stops_first (strictly scenario) t halt (same ∙ e)
+          (same ∙ sym (strictly_is ∙ strict_large (first (unmade scenario)) turn (first (refused_lines scenario)) (first (large_lines scenario)) mixed unmade_number halt.line halt.field s_large (u_is ∙ d) ∙ at_once)) after cleared
 
   -- ---- the calls: what is told, and the cells
   abbrev pub Called : List Condition → Status → List ℕ → Type 0
@@ -283,47 +287,47 @@ module _ (scenario : Scenario) where
 
   -- on memory: where the number alone is told
   module _ (v : Verdict) (told : v ≡ verdict_of (first (scenario_conditions scenario))) where
-    pub verdict_stops : (number : ℕ) → v ≡ Verdicts.Refused number → Stopped number 0 0 ≡ first (scenario_conditions scenario)
+    pub verdict_stops : (r : Refusal) → v ≡ Err r → stopped r.0 0 0 ≡ first (scenario_conditions scenario)
     unfolding scenario_conditions
-    verdict_stops number e =
-        sym (told_alone (scenario_conditions scenario) (memory_nowhere Ordinary scenario.site scenario.chemicals (ids_of scenario.receptors)) number (sym told ∙ e))
+    verdict_stops r e =
+        sym (told_alone (scenario_conditions scenario) (memory_nowhere Ordinary scenario.site scenario.chemicals (ids_of scenario.receptors)) r.0 (sym told ∙ e))
 
-    pub verdict_passes : v ≡ Verdicts.Passed → Passed ≡ first (scenario_conditions scenario)
+    pub verdict_passes : v ≡ accepted → passed ≡ first (scenario_conditions scenario)
     verdict_passes e = sym (verdict_passed (first (scenario_conditions scenario)) (sym told ∙ e))
 
-  pub memory_stops : (s : Status) → s ≡ first (scenario_conditions scenario) → (number line field : ℕ) → s ≡ Stopped number line field → (cells : List ℕ) → cells ≡ no_cells → Called (sheet_conditions scenario) s cells
+  pub memory_stops : (s : Status) → s ≡ first (scenario_conditions scenario) → (halt : Stop) → s ≡ Err halt → (cells : List ℕ) → cells ≡ no_cells → Called (sheet_conditions scenario) s cells
   unfolding sheet_conditions refusals strictly or_else
-  memory_stops s is_first number line field stop cells none =
+  memory_stops s is_first halt stop cells none =
       called (sheet_conditions scenario) s cells
-      (stopped (sheet_conditions scenario) s number line field stop
+      (stops_first (sheet_conditions scenario) s halt stop
       (stop ∙ sym (first_append (scenario_conditions scenario) _ ∙ ap (λ (t : Status). or_else t (first (at 53 0 0 (unpaired_in scenario.site scenario.chemicals) ∷ strictly scenario))) (sym is_first ∙ stop))) cells none)
 
-  module _ (s : Status) (is_first : s ≡ first (scenario_conditions scenario)) (passed : s ≡ Passed) where
+  module _ (s : Status) (is_first : s ≡ first (scenario_conditions scenario)) (passes : s ≡ passed) where
     rest_is : first (sheet_conditions scenario) ≡ first (at 53 0 0 (unpaired_in scenario.site scenario.chemicals) ∷ strictly scenario)
     unfolding sheet_conditions refusals or_else strictly
-    rest_is = first_append (scenario_conditions scenario) _ ∙ ap (λ (t : Status). or_else t (first (at 53 0 0 (unpaired_in scenario.site scenario.chemicals) ∷ strictly scenario))) (sym is_first ∙ passed)
+    rest_is = first_append (scenario_conditions scenario) _ ∙ ap (λ (t : Status). or_else t (first (at 53 0 0 (unpaired_in scenario.site scenario.chemicals) ∷ strictly scenario))) (sym is_first ∙ passes)
 
     -- there is room for its records
     pub room_in_memory : (scenario.chemicals.count ≤ max_chemicals) × (scenario.receptors.count ≤ most_receptors)
     unfolding scenario_conditions memory_conditions ids_of
     room_in_memory =
-        let counts = (first_read _ _ (sym is_first ∙ passed)).0 in
+        let counts = (first_read _ _ (sym is_first ∙ passes)).0 in
         let t = counts_inside Ordinary scenario.chemicals.count scenario.receptors.count counts in
         (t.1, t.3)
 
-    pub unpaired_stops : unpaired_in scenario.site scenario.chemicals ≡ true → (cells : List ℕ) → cells ≡ no_cells → Called (sheet_conditions scenario) (Stopped 53 0 0) cells
+    pub unpaired_stops : unpaired_in scenario.site scenario.chemicals ≡ true → (cells : List ℕ) → cells ≡ no_cells → Called (sheet_conditions scenario) (stopped 53 0 0) cells
     unfolding first
     unpaired_stops h cells none =
-        called (sheet_conditions scenario) (Stopped 53 0 0) cells (stopped (sheet_conditions scenario) (Stopped 53 0 0) 53 0 0 refl (sym (rest_is ∙ rw h refl)) cells none)
+        called (sheet_conditions scenario) (stopped 53 0 0) cells (stops_first (sheet_conditions scenario) (stopped 53 0 0) _ refl (sym (rest_is ∙ rw h refl)) cells none)
 
     pub counted_strictly : unpaired_in scenario.site scenario.chemicals ≡ false → (t : Status) (cells : List ℕ) → Told (strictly scenario) t cells → Called (sheet_conditions scenario) t cells
     unfolding first
     counted_strictly h t cells told = called (sheet_conditions scenario) t cells (told.0 ∙ sym (rest_is ∙ rw h refl), told.1)
 
   -- as entered: 21
-  pub miscount : miscounted scenario ≡ true → (cells : List ℕ) → cells ≡ no_cells → Called (entered_conditions scenario) (Stopped 21 0 0) cells
+  pub miscount : miscounted scenario ≡ true → (cells : List ℕ) → cells ≡ no_cells → Called (entered_conditions scenario) (stopped 21 0 0) cells
   unfolding entered_conditions first
-  miscount h cells none = called (entered_conditions scenario) (Stopped 21 0 0) cells (stopped (entered_conditions scenario) (Stopped 21 0 0) 21 0 0 refl (rw h refl) cells none)
+  miscount h cells none = called (entered_conditions scenario) (stopped 21 0 0) cells (stops_first (entered_conditions scenario) (stopped 21 0 0) _ refl (rw h refl) cells none)
 
   module _ (counts : miscounted scenario ≡ false) where
     pub room_entered : (scenario.chemicals.count ≤ max_chemicals) × (scenario.receptors.count ≤ most_receptors)
@@ -331,9 +335,9 @@ module _ (scenario : Scenario) where
     room_entered = let t = counts_inside Ordinary scenario.chemicals.count scenario.receptors.count counts in (t.1, t.3)
 
     -- 33
-    pub other_year : no_guidance scenario ≡ true → (cells : List ℕ) → cells ≡ no_cells → Called (entered_conditions scenario) (Stopped 33 0 0) cells
+    pub other_year : no_guidance scenario ≡ true → (cells : List ℕ) → cells ≡ no_cells → Called (entered_conditions scenario) (stopped 33 0 0) cells
     unfolding entered_conditions first
-    other_year h cells none = called (entered_conditions scenario) (Stopped 33 0 0) cells (stopped (entered_conditions scenario) (Stopped 33 0 0) 33 0 0 refl (rw (counts, h) refl) cells none)
+    other_year h cells none = called (entered_conditions scenario) (stopped 33 0 0) cells (stops_first (entered_conditions scenario) (stopped 33 0 0) _ refl (rw (counts, h) refl) cells none)
 
     pub counted_entered : no_guidance scenario ≡ false → (t : Status) (cells : List ℕ) → Told (worked_by true scenario) t cells → Called (entered_conditions scenario) t cells
     unfolding entered_conditions worked_by lines_faulty faulty_lines line_too_large first

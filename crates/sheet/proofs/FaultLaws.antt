@@ -1,4 +1,6 @@
 -- 53 and 42 by line, each line in turn or every 53 before 42: which of them is first. Assumes nothing.
+use Rattle.cases.specs.declared.Stop.{Stop}
+use Rattle.std.specs.Prelude.{Ok, Err}
 use mathlib.Core.Path.{◌≡◌, refl, sym, ap, ap₂, ◌∙◌}
 use mathlib.Core.Bool.{Bool, true, false, ◌||◌}
 use mathlib.Core.List.{List, [], ◌∷◌, ◌++◌}
@@ -6,12 +8,12 @@ use mathlib.Core.Logic.{◌⊎◌, inl, inr, ⊎_elim, ◌≢◌}
 use Prim.Native.Nat.{ℕ, zero, suc, ◌<◌}
 use native.Mathlib.Omega.{arith}
 use Rattle.sizes.specs.Sizes.{pathways_per_chemical}
-use Rattle.cases.specs.declared.Status.{Status}
-use Rattle.cases.specs.declared.Status.TheVariants.{Passed, Stopped}
+use Rattle.cases.specs.Conditions.{Status}
+use Rattle.cases.specs.Conditions.{passed, stopped}
 use Rattle.cases.specs.Conditions.{Condition, at, first}
 use Rattle.cases.proofs.FirstMet.{or_else, first_append, never}
 use Rattle.lists.specs.Lists.{chained}
-use Rattle.scenario.specs.Scenario.{Scenario}
+use Rattle.scenario.specs.declared.Scenario.{Scenario}
 use Rattle.equations.specs.declared.Effect.TheVariants.{Hazard, Cancer}
 use Rattle.sheet.specs.Sheet.{pathway_at, unworked, over_cap, report_line, line_refused, line_too_large, over_lines, refused_lines, large_lines, faulty_lines}
 
@@ -32,18 +34,18 @@ lines_same scenario f g h =
 -- ---- t is the first of both in turn, b of 53 alone, l of 42 alone
 pub record Broken (t b : Status) : Type 0 where
   pub line : ℕ
-  pub told : t ≡ Stopped 53 line 0
-  pub same : b ≡ Stopped 53 line 0
+  pub told : t ≡ stopped 53 line 0
+  pub same : b ≡ stopped 53 line 0
 
 pub record Large (t l : Status) : Type 0 where
   pub line : ℕ
-  pub told : t ≡ Stopped 42 line 0
-  pub same : l ≡ Stopped 42 line 0
+  pub told : t ≡ stopped 42 line 0
+  pub same : l ≡ stopped 42 line 0
 
 pub record Neither (t b l : Status) : Type 0 where
-  pub told : t ≡ Passed
-  pub unbroken : b ≡ Passed
-  pub small : l ≡ Passed
+  pub told : t ≡ passed
+  pub unbroken : b ≡ passed
+  pub small : l ≡ passed
 
 abbrev pub Mixed : Status → Status → Status → Type 0
 Mixed t b l = Neither t b l ⊎ (Broken t b ⊎ Large t l)
@@ -93,69 +95,69 @@ mixed_lines scenario place a c =
     (λ j. mixed_chained _ _ _ scenario.chemicals.count (λ i. mixed_chained _ _ _ pathways_per_chemical (λ p. mixed_line (place j i p) (a j i p) (c j i p))))
 
 -- ---- every 53 before 42, after what stops before the lines; that is never 42
-module _ (m t b l : Status) (mixed : Mixed t b l) (before : (n x y : ℕ) → m ≡ Stopped n x y → n ≢ 42) where
-  by_before : (s : Status) → m ≡ s → (T : Status → Status → Type 0) → (s ≡ Passed → T t (or_else b l)) → ((n x y : ℕ) → s ≡ Stopped n x y → T (Stopped n x y) (Stopped n x y)) → T (or_else s t) (or_else s (or_else b l))
+module _ (m t b l : Status) (mixed : Mixed t b l) (before : (halt : Stop) → m ≡ Err halt → halt.number ≢ 42) where
+  by_before : (s : Status) → m ≡ s → (T : Status → Status → Type 0) → (s ≡ passed → T t (or_else b l)) → ((halt : Stop) → s ≡ Err halt → T (Err halt) (Err halt)) → T (or_else s t) (or_else s (or_else b l))
   unfolding or_else
-  by_before Passed e T f g = f refl
-  by_before (Stopped n x y) e T f g = g n x y refl
+  by_before (Ok done) e T f g = f refl
+  by_before (Err halt) e T f g = g halt refl
 
-  stopped_number : (n n' x x' y y' : ℕ) → Stopped n x y ≡ Stopped n' x' y' → n ≡ n'
-  stopped_number n n' x x' y y' e = cc
+  stopped_number : (h h' : Stop) → ◌≡◌ {A = Status} (Err h) (Err h') → h.number ≡ h'.number
+  stopped_number h h' e = let same : h ≡ h' = cc in ap (λ (x : Stop). x.number) same
 
   -- none in turn, so none at all
-  passed : Neither t b l → or_else b l ≡ Passed
+  none_passes : Neither t b l → or_else b l ≡ passed
   unfolding or_else
-  passed h = rw (h.unbroken, h.small) refl
+  none_passes h = rw (h.unbroken, h.small) refl
 
-  pub strict_passes : or_else m t ≡ Passed → or_else m (or_else b l) ≡ Passed
+  pub strict_passes : or_else m t ≡ passed → or_else m (or_else b l) ≡ passed
   strict_passes =
-      by_before m refl (λ u v. u ≡ Passed → v ≡ Passed)
-      (λ _ e. ⊎_elim (λ h. passed h) (λ h. ⊎_elim (λ k. absurd (never t _ _ _ k.told e)) (λ k. absurd (never t _ _ _ k.told e)) h) mixed)
-      (λ n x y _ e. e)
+      by_before m refl (λ u v. u ≡ passed → v ≡ passed)
+      (λ _ e. ⊎_elim (λ h. none_passes h) (λ h. ⊎_elim (λ k. absurd (never t _ k.told e)) (λ k. absurd (never t _ k.told e)) h) mixed)
+      (λ halt _ e. e)
 
   -- what is not 42 is the first of all
   broken_first : Broken t b → or_else b l ≡ t
   unfolding or_else
   broken_first k = ap (λ (s : Status). or_else s l) k.same ∙ sym k.told
 
-  pub strict_other : (n x y : ℕ) → or_else m t ≡ Stopped n x y → n ≢ 42 → or_else m (or_else b l) ≡ or_else m t
-  strict_other n x y =
-      by_before m refl (λ u v. u ≡ Stopped n x y → n ≢ 42 → v ≡ u)
-      (λ _ e d. ⊎_elim (λ h. absurd (never t n x y e h.told)) (λ h. ⊎_elim (λ k. broken_first k) (λ k. absurd (d (stopped_number n 42 x k.line y 0 (sym e ∙ k.told)))) h) mixed)
-      (λ n' x' y' _ e d. refl)
+  pub strict_other : (halt : Stop) → or_else m t ≡ Err halt → halt.number ≢ 42 → or_else m (or_else b l) ≡ or_else m t
+  strict_other halt =
+      by_before m refl (λ u v. u ≡ Err halt → halt.number ≢ 42 → v ≡ u)
+      (λ _ e d. ⊎_elim (λ h. absurd (never t halt e h.told)) (λ h. ⊎_elim (λ k. broken_first k) (λ k. absurd (d (stopped_number halt _ (sym e ∙ k.told)))) h) mixed)
+      (λ other _ e d. refl)
 
   -- after a 42 in turn: a 53 where there is one, else that 42
-  module _ (x y : ℕ) (large : or_else m t ≡ Stopped 42 x y) where
-    here : (n a c : ℕ) → m ≡ Stopped n a c → Stopped n a c ≡ Stopped 42 x y
+  module _ (x y : ℕ) (large : or_else m t ≡ stopped 42 x y) where
+    here : (halt : Stop) → m ≡ Err halt → Err halt ≡ stopped 42 x y
     unfolding or_else
-    here n a c e = sym (ap (λ (s : Status). or_else s t) e) ∙ large
+    here halt e = sym (ap (λ (s : Status). or_else s t) e) ∙ large
 
-    none_before : (s : Status) → m ≡ s → s ≡ Passed
-    none_before Passed e = refl
-    none_before (Stopped n a c) e = absurd (before n a c e (stopped_number n 42 a x c y (here n a c e)))
+    none_before : (s : Status) → m ≡ s → s ≡ passed
+    none_before (Ok done) e = refl
+    none_before (Err halt) e = absurd (before halt e (stopped_number halt _ (here halt e)))
 
-    nothing_before : m ≡ Passed
+    nothing_before : m ≡ passed
     nothing_before = none_before m refl
 
-    pub strict_refused : (n a c : ℕ) → or_else m b ≡ Stopped n a c → or_else m (or_else b l) ≡ or_else m b
+    pub strict_refused : (halt : Stop) → or_else m b ≡ Err halt → or_else m (or_else b l) ≡ or_else m b
     unfolding or_else
-    strict_refused n a c e =
-        let u : b ≡ Stopped n a c = sym (ap (λ (s : Status). or_else s b) nothing_before) ∙ e in
+    strict_refused halt e =
+        let u : b ≡ Err halt = sym (ap (λ (s : Status). or_else s b) nothing_before) ∙ e in
         rw (nothing_before, u) refl
 
-    pub strict_large : or_else m b ≡ Passed → or_else m (or_else b l) ≡ or_else m t
+    pub strict_large : or_else m b ≡ passed → or_else m (or_else b l) ≡ or_else m t
     unfolding or_else
     strict_large e =
-        let u : b ≡ Passed = sym (ap (λ (s : Status). or_else s b) nothing_before) ∙ e in
-        let v : t ≡ Stopped 42 x y = sym (ap (λ (s : Status). or_else s t) nothing_before) ∙ large in
+        let u : b ≡ passed = sym (ap (λ (s : Status). or_else s b) nothing_before) ∙ e in
+        let v : t ≡ stopped 42 x y = sym (ap (λ (s : Status). or_else s t) nothing_before) ∙ large in
         rw (nothing_before, u)
-        (⊎_elim (λ h. absurd (never t _ _ _ v h.told)) (λ h. ⊎_elim (λ k. absurd (never b _ _ _ k.same u)) (λ k. k.same ∙ sym k.told) h) mixed)
+        (⊎_elim (λ h. absurd (never t _ v h.told)) (λ h. ⊎_elim (λ k. absurd (never b _ k.same u)) (λ k. k.same ∙ sym k.told) h) mixed)
 
 -- no line stops in turn, so none at all
-none_mixed : (t b l : Status) → Mixed t b l → t ≡ Passed → (b ≡ Passed) × (l ≡ Passed)
-none_mixed t b l m e = ⊎_elim (λ h. (h.unbroken, h.small)) (λ h. ⊎_elim (λ k. absurd (never t _ _ _ k.told e)) (λ k. absurd (never t _ _ _ k.told e)) h) m
+none_mixed : (t b l : Status) → Mixed t b l → t ≡ passed → (b ≡ passed) × (l ≡ passed)
+none_mixed t b l m e = ⊎_elim (λ h. (h.unbroken, h.small)) (λ h. ⊎_elim (λ k. absurd (never t _ k.told e)) (λ k. absurd (never t _ k.told e)) h) m
 
-pub faulty_clear : (scenario : Scenario) → first (faulty_lines scenario) ≡ Passed → (first (refused_lines scenario) ≡ Passed) × (first (large_lines scenario) ≡ Passed)
+pub faulty_clear : (scenario : Scenario) → first (faulty_lines scenario) ≡ passed → (first (refused_lines scenario) ≡ passed) × (first (large_lines scenario) ≡ passed)
 unfolding faulty_lines refused_lines large_lines line_refused line_too_large
 faulty_clear scenario e =
     none_mixed _ _ _

@@ -1,5 +1,6 @@
 -- What the cells of a scenario hold, read back: a line's columns are those of the line, and a total of lines that the totals call does not
 -- refuse is the receptor's total. Assumes nothing.
+use Rattle.std.specs.Prelude.{Ok, Err}
 use mathlib.Core.Path.{◌≡◌, refl, sym, ap, ◌∙◌}
 use mathlib.Core.Bool.{Bool, true}
 use mathlib.Core.List.{List, [], ◌∷◌, ◌++◌, map, map-append}
@@ -14,14 +15,13 @@ use Rattle.sizes.specs.Sizes.{max_chemicals, most_lines, most_receptors, pathway
 use Rattle.pair.specs.Calls.{is}
 use Rattle.equations.specs.declared.Effect.{Effect}
 use Rattle.equations.specs.declared.Effect.TheVariants.{Hazard, Cancer}
-use Rattle.cases.specs.declared.Status.{Status}
-use Rattle.cases.specs.declared.Status.TheVariants.{Passed, Stopped}
+use Rattle.cases.specs.Conditions.{Status}
+use Rattle.cases.specs.Conditions.{passed, stopped}
 use Rattle.lists.proofs.Booleans.{both}
 use Rattle.lists.proofs.Tabulated.{tabulated, length_tabulate}
-use Rattle.totals.specs.declared.Columns.{Columns}
-use Rattle.totals.specs.declared.Columns.TheVariants as Cols
-use Rattle.totals.specs.Totals.{◌added◌, total_of, list_sum, all_at_most}
-use Rattle.scenario.specs.Scenario.{Scenario}
+use Rattle.std.specs.Prelude.{Some, None}
+use Rattle.totals.specs.Totals.{Columns, ◌added◌, total_of, list_sum, all_at_most}
+use Rattle.scenario.specs.declared.Scenario.{Scenario}
 use Rattle.lists.specs.Lists.{chained}
 use Rattle.sheet.specs.Sheet.{pathway_at, columns_at, added_over, total_at}
 use Rattle.sheet.specs.Counts.{Part, Mark, Low, High, cell_of, effect_at, part_at, line_columns, cell_at, cells_of, no_cells, cells_for, status_by, cells_by, columns_from, side_of, is_held, columns_found, columns_in, totalled_from, total_found, total_in, all_cells, effect_cells, receptor_cells}
@@ -30,20 +30,20 @@ use Rattle.lists.proofs.Chained.{chained_length, flat}
 use Rattle.sheet.proofs.CellLaws.{side_small, part_small}
 
 -- ---- columns added up
-added_absent : (u : Columns) → u added Cols.Absent ≡ u
+added_absent : (u : Columns) → u added None ≡ u
 unfolding ◌added◌
-added_absent Cols.Absent = refl
-added_absent (Cols.Counted l h) = refl
+added_absent None = refl
+added_absent (Some n) = refl
 
 added_assoc : (u v w : Columns) → u added v added w ≡ u added (v added w)
 unfolding ◌added◌
-added_assoc Cols.Absent v w = refl
-added_assoc (Cols.Counted l h) Cols.Absent w = refl
-added_assoc (Cols.Counted l h) (Cols.Counted k g) Cols.Absent = refl
-added_assoc (Cols.Counted l h) (Cols.Counted k g) (Cols.Counted m f) = rw (add_assoc l k m, add_assoc h g f) refl
+added_assoc None v w = refl
+added_assoc (Some x) None w = refl
+added_assoc (Some x) (Some y) None = refl
+added_assoc (Some x) (Some y) (Some z) = rw (add_assoc x.low y.low z.low, add_assoc x.high y.high z.high) refl
 
 summed : List Columns → Columns
-summed [] = Cols.Absent
+summed [] = None
 summed (u ∷ list) = u added summed list
 
 summed_append : (a b : List Columns) → summed (a ++ b) ≡ summed a added summed b
@@ -67,9 +67,9 @@ summed_flat f n =
 -- its counts are the sums of the columns
 counts_added : (u v : Columns) → (cell_of Low (u added v) ≡ cell_of Low u + cell_of Low v) × (cell_of High (u added v) ≡ cell_of High u + cell_of High v)
 unfolding cell_of ◌added◌
-counts_added Cols.Absent v = (omega arith, omega arith)
-counts_added (Cols.Counted l h) Cols.Absent = (omega arith, omega arith)
-counts_added (Cols.Counted l h) (Cols.Counted k g) = (refl, refl)
+counts_added None v = (omega arith, omega arith)
+counts_added (Some x) None = (omega arith, omega arith)
+counts_added (Some x) (Some y) = (refl, refl)
 
 cells_summed : (w : Part) → ((u v : Columns) → cell_of w (u added v) ≡ cell_of w u + cell_of w v) → (list : List Columns) → list_sum (map (cell_of w) list) ≡ cell_of w (summed list)
 unfolding summed list_sum cell_of
@@ -79,9 +79,9 @@ cells_summed w more (u ∷ list) = rw (cells_summed w more list, more u (summed 
 -- it is - where no line has counts
 marked : (u v : Columns) (lines : ℕ) → eqb lines 0 ≡ eqb (cell_of Mark v) 0 → eqb (cell_of Mark u + lines) 0 ≡ eqb (cell_of Mark (u added v)) 0
 unfolding ◌added◌ cell_of
-marked Cols.Absent v lines h = rw (zero-add lines) h
-marked (Cols.Counted low high) Cols.Absent lines h = ne_eqb (1 + lines) 0 (λ z. omega arith)
-marked (Cols.Counted low high) (Cols.Counted l g) lines h = ne_eqb (1 + lines) 0 (λ z. omega arith)
+marked None v lines h = rw (zero-add lines) h
+marked (Some x) None lines h = ne_eqb (1 + lines) 0 (λ z. omega arith)
+marked (Some x) (Some y) lines h = ne_eqb (1 + lines) 0 (λ z. omega arith)
 
 marks_summed : (list : List Columns) → eqb (list_sum (map (cell_of Mark) list)) 0 ≡ eqb (cell_of Mark (summed list)) 0
 unfolding summed list_sum cell_of
@@ -91,8 +91,8 @@ marks_summed (u ∷ list) = marked u (summed list) (list_sum (map (cell_of Mark)
 -- two columns read back
 again : (u : Columns) → columns_from (cell_of Mark u) (cell_of Low u) (cell_of High u) ≡ u
 unfolding columns_from cell_of
-again Cols.Absent = refl
-again (Cols.Counted low high) = refl
+again None = refl
+again (Some x) = refl
 
 -- ---- lists that the totals call does not refuse
 all_append : (most : ℕ) (a b : List ℕ) → all_at_most most a ≡ true → all_at_most most b ≡ true → all_at_most most (a ++ b) ≡ true
@@ -204,7 +204,7 @@ module _ (scenario : Scenario) (few_chemicals : scenario.chemicals.count ≤ max
     unfolding total_in total_found total_at part_of listed
     columns_total =
         let at : ℕ = receptor_cells * j + effect_cells * side_of e in
-        rw (is_held_lem, lt-ltb (scenario.chemicals.count * pathways_per_chemical) (suc most_lines) (omega arith), column_is Mark at (omega arith), column_is Low (at + most_lines) (omega arith), column_is High (at + most_lines + most_lines) (omega arith))
+        rw (is_held_lem, lt-ltb (scenario.chemicals.count * pathways_per_chemical) (suc most_lines) (omega arith), column_is Mark at (omega arith), column_is Low (at + most_lines) (omega arith), column_is High (at + 2 * most_lines) (omega arith))
         (total_summed (λ q. columns_at e scenario j (q / pathways_per_chemical) (pathway_at (q % pathways_per_chemical))) (scenario.chemicals.count * pathways_per_chemical) (omega arith) small
         ∙ summed_flat (λ i p. columns_at e scenario j i (pathway_at p)) scenario.chemicals.count)
 
@@ -216,8 +216,8 @@ columns_held scenario few_chemicals few_receptors j q here h e = line_held scena
 -- how many cells the call leaves
 many_for : (s : Status) (scenario : Scenario) → length (cells_for s scenario) ≡ all_cells
 unfolding cells_for cells_of no_cells
-many_for Passed scenario = length_tabulate (cell_at scenario) 0 0 all_cells
-many_for (Stopped number line field) scenario = length_tabulate (λ k. 0) 0 0 all_cells
+many_for (Ok done) scenario = length_tabulate (cell_at scenario) 0 0 all_cells
+many_for (Err stop) scenario = length_tabulate (λ k. 0) 0 0 all_cells
 
 pub cells_many : (tested : Bool) (scenario : Scenario) → length (cells_by tested scenario) ≡ all_cells
 unfolding cells_by

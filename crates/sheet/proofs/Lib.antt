@@ -3,6 +3,7 @@
 mod Clear
 mod SourceLaws
 mod ChemicalLaws
+mod Chosen
 mod ReceptorLaws
 mod CellLaws
 pub mod CountLaws

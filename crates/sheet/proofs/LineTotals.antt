@@ -24,8 +24,9 @@ use Rattle.equations.specs.Page.{line}
 use Rattle.equations.specs.Readings.{paces_of, exactly}
 use Rattle.equations.proofs.LineLaws.{Works, line_works, line_narrow}
 use Rattle.powers.specs.Powers.{above, below}
-use Rattle.totals.specs.declared.Columns.TheVariants as Cols
-use Rattle.scenario.specs.Scenario.{Scenario, stay_in, guidance_in, pairs_at, Exact}
+use Rattle.std.specs.Prelude.{None}
+use Rattle.scenario.specs.declared.Scenario.{Scenario}
+use Rattle.scenario.specs.Scenario.{stay_in, guidance_in, pairs_at, Exact}
 use Rattle.sheet.specs.Sheet.{has_reference, figure_at, unit_of, cap_of, counted, counted_in, columns_at, is_above, high_above, over_cap}
 use Rattle.sheet.specs.DemandThree.{Enclosed, units_per_one, in_units_of, nothing, exact_line, line_counts}
 use Rattle.scenario.proofs.Sound.{Sound}
@@ -196,7 +197,7 @@ module _ (scenario : Scenario) {exact : Exact} (sound : Sound scenario exact) (j
       rw (f.works.told, f.told) (enclosed_from _ _ f.units (in_units_of e x) q (omega arith) (omega (arith, s)) (omega (arith, q.close)))
 
   by_reference : (t : Bool) (e : Effect) (w : Pathway) → (t && high_above (cap_of e) (figure_at e scenario j i w)) ≡ false → (N : ℕ) → 256 ≤ N →
-      Totals (cond t (counted_in (unit_of e) (figure_at e scenario j i w)) Cols.Absent) (cond t 1 0) (cond t (in_units_of e (exactly N (paces_of (pairs_at scenario j i)) (exact j i) (line (guidance_in scenario) e (stay_in scenario j) w))) nothing)
+      Totals (cond t (counted_in (unit_of e) (figure_at e scenario j i w)) None) (cond t 1 0) (cond t (in_units_of e (exactly N (paces_of (pairs_at scenario j i)) (exact j i) (line (guidance_in scenario) e (stay_in scenario j) w))) nothing)
   by_reference true e w c N n = figure_totals e w c N n
   by_reference false e w c N n = totals_none
 

@@ -34,14 +34,14 @@ use Rattle.media.specs.declared.Media.{Media}
 use Rattle.media.specs.declared.Ground.{Ground}
 use Rattle.media.specs.Media.{four, media_in, ground_from}
 use Rattle.media.proofs.Means.{ground_page, mean_media_lem}
-use Rattle.cases.specs.declared.Status.TheVariants.{Passed}
+use Rattle.cases.specs.Conditions.{passed}
 use Rattle.cases.proofs.CaseConditionLaws.{counts_right}
 use Rattle.slots.specs.declared.Sort.TheVariants.{Ordinary}
 use Rattle.cases.specs.Conditions.{Condition, first}
-use Rattle.totals.specs.declared.Columns.{Columns}
-use Rattle.totals.specs.declared.Columns.TheVariants as Cols
-use Rattle.totals.specs.Totals.{◌added◌}
-use Rattle.scenario.specs.Scenario.{is_refused, Scenario, rest_of, values_of, particles_of, chemical_in, receptor_in, stay_in, guidance_in, given_in, pairs_at, Exact}
+use Rattle.std.specs.Prelude.{Some, None}
+use Rattle.totals.specs.Totals.{Columns, ◌added◌}
+use Rattle.scenario.specs.declared.Scenario.{Scenario}
+use Rattle.scenario.specs.Scenario.{is_refused, rest_of, values_of, particles_of, chemical_in, receptor_in, stay_in, guidance_in, given_in, pairs_at, Exact}
 use Rattle.sizes.specs.Sizes.{max_chemicals, most_receptors, pathways_per_chemical, most_lines}
 use Rattle.sheet.specs.Sheet.{pathway_at, has_reference, figure_at, unit_of, ByRule, counted, counted_in, columns_at, added_over, total_at, high_above, unworked, over_cap, cap_of, line_refused, line_too_large, refused_lines, large_lines, faulty_lines}
 use Rattle.lists.specs.Lists.{chained}
@@ -139,14 +139,14 @@ conditions_agree scenario sound =
 
 -- ---- a line with its reference value
 columns_counted : (t : Bool) (e : Effect) (o : Outcome Pair) (p : Pair) (u : Units) → t ≡ true → o ≡ is p → in_units p (unit_of e) ≡ is u →
-    cond t (counted_in (unit_of e) o) Cols.Absent ≡ Cols.Counted u.low u.high
+    cond t (counted_in (unit_of e) o) None ≡ Some u
 unfolding counted_in counted
 columns_counted t e o p u h r k = rw (h, r, k) refl
 
 capped : (t : Bool) (b : Bool) → t ≡ true → (t && b) ≡ false → b ≡ false
 capped t b h e = rw h at e
 
-most_if : (t : Bool) (e : Effect) (o : Outcome Pair) → (t ≡ true → CountsMost (10 ^ 16) (counted_in (unit_of e) o)) → CountsMost (10 ^ 16) (cond t (counted_in (unit_of e) o) Cols.Absent)
+most_if : (t : Bool) (e : Effect) (o : Outcome Pair) → (t ≡ true → CountsMost (10 ^ 16) (counted_in (unit_of e) o)) → CountsMost (10 ^ 16) (cond t (counted_in (unit_of e) o) None)
 unfolding CountsMost
 most_if true e o h = h refl
 most_if false e o h = tt
@@ -154,10 +154,10 @@ most_if false e o h = tt
 -- columns added
 most_added : (m n : ℕ) (u v : Columns) → CountsMost m u → CountsMost n v → CountsMost (m + n) (u added v)
 unfolding CountsMost ◌added◌
-most_added m n Cols.Absent Cols.Absent h k = tt
-most_added m n Cols.Absent (Cols.Counted l g) h k = (omega arith, omega arith)
-most_added m n (Cols.Counted l g) Cols.Absent h k = (omega arith, omega arith)
-most_added m n (Cols.Counted l g) (Cols.Counted l' g') h k = (omega arith, omega arith)
+most_added m n None None h k = tt
+most_added m n None (Some x) h k = (omega arith, omega arith)
+most_added m n (Some x) None h k = (omega arith, omega arith)
+most_added m n (Some x) (Some y) h k = (omega arith, omega arith)
 
 most_over : (m : ℕ) (f : ℕ → Columns) (n : ℕ) → ((k : ℕ) → k < n → CountsMost m (f k)) → CountsMost (n * m) (added_over f n)
 unfolding added_over CountsMost
@@ -168,17 +168,17 @@ most_over m f (suc n) h =
 
 cell_most : (u : Columns) (w : Part) → CountsMost (10 ^ 16) u → cell_of w u ≤ 10 ^ 16
 unfolding CountsMost cell_of
-cell_most Cols.Absent w h = lit≤ tt
-cell_most (Cols.Counted l g) Mark h = lit≤ tt
-cell_most (Cols.Counted l g) Low h = h.0
-cell_most (Cols.Counted l g) High h = h.1
+cell_most None w h = lit≤ tt
+cell_most (Some x) Mark h = lit≤ tt
+cell_most (Some x) Low h = h.0
+cell_most (Some x) High h = h.1
 
 most_more : (m n : ℕ) (u : Columns) → m ≤ n → CountsMost m u → CountsMost n u
 unfolding CountsMost
-most_more m n Cols.Absent l h = tt
-most_more m n (Cols.Counted a b) l h = (omega arith, omega arith)
+most_more m n None l h = tt
+most_more m n (Some x) l h = (omega arith, omega arith)
 
-module _ (scenario : Scenario) {exact : Exact} (sound : Sound scenario exact) (small : first (large_lines scenario) ≡ Passed) where
+module _ (scenario : Scenario) {exact : Exact} (sound : Sound scenario exact) (small : first (large_lines scenario) ≡ passed) where
   module _ (e : Effect) (j i p : ℕ) (j-small : j < scenario.receptors.count) (i-small : i < scenario.chemicals.count) (p_small : p < pathways_per_chemical) where
     figure : has_reference e scenario i (pathway_at p) ≡ true → Figure scenario exact j i e (pathway_at p)
     unfolding over_cap
@@ -255,7 +255,7 @@ figure_pair : (scenario : Scenario) (e : Effect) (j i p : ℕ) (r : Pair) → fi
 unfolding figure_at ends_pair
 figure_pair scenario e j i p r h = line_pair (guidance_in scenario) e (stay_in scenario j) (pathway_at p) (pairs_at scenario j i) r h
 
-pub lines_figured : (scenario : Scenario) → scenario.chemicals.count ≤ max_chemicals → scenario.receptors.count ≤ most_receptors → first (refused_lines scenario) ≡ Passed → Figured scenario
+pub lines_figured : (scenario : Scenario) → scenario.chemicals.count ≤ max_chemicals → scenario.receptors.count ≤ most_receptors → first (refused_lines scenario) ≡ passed → Figured scenario
 lines_figured scenario few_chemicals few_receptors none =
     record { few_chemicals = few_chemicals; few_receptors = few_receptors; told = λ e j i p a b c h. told e j i p a b c h }
   where
@@ -269,7 +269,7 @@ lines_figured scenario few_chemicals few_receptors none =
         (f.0, f.1, figure_pair scenario e j i p f.0 f.1)
 
 -- ---- where no line is refused and none too large, all counts and totals are small
-module _ (scenario : Scenario) (figured : Figured scenario) (small : first (large_lines scenario) ≡ Passed) where
+module _ (scenario : Scenario) (figured : Figured scenario) (small : first (large_lines scenario) ≡ passed) where
   module _ (e : Effect) (j i p : ℕ) (j-small : j < scenario.receptors.count) (i-small : i < scenario.chemicals.count) (p_small : p < pathways_per_chemical) where
     pub columns_small : CountsMost (10 ^ 16) (columns_at e scenario j i (pathway_at p))
     unfolding columns_at counted_in counted CountsMost over_cap
@@ -282,7 +282,7 @@ module _ (scenario : Scenario) (figured : Figured scenario) (small : first (larg
         rw (f.1, n.told) n.small)
 
     -- and a line with its reference value has counts, never -
-    pub never_dash : has_reference e scenario i (pathway_at p) ≡ true → (u : Units) × (columns_at e scenario j i (pathway_at p) ≡ Cols.Counted u.low u.high)
+    pub never_dash : has_reference e scenario i (pathway_at p) ≡ true → (u : Units) × (columns_at e scenario j i (pathway_at p) ≡ Some u)
     unfolding columns_at over_cap
     never_dash h =
         let f = figured.told e j i p j-small i-small p_small h in

@@ -4,9 +4,10 @@
 use mathlib.Core.Path.{◌≡◌}
 use Prim.Native.Nat.{ℕ, ◌≤◌, ◌<◌}
 use Rattle.equations.specs.declared.Effect.{Effect}
-use Rattle.cases.specs.declared.Status.TheVariants.{Passed}
+use Rattle.cases.specs.Conditions.{passed}
 use Rattle.cases.specs.Conditions.{first}
-use Rattle.scenario.specs.Scenario.{Scenario, scenario_with, entered_from, ordinary_of, Exact}
+use Rattle.scenario.specs.declared.Scenario.{Scenario}
+use Rattle.scenario.specs.Scenario.{scenario_with, entered_from, ordinary_of, Exact}
 use Rattle.sizes.specs.Sizes.{pathways_per_chemical}
 use Rattle.sheet.specs.Sheet.{pathway_at, columns_at, added_over, total_at, large_lines}
 use Rattle.sheet.specs.DemandThree.{exact_line, line_counts, sum_over, count_over, exact_total, lines_added, TotalHolds, CaseDemand3}
@@ -16,7 +17,7 @@ use Rattle.sheet.proofs.Clear.{not_large}
 use Rattle.sheet.proofs.LineTotals.{line_totals}
 use Rattle.sheet.proofs.TotalLaws.{totals_over, totals_hold}
 
-pub scenario_demand_3 : (scenario : Scenario) {exact : Exact} → Sound scenario exact → first (large_lines scenario) ≡ Passed
+pub scenario_demand_3 : (scenario : Scenario) {exact : Exact} → Sound scenario exact → first (large_lines scenario) ≡ passed
     → (j : ℕ) → j < scenario.receptors.count → (N : ℕ) → 256 ≤ N → (e : Effect) → TotalHolds (total_at e scenario j) (lines_added e scenario) (exact_total e scenario exact N j)
 unfolding total_at lines_added exact_total
 scenario_demand_3 scenario {exact} sound small j l N n e =

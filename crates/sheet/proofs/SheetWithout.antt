@@ -12,7 +12,8 @@ use Rattle.slots.specs.declared.Sort.TheVariants.{Ordinary}
 use Rattle.cases.specs.declared.Record.{Record}
 use Rattle.cases.specs.Cases.{no_record}
 use Rattle.cases.specs.CaseConditions.{slot_conditions, record_conditions, chemical_conditions, source_conditions, memory_conditions}
-use Rattle.scenario.specs.Scenario.{Scenario, scenario_conditions}
+use Rattle.scenario.specs.declared.Scenario.{Scenario}
+use Rattle.scenario.specs.Scenario.{scenario_conditions}
 use Rattle.sizes.specs.Sizes.{pathways_per_chemical, slots_per_record}
 use Rattle.sheet.specs.Sheet.{line_refused, line_too_large, over_lines, refused_lines, large_lines, faulty_lines}
 use Rattle.sheet.specs.Counts.{no_media_at, unmade, refusals, entered_conditions}

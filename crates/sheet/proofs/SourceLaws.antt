@@ -5,6 +5,7 @@ use mathlib.Core.Bool.{true, false, cond, ◌&&◌, true≢false}
 use Prim.Native.Nat.{ℕ, ◌-◌, ◌<◌}
 use lib.ListN.{get_or, replicate}
 use Rattle.sizes.specs.Sizes.{most_receptors}
+use Rattle.std.specs.Prelude.{Option, Some, None}
 use Rattle.pair.specs.declared.Pair.{Pair}
 use Rattle.pair.specs.Calls.{Outcome, is, refused, mapped, after, product}
 use Rattle.slots.specs.declared.Guidance.{Guidance}
@@ -32,7 +33,7 @@ use Rattle.media.proofs.Means.{Told, four_told, ground_highest, mean_media_lem}
 use Rattle.pathway.specs.declared.Factor.{Factor}
 use Rattle.pathway.specs.declared.Dose.{Dose}
 use Rattle.pathway.specs.declared.References.{References}
-use Rattle.pathway.specs.Lines.{Optional, some, none, Figured, worked_for, worked_of, factor_of, dose_for, figure_of, rfd_value, csf_value, as_rfd, as_csf, references_from, rfc_value, unit_risk_value, as_rfc, as_unit_risk, time_share_of, air_exposure_of, in_air_of, air_figure_of, air_figures_with, breathed_by, absorbed_of, habits_of, dose_figures_with, figures_by, figures_with}
+use Rattle.pathway.specs.Lines.{Figured, worked_for, worked_of, factor_of, dose_for, figure_of, rfd_value, csf_value, as_rfd, as_csf, references_from, rfc_value, unit_risk_value, as_rfc, as_unit_risk, time_share_of, air_exposure_of, in_air_of, air_figure_of, air_figures_with, breathed_by, absorbed_of, habits_of, dose_figures_with, figures_by, figures_with}
 use Rattle.pathway.proofs.Carried.{pair_back}
 use Rattle.pathway.proofs.HabitLaws.{own_factor, medium_in, dose_pair}
 use Rattle.pathway.proofs.AirLaws.{time_share_alike, air_figure_page}
@@ -40,9 +41,10 @@ use Rattle.cases.specs.declared.Record.{Record}
 use Rattle.cases.specs.declared.Value.{Value}
 use Rattle.cases.specs.declared.Value.TheVariants.{Absent, Given}
 use Rattle.cases.specs.Cases.{value_at}
-use Rattle.totals.specs.declared.Columns.TheVariants as Cols
+use Rattle.std.specs.Prelude.{None}
 use Rattle.sheet.specs.declared.Source.{Source}
-use Rattle.scenario.specs.Scenario.{is_refused, Scenario, pair_of, rest_of, values_of, particles_of, no_receptor, chemical_in, receptor_in, stay_in, guidance_in, given_in, pairs_at, site_of}
+use Rattle.scenario.specs.declared.Scenario.{Scenario}
+use Rattle.scenario.specs.Scenario.{is_refused, pair_of, rest_of, values_of, particles_of, no_receptor, chemical_in, receptor_in, stay_in, guidance_in, given_in, pairs_at, site_of}
 use Rattle.sheet.specs.Sheet.{is_given, has_reference, figure_at, unit_of, cap_of, counted_in, columns_at, high_above, unworked, over_cap}
 use Rattle.sheet.specs.Counts.{ground_for, mean_with, mean_for, stops_at}
 use Rattle.sheet.specs.Inner.{columns_of, above_cap, media_from, ground_with, means_of, printed_as, references_of, source_with, source_from, source_of, mean_at, figures_from, figure_for}
@@ -145,9 +147,9 @@ unfolding worked as_answers of_two plain plain_with same read pairs letters page
 line_by Hazard stay p v = refl
 line_by Cancer stay p v = refl
 
-optional : Value → Optional Pair
-optional Absent = none
-optional (Given power digits) = some (pair_of (Given power digits))
+optional : Value → Option Pair
+optional Absent = None
+optional (Given power digits) = Some (pair_of (Given power digits))
 
 rfd_optional : (v : Value) → rfd_value (as_rfd (printed_as v)) ≡ optional v
 unfolding rfd_value as_rfd printed_as optional
@@ -180,32 +182,32 @@ figure_for_lem : (y : Guidance) (e : Effect) (p : Pathway) (s c r : Values) (m n
     figure_for e (dose_figures_with (habits_of y r) p s (absorbed_of c) r m n (references_of chemical)) ≡ figure_of e (dose_for p (factor_of e p s c r) (media_by e m n)) (optional (reference_at e p chemical))
 unfolding figure_for dose_figures_with references_of references_from reference_at media_by
 figure_for_lem y Hazard p s c r m n chemical =
-    ap₂ (λ (f : Outcome Factor) (v : Optional Pair). figure_of Hazard (dose_for p f m) v) (own_factor y Hazard p s c r)
+    ap₂ (λ (f : Outcome Factor) (v : Option Pair). figure_of Hazard (dose_for p f m) v) (own_factor y Hazard p s c r)
     (ap rfd_value (sym (routed (λ v. as_rfd (printed_as v)) p (value_at chemical (place_of "RfDi")) (value_at chemical (place_of "RfDo")))) ∙ rfd_optional (reference_at Hazard p chemical))
 figure_for_lem y Cancer p s c r m n chemical =
-    ap₂ (λ (f : Outcome Factor) (v : Optional Pair). figure_of Cancer (dose_for p f n) v) (own_factor y Cancer p s c r)
+    ap₂ (λ (f : Outcome Factor) (v : Option Pair). figure_of Cancer (dose_for p f n) v) (own_factor y Cancer p s c r)
     (ap csf_value (sym (routed (λ v. as_csf (printed_as v)) p (value_at chemical (place_of "CSFi")) (value_at chemical (place_of "CSFo")))) ∙ csf_optional (reference_at Cancer p chemical))
 
 -- its columns and its cap
-columns_some : (e : Effect) (o : Outcome Pair) → columns_of e (mapped (λ (q : Pair). some q) o) ≡ counted_in (unit_of e) o
+columns_some : (e : Effect) (o : Outcome Pair) → columns_of e (mapped (λ (q : Pair). Some q) o) ≡ counted_in (unit_of e) o
 unfolding columns_of mapped counted_in
 columns_some e (is p) = refl
 columns_some e (refused n) = refl
 
-cap_some : (e : Effect) (o : Outcome Pair) → above_cap e (mapped (λ (q : Pair). some q) o) ≡ high_above (cap_of e) o
+cap_some : (e : Effect) (o : Outcome Pair) → above_cap e (mapped (λ (q : Pair). Some q) o) ≡ high_above (cap_of e) o
 unfolding above_cap mapped high_above
 cap_some e (is p) = refl
 cap_some e (refused n) = refl
 
-broken_some : (o : Outcome Pair) → is_refused (mapped (λ (q : Pair). some q) o) ≡ is_refused o
+broken_some : (o : Outcome Pair) → is_refused (mapped (λ (q : Pair). Some q) o) ≡ is_refused o
 unfolding is_refused mapped
 broken_some (is p) = refl
 broken_some (refused n) = refl
 
 -- a figure that is worked from its reference value, where there is one
-module _ (e : Effect) (f : Optional Pair → Outcome (Optional Pair)) (o : Pair → Outcome Pair) (without : f none ≡ is none) (with_one : (v : Pair) → f (some v) ≡ mapped (λ (q : Pair). some q) (o v)) where
+module _ (e : Effect) (f : Option Pair → Outcome (Option Pair)) (o : Pair → Outcome Pair) (without : f None ≡ is None) (with_one : (v : Pair) → f (Some v) ≡ mapped (λ (q : Pair). Some q) (o v)) where
   figure_columns : (v : Value) →
-      (columns_of e (f (optional v)) ≡ cond (is_given v) (counted_in (unit_of e) (o (pair_of v))) Cols.Absent)
+      (columns_of e (f (optional v)) ≡ cond (is_given v) (counted_in (unit_of e) (o (pair_of v))) None)
       × (above_cap e (f (optional v)) ≡ (is_given v && high_above (cap_of e) (o (pair_of v))))
       × (is_refused (f (optional v)) ≡ (is_given v && is_refused (o (pair_of v))))
   unfolding optional is_given columns_of above_cap is_refused
@@ -246,7 +248,7 @@ air_figure_for Cancer r air chemical = ap (air_figure_of Cancer (air_exposure_of
 -- figures are a formula's, for one effect: their columns and their cap
 abbrev Agrees : Scenario → ℕ → ℕ → Effect → Pathway → Figured → Formula → Type 0
 Agrees scenario j i e p f g =
-    (columns_of e (figure_for e f) ≡ cond (has_reference e scenario i p) (counted_in (unit_of e) (worked (pairs_at scenario j i) g)) Cols.Absent)
+    (columns_of e (figure_for e f) ≡ cond (has_reference e scenario i p) (counted_in (unit_of e) (worked (pairs_at scenario j i) g)) None)
     × (above_cap e (figure_for e f) ≡ (has_reference e scenario i p && high_above (cap_of e) (worked (pairs_at scenario j i) g)))
     × (is_refused (figure_for e f) ≡ (has_reference e scenario i p && is_refused (worked (pairs_at scenario j i) g)))
 
@@ -295,7 +297,7 @@ module _ (scenario : Scenario) (j i : ℕ) (e : Effect) (the_ground : Ground) (l
     unfolding has_reference value figure_of
     intake_agrees =
         let c = figure_columns e (figure_of e dose) (λ v. of_two (figure_by e) (mapped (λ (g : Dose). g.0) dose) (is v)) refl (λ v. refl) value in (
-          ap (columns_of e) figured ∙ c.0 ∙ ap (λ (o : Outcome Pair). cond (is_given value) (counted_in (unit_of e) o) Cols.Absent) figure_is,
+          ap (columns_of e) figured ∙ c.0 ∙ ap (λ (o : Outcome Pair). cond (is_given value) (counted_in (unit_of e) o) None) figure_is,
           ap (above_cap e) figured ∙ c.1 ∙ ap (λ (o : Outcome Pair). is_given value && high_above (cap_of e) o) figure_is,
           ap is_refused figured ∙ c.2 ∙ ap (λ (o : Outcome Pair). is_given value && is_refused o) figure_is,
         )
@@ -330,7 +332,7 @@ module _ (scenario : Scenario) (j i : ℕ) (e : Effect) (the_ground : Ground) (l
   air_agrees =
       let c = figure_columns e (air_figure_of e (air_exposure_of (time_share_of e receptor') air)) (λ v. of_two (air_figure_by e) (after product (worked_of receptor' (page.time_share e)) (is air.0)) (is v))
       refl (λ v. air_figure_page e (worked_of receptor' (page.time_share e)) air.0 v) inhaled in (
-        ap (columns_of e) air_figured ∙ c.0 ∙ ap (λ (o : Outcome Pair). cond (is_given inhaled) (counted_in (unit_of e) o) Cols.Absent) air_is,
+        ap (columns_of e) air_figured ∙ c.0 ∙ ap (λ (o : Outcome Pair). cond (is_given inhaled) (counted_in (unit_of e) o) None) air_is,
         ap (above_cap e) air_figured ∙ c.1 ∙ ap (λ (o : Outcome Pair). is_given inhaled && high_above (cap_of e) o) air_is,
         ap is_refused air_figured ∙ c.2 ∙ ap (λ (o : Outcome Pair). is_given inhaled && is_refused o) air_is,
       )

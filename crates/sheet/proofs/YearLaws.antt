@@ -24,12 +24,12 @@ use Rattle.equations.proofs.Guided.{guided}
 use Rattle.equations.proofs.Rising.{Alike, worked_same, the_year, year_free, year_steady}
 use Rattle.cases.specs.declared.Value.{Value}
 use Rattle.cases.specs.declared.Value.TheVariants.{Absent}
-use Rattle.cases.specs.declared.Filled.{Filled}
 use Rattle.cases.specs.declared.Record.{Record}
 use Rattle.cases.specs.declared.Case.{Case}
-use Rattle.cases.specs.Cases.{no_slot, value_at, receptor_at, guidance_of, clear_year, case_without_year}
-use Rattle.totals.specs.declared.Columns.TheVariants as Cols
-use Rattle.scenario.specs.Scenario.{Scenario, scenario_from, pair_of, rest_of, values_of, chemical_in, receptor_in, stay_in, guidance_in, given_in, pairs_at, time_given, deposition_of, entered_from}
+use Rattle.cases.specs.Cases.{value_at, receptor_at, guidance_of, clear_year, case_without_year}
+use Rattle.std.specs.Prelude.{None}
+use Rattle.scenario.specs.declared.Scenario.{Scenario}
+use Rattle.scenario.specs.Scenario.{scenario_from, pair_of, rest_of, values_of, chemical_in, receptor_in, stay_in, guidance_in, given_in, pairs_at, time_given, deposition_of, entered_from}
 use Rattle.sheet.specs.Sheet.{is_given, has_reference, figure_at, unit_of, counted_in, columns_at, total_at, lines_per_receptor, over_cap, report_line, line_too_large, over_lines, large_lines}
 use Rattle.lists.specs.Lists.{chained}
 use Rattle.scenario.proofs.InputLaws.{value_at_lem}
@@ -56,11 +56,11 @@ elsewhere s h o e =
 module _ (r : Record) where
   other_kept : (s : Slot) → the_year s ≡ false → owner_of s ≡ Site → value_at (clear_year r) (place_of s) ≡ value_at r (place_of s)
   unfolding value_at clear_year
-  other_kept s h o = ap (λ (f : Filled). f.value) (get_or-set_other r.slots (place_of "year") (place_of s) no_slot no_slot (elsewhere s h o))
+  other_kept s h o = get_or-set_other r.slots (place_of "year") (place_of s) Absent Absent (elsewhere s h o)
 
   year_absent : value_at (clear_year r) (place_of "year") ≡ Absent
   unfolding value_at clear_year
-  year_absent = ap (λ (f : Filled). f.value) (blank_at r.slots (place_of "year") no_slot)
+  year_absent = blank_at r.slots (place_of "year") Absent
 
 -- ---- the lines
 by_site : {A B : Type 0} (f : A → B) (o : Owner) (a a' b c : A) → (o ≡ Site → f a ≡ f a') → f (by_owner o a b c) ≡ f (by_owner o a' b c)
@@ -111,7 +111,7 @@ module _ (s : Scenario) where
     pub columns_same : (e : Effect) (j i : ℕ) (p : Pathway) → columns_at e (year_blank s) j i p ≡ columns_at e s j i p
     unfolding columns_at
     columns_same e j i p =
-        ap₂ (λ (t : Bool) (o : Outcome Pair). cond t (counted_in (unit_of e) o) Cols.Absent) (reference_same e i p) (figure_same e j i p)
+        ap₂ (λ (t : Bool) (o : Outcome Pair). cond t (counted_in (unit_of e) o) None) (reference_same e i p) (figure_same e j i p)
 
     pub total_same : (e : Effect) (j : ℕ) → total_at e (year_blank s) j ≡ total_at e s j
     unfolding total_at

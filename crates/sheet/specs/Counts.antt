@@ -1,6 +1,7 @@
 -- The calls of the crate `sheet`: the counts of a scenario's lines, in cells, and a receptor's columns and totals read from them. Every scenario
 -- and every list of cells has its answer.
-use Rattle.std.specs.Prelude.{Bool, true, false, cond, ◌&&◌, ◌||◌, List, [], ◌∷◌, ◌++◌, ℕ, suc, ◌+◌, ◌*◌, ◌/◌, ◌%◌, ◌≤◌, eqb, ltb, length, get_or, take, drop}
+use Rattle.std.specs.Prelude.{Ok, Err}
+use Rattle.std.specs.Prelude.{Bool, true, false, cond, ◌&&◌, ◌||◌, List, [], ◌∷◌, ◌++◌, ℕ, suc, ◌+◌, ◌*◌, ◌/◌, ◌%◌, ◌≤◌, eqb, ltb, length, get_or, take, drop, Some, None}
 use Rattle.pair.specs.Calls.{Outcome, is, refused}
 use Rattle.equations.specs.declared.Effect.{Effect}
 use Rattle.equations.specs.declared.Effect.TheVariants.{Hazard, Cancer}
@@ -14,15 +15,14 @@ use Rattle.media.specs.declared.Media.{Media}
 use Rattle.media.specs.declared.Ground.{Ground}
 use Rattle.media.specs.Media.{media_inputs, ground_of, mean_media}
 use Rattle.scenario.specs.declared.Receptor.{Receptor}
-use Rattle.cases.specs.declared.Status.{Status}
-use Rattle.cases.specs.declared.Status.TheVariants.{Passed, Stopped}
+use Rattle.cases.specs.Conditions.{Status}
+use Rattle.cases.specs.Conditions.{passed, stopped}
 use Rattle.sizes.specs.Sizes.{most_receptors, pathways_per_chemical, most_lines}
 use Rattle.cases.specs.Conditions.{Condition, at, first}
 use Rattle.lists.specs.Lists.{tabulate, chained, any_of}
-use Rattle.totals.specs.declared.Columns.{Columns}
-use Rattle.totals.specs.declared.Columns.TheVariants as Cols
-use Rattle.totals.specs.Totals.{total_of}
-use Rattle.scenario.specs.Scenario.{Scenario, values_of, particles_of, chemical_in, receptor_in, no_guidance, is_refused, scenario_conditions, unpaired_in}
+use Rattle.totals.specs.Totals.{Columns, total_of}
+use Rattle.scenario.specs.declared.Scenario.{Scenario}
+use Rattle.scenario.specs.Scenario.{values_of, particles_of, chemical_in, receptor_in, no_guidance, is_refused, scenario_conditions, unpaired_in}
 use Rattle.sheet.specs.Sheet.{pathway_at, columns_at, refused_lines, large_lines, faulty_lines}
 
 -- ---- what stops a scenario, however it was made. Its receptors are pairs, so that of them only counts and ids are asked; the rest of it is as
@@ -81,10 +81,10 @@ pub data Part : Type 0 where
   Mark Low High : Part
 
 unfoldable pub cell_of : Part → Columns → ℕ
-cell_of w Cols.Absent = 0
-cell_of Mark (Cols.Counted low high) = 1
-cell_of Low (Cols.Counted low high) = low
-cell_of High (Cols.Counted low high) = high
+cell_of w None = 0
+cell_of Mark (Some counts) = 1
+cell_of Low (Some counts) = counts.low
+cell_of High (Some counts) = counts.high
 
 -- which effect and part the column c of a receptor's six is
 unfoldable pub effect_at : ℕ → Effect
@@ -98,7 +98,7 @@ unfoldable pub line_columns : Scenario → ℕ → ℕ → Effect → Columns
 line_columns scenario j q e =
     cond (ltb j scenario.receptors.count && ltb q (scenario.chemicals.count * pathways_per_chemical))
     (columns_at e scenario j (q / pathways_per_chemical) (pathway_at (q % pathways_per_chemical)))
-    Cols.Absent
+    None
 
 unfoldable pub cell_at : Scenario → ℕ → ℕ
 cell_at scenario k =
@@ -112,8 +112,8 @@ unfoldable pub no_cells : List ℕ
 no_cells = tabulate all_cells (λ k. 0)
 
 unfoldable pub cells_for : Status → Scenario → List ℕ
-cells_for Passed scenario = cells_of scenario
-cells_for (Stopped number line field) scenario = no_cells
+cells_for (Ok done) scenario = cells_of scenario
+cells_for (Err stop) scenario = no_cells
 
 -- a call, of values that a deck's reading has tested or of any: the first condition that holds, and no counts; or every line's
 unfoldable pub conditions_by : Bool → Scenario → List Condition
@@ -128,7 +128,7 @@ cells_by tested scenario = cells_for (status_by tested scenario) scenario
 
 -- ---- read from cells
 unfoldable pub columns_from : ℕ → ℕ → ℕ → Columns
-columns_from lines low high = cond (eqb lines 0) Cols.Absent (Cols.Counted low high)
+columns_from lines low' high' = cond (eqb lines 0) None (Some (record { low = low'; high = high' }))
 
 unfoldable pub side_of : Effect → ℕ
 side_of Hazard = 0
@@ -147,23 +147,23 @@ columns_found cells k = columns_from (get_or cells k 0) (get_or cells (k + most_
 
 -- receptor j's line q; - where the cells have none
 unfoldable pub columns_in : List ℕ → ℕ → Effect → ℕ → Columns
-columns_in cells j e q = cond (is_held cells j && ltb q most_lines) (columns_found cells (column_start j e + q)) Cols.Absent
+columns_in cells j e q = cond (is_held cells j && ltb q most_lines) (columns_found cells (column_start j e + q)) None
 
 -- the total of its first n lines, through the totals call
 unfoldable pub totalled_from : Outcome ℕ → Outcome ℕ → Outcome ℕ → Columns
 totalled_from (is lines) (is low) (is high) = columns_from lines low high
-totalled_from (is lines) (is low) (refused n) = Cols.Absent
-totalled_from (is lines) (refused n) z = Cols.Absent
-totalled_from (refused n) y z = Cols.Absent
+totalled_from (is lines) (is low) (refused n) = None
+totalled_from (is lines) (refused n) z = None
+totalled_from (refused n) y z = None
 
 unfoldable pub total_found : List ℕ → ℕ → ℕ → Columns
 total_found cells k n =
-    totalled_from (total_of (take n (drop k cells))) (total_of (take n (drop (k + most_lines) cells))) (total_of (take n (drop (k + most_lines + most_lines) cells)))
+    totalled_from (total_of (take n (drop k cells))) (total_of (take n (drop (k + most_lines) cells))) (total_of (take n (drop (k + 2 * most_lines) cells)))
 
 unfoldable pub total_in : List ℕ → ℕ → Effect → ℕ → Columns
-total_in cells j e n = cond (is_held cells j && ltb n (suc most_lines)) (total_found cells (column_start j e) n) Cols.Absent
+total_in cells j e n = cond (is_held cells j && ltb n (suc most_lines)) (total_found cells (column_start j e) n) None
 
 -- each count of two columns is at most m
 unfoldable pub CountsMost : ℕ → Columns → Type 0
-CountsMost m Cols.Absent = Unit {0}
-CountsMost m (Cols.Counted low high) = (low ≤ m) × (high ≤ m)
+CountsMost m None = Unit {0}
+CountsMost m (Some counts) = (counts.low ≤ m) × (counts.high ≤ m)

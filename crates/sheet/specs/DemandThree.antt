@@ -1,7 +1,7 @@
 -- Demand 3 of a scenario: what a receptor's total is set against. The exact sum is that of its lines that have the reference value, each worked
 -- exactly from the printed values with N terms of each series, by the guidance of the site's year, counted in units and not rounded. Whether T2 is
 -- above tD is decided on the exact values (P4); whether a chemical is lost fast is the pairs' choice (document 02, P5).
-use Rattle.std.specs.Prelude.{◌≡◌, cond, ℕ, zero, suc, ◌+◌, ◌*◌, ◌^◌, ◌≤◌, ◌<◌}
+use Rattle.std.specs.Prelude.{◌≡◌, cond, ℕ, zero, suc, ◌+◌, ◌*◌, ◌^◌, ◌≤◌, ◌<◌, Some, None}
 use Rattle.pair.specs.Fraction.{Fraction, plus}
 use Rattle.equations.specs.declared.Pathway.{Pathway}
 use Rattle.equations.specs.declared.Effect.{Effect}
@@ -9,13 +9,13 @@ use Rattle.equations.specs.declared.Effect.TheVariants.{Hazard, Cancer}
 use Rattle.equations.specs.Page.{line}
 use Rattle.equations.specs.Readings.{paces_of, exactly}
 use Rattle.cases.specs.declared.Case.{Case}
-use Rattle.cases.specs.declared.Status.TheVariants.{Passed}
+use Rattle.cases.specs.Conditions.{passed}
 use Rattle.cases.specs.Conditions.{first}
 use Rattle.cases.specs.Ranged.{Ranged}
 use Rattle.slots.specs.declared.Sort.TheVariants.{Ordinary}
-use Rattle.totals.specs.declared.Columns.{Columns}
-use Rattle.totals.specs.declared.Columns.TheVariants as Cols
-use Rattle.scenario.specs.Scenario.{Scenario, guidance_in, pairs_at, ordinary_of, exact_at, Exact, exact_stay}
+use Rattle.totals.specs.Totals.{Columns}
+use Rattle.scenario.specs.declared.Scenario.{Scenario}
+use Rattle.scenario.specs.Scenario.{guidance_in, pairs_at, ordinary_of, exact_at, Exact, exact_stay}
 use Rattle.sheet.specs.Sheet.{pathway_at, has_reference, total_at, large_lines}
 use Rattle.sizes.specs.Sizes.{pathways_per_chemical}
 
@@ -62,12 +62,12 @@ pub record Enclosed (low high n : ℕ) (exact : Fraction) : Type 0 where
   pub close : 5000 * high ≤ 5001 * low + 15000 * n
 
 unfoldable pub TotalHolds : Columns → ℕ → Fraction → Type 0
-TotalHolds Cols.Absent n exact = n ≡ 0
-TotalHolds (Cols.Counted low high) n exact = Enclosed low high n exact
+TotalHolds None n exact = n ≡ 0
+TotalHolds (Some counts) n exact = Enclosed counts.low counts.high n exact
 
 -- for every ordinary case in range of which 42 does not hold, every receptor, effect and number N of series terms from 256 up
 unfoldable pub CaseDemand3 : Type 0
 CaseDemand3 =
-    (case : Case) → Ranged Ordinary case → first (large_lines (ordinary_of case)) ≡ Passed →
+    (case : Case) → Ranged Ordinary case → first (large_lines (ordinary_of case)) ≡ passed →
     (j : ℕ) → j < case.receptors.count → (N : ℕ) → 256 ≤ N → (e : Effect) →
     TotalHolds (total_at e (ordinary_of case) j) (lines_added e (ordinary_of case)) (exact_total e (ordinary_of case) (exact_at case) N j)

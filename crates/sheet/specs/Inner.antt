@@ -1,6 +1,6 @@
 -- For the contracts of this crate's inner functions only: the counts as they are worked, each chemical once, then each receptor's lines from
 -- the chemicals' sources. proofs/ shows that they are those of Counts.antt, of which alone the calls speak.
-use Rattle.std.specs.Prelude.{◌≡◌, ℕ, suc, ◌+◌, ◌*◌, ◌-◌, ◌/◌, ◌%◌, ◌<◌, Bool, false, ◌&&◌, ◌||◌, List, [], ◌∷◌, ◌++◌, ◌≢◌, get_or, set, replicate}
+use Rattle.std.specs.Prelude.{◌≡◌, ℕ, suc, ◌+◌, ◌*◌, ◌-◌, ◌/◌, ◌%◌, ◌<◌, Bool, false, ◌&&◌, ◌||◌, List, [], ◌∷◌, ◌++◌, ◌≢◌, get_or, set, replicate, Option, Some, None, Result, Ok, Err}
 use Rattle.pair.specs.declared.Pair.{Pair}
 use Rattle.pair.specs.Calls.{Outcome, is, refused}
 use Rattle.slots.specs.Slots.{place_of}
@@ -14,26 +14,25 @@ use Rattle.equations.specs.declared.Values.{Values}
 use Rattle.media.specs.declared.Media.{Media}
 use Rattle.media.specs.declared.Ground.{Ground}
 use Rattle.media.specs.Media.{media_inputs, ground_of, no_media}
-use Rattle.pathway.specs.declared.Printed.{Printed}
-use Rattle.pathway.specs.declared.Printed.TheVariants as Prints
 use Rattle.pathway.specs.declared.References.{References}
-use Rattle.pathway.specs.Lines.{Optional, some, none, Figured, absorbed_of, references_from, habits_of, figures_with}
+use Rattle.pathway.specs.Lines.{Figured, absorbed_of, references_from, habits_of, figures_with}
 use Rattle.cases.specs.declared.Chemicals.{Chemicals}
 use Rattle.cases.specs.declared.Record.{Record}
 use Rattle.cases.specs.declared.Value.{Value}
 use Rattle.cases.specs.declared.Value.TheVariants.{Absent, Given}
 use Rattle.sizes.specs.Sizes.{max_chemicals, most_receptors, pathways_per_chemical, most_lines}
-use Rattle.cases.specs.Conditions.{Condition, at}
+use Rattle.cases.specs.Conditions.{passed, stopped}
+use Rattle.cases.specs.Conditions.{Condition, at, first}
 use Rattle.cases.specs.Cases.{no_record, value_at}
 use Rattle.lists.specs.Lists.{tabulate, chained}
-use Rattle.totals.specs.declared.Columns.{Columns}
-use Rattle.totals.specs.declared.Columns.TheVariants as Cols
+use Rattle.totals.specs.Totals.{Columns}
 use Rattle.scenario.specs.declared.Receptor.{Receptor}
 use Rattle.scenario.specs.declared.Receptors.{Receptors}
 use Rattle.scenario.specs.declared.Site.{Site}
 use Rattle.sheet.specs.declared.Source.{Source}
 use Rattle.sheet.specs.declared.Sources.{Sources}
-use Rattle.scenario.specs.Scenario.{Scenario, pair_of, values_of, particles_of, no_receptor, is_refused}
+use Rattle.scenario.specs.declared.Scenario.{Scenario}
+use Rattle.scenario.specs.Scenario.{pair_of, values_of, particles_of, no_receptor, is_refused}
 use Rattle.sheet.specs.Sheet.{pathway_at, unit_of, cap_of, counted_in, high_above, over_cap, report_line, line_refused, over_lines, refused_lines, large_lines}
 use Rattle.sheet.specs.Counts.{Part, Mark, Low, High, cell_of, side_of, effect_cells, receptor_cells, mean_with, stops_at, unmade}
 
@@ -42,14 +41,14 @@ abbrev pub max_rows : ℕ
 max_rows = most_receptors * (most_lines + 1)
 
 -- ---- a figure: its two columns, and whether it is above its cap
-unfoldable pub columns_of : Effect → Outcome (Optional Pair) → Columns
-columns_of e (is none) = Cols.Absent
-columns_of e (is (some p)) = counted_in (unit_of e) (is p)
-columns_of e (refused n) = Cols.Absent
+unfoldable pub columns_of : Effect → Outcome (Option Pair) → Columns
+columns_of e (is None) = None
+columns_of e (is (Some p)) = counted_in (unit_of e) (is p)
+columns_of e (refused n) = None
 
-unfoldable pub above_cap : Effect → Outcome (Optional Pair) → Bool
-above_cap e (is none) = false
-above_cap e (is (some p)) = high_above (cap_of e) (is p)
+unfoldable pub above_cap : Effect → Outcome (Option Pair) → Bool
+above_cap e (is None) = false
+above_cap e (is (Some p)) = high_above (cap_of e) (is p)
 above_cap e (refused n) = false
 
 -- ---- a chemical's source: what its lines take, for every receptor
@@ -69,9 +68,9 @@ unfoldable pub no_means : List Media
 no_means = replicate most_receptors no_media
 
 -- what a slot holds for a reference value
-unfoldable pub printed_as : Value → Printed
-printed_as Absent = Prints.Absent
-printed_as (Given power digits) = Prints.Is (pair_of (Given power digits))
+unfoldable pub printed_as : Value → Option Pair
+printed_as Absent = None
+printed_as (Given power digits) = Some (pair_of (Given power digits))
 
 unfoldable pub references_of : Record → References
 references_of r =
@@ -109,6 +108,12 @@ stops_with site' receptors' chemical' =
 unfoldable pub refused_source : Values → Receptors → List Record → ℕ → List Condition
 refused_source site' receptors' records i = at 53 (suc i) 0 (stops_with site' receptors' (get_or records i no_record)) ∷ []
 
+-- the list of sources where no chemical stops, or the first that does
+unfoldable pub SourcesTold : Values → Receptors → Chemicals → List Source → Result (Unit {0}) ℕ → Type 0
+SourcesTold site' receptors' chemicals' list (Ok done) =
+    (first (chained (refused_source site' receptors' chemicals'.records) chemicals'.count) ≡ passed) × (list ≡ (sources_of site' receptors' chemicals').list)
+SourcesTold site' receptors' chemicals' list (Err i) = first (chained (refused_source site' receptors' chemicals'.records) chemicals'.count) ≡ stopped 53 i 0
+
 -- ---- a line's figures, of the receptor at place j with these values
 unfoldable pub mean_at : Source → ℕ → Media
 mean_at s j = get_or s.means j no_media
@@ -116,7 +121,7 @@ mean_at s j = get_or s.means j no_media
 unfoldable pub figures_from : Site → ℕ → Values → Source → Pathway → Figured
 figures_from site' j r s p = figures_with (habits_of site'.guidance r) p site'.values s.absorbed r s.media (mean_at s j) s.references
 
-unfoldable pub figure_for : Effect → Figured → Outcome (Optional Pair)
+unfoldable pub figure_for : Effect → Figured → Outcome (Option Pair)
 figure_for Hazard f = f.hazard
 figure_for Cancer f = f.cancer
 
@@ -170,6 +175,11 @@ unfoldable pub strictly : Scenario → List Condition
 strictly scenario = unmade scenario ++ (refused_lines scenario ++ large_lines scenario)
 
 -- ---- cells
+-- what a call tells, if it does
+unfoldable pub if_told : {A : Type 0} → Outcome A → Option A
+if_told (is x) = Some x
+if_told (refused n) = None
+
 unfoldable pub with_counts : List ℕ → ℕ → Columns → List ℕ
 with_counts cells at columns = set (set (set cells at (cell_of Mark columns)) (at + most_lines) (cell_of Low columns)) (at + 2 * most_lines) (cell_of High columns)
 

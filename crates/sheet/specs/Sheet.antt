@@ -1,6 +1,6 @@
 -- The lines of a scenario, their counts and totals (document 01, "Units and totals"), and 53 and 42 of "Where a deck stops". Receptor j,
 -- chemical i and pathway p come in this order and are counted from 0.
-use Rattle.std.specs.Prelude.{◌≡◌, Bool, true, false, cond, not, ◌&&◌, ◌||◌, List, [], ◌∷◌, ◌++◌, ℕ, zero, suc, ◌+◌, ◌*◌, ℤ, pos, negsuc}
+use Rattle.std.specs.Prelude.{◌≡◌, Bool, true, false, cond, not, ◌&&◌, ◌||◌, List, [], ◌∷◌, ◌++◌, ℕ, zero, suc, ◌+◌, ◌*◌, ℤ, pos, negsuc, Some, None}
 use Rattle.pair.specs.declared.Number.{Number}
 use Rattle.pair.specs.declared.Pair.{Pair}
 use Rattle.pair.specs.declared.Units.{Units}
@@ -15,10 +15,9 @@ use Rattle.equations.specs.Readings.{worked}
 use Rattle.cases.specs.declared.Value.{Value}
 use Rattle.cases.specs.declared.Value.TheVariants.{Absent, Given}
 use Rattle.cases.specs.Conditions.{Condition, at}
-use Rattle.totals.specs.declared.Columns.{Columns}
-use Rattle.totals.specs.declared.Columns.TheVariants as Cols
-use Rattle.totals.specs.Totals.{◌added◌}
-use Rattle.scenario.specs.Scenario.{Scenario, stay_in, guidance_in, given_in, pairs_at, is_refused}
+use Rattle.totals.specs.Totals.{Columns, ◌added◌}
+use Rattle.scenario.specs.declared.Scenario.{Scenario}
+use Rattle.scenario.specs.Scenario.{stay_in, guidance_in, given_in, pairs_at, is_refused}
 use Rattle.sizes.specs.Sizes.{pathways_per_chemical}
 use Rattle.lists.specs.Lists.{chained}
 
@@ -48,16 +47,16 @@ unit_of Hazard = negsuc 11
 unit_of Cancer = negsuc 14
 
 unfoldable pub counted : Outcome Units → Columns
-counted (is n) = Cols.Counted n.low n.high
-counted (refused n) = Cols.Absent
+counted (is n) = Some n
+counted (refused n) = None
 
 unfoldable pub counted_in : ℤ → Outcome Pair → Columns
 counted_in u (is p) = counted (in_units p u)
-counted_in u (refused n) = Cols.Absent
+counted_in u (refused n) = None
 
 -- the two columns of a line; - in both without the reference value
 unfoldable pub columns_at : Effect → Scenario → ℕ → ℕ → Pathway → Columns
-columns_at e scenario j i p = cond (has_reference e scenario i p) (counted_in (unit_of e) (figure_at e scenario j i p)) Cols.Absent
+columns_at e scenario j i p = cond (has_reference e scenario i p) (counted_in (unit_of e) (figure_at e scenario j i p)) None
 
 -- a line's two columns are the pair that the working rule gives for its equation, counted in units
 pub record ByRule (e : Effect) (scenario : Scenario) (j i : ℕ) (p : Pathway) : Type 0 where
@@ -66,11 +65,11 @@ pub record ByRule (e : Effect) (scenario : Scenario) (j i : ℕ) (p : Pathway) :
   pub proper : is_pair pair ≡ true
   pub units : Units
   pub counted : in_units pair (unit_of e) ≡ is units
-  pub columns : columns_at e scenario j i p ≡ Cols.Counted units.low units.high
+  pub columns : columns_at e scenario j i p ≡ Some units
 
 -- f 0 added f 1 .. added f (n − 1)
 unfoldable pub added_over : (ℕ → Columns) → ℕ → Columns
-added_over f zero = Cols.Absent
+added_over f zero = None
 added_over f (suc n) = added_over f n added f n
 
 -- a receptor's total, over its lines that have the reference value

@@ -1,46 +1,27 @@
 // Each chemical worked once: what its lines take, for every receptor.
-ghost use Rattle.std.specs.Prelude.{◌≡◌, true, false, not, ◌≤◌, get_or};
+ghost use Rattle.std.specs.Prelude.{◌≡◌, ◌≤◌, cond, get_or, replicate, Some, None};
 ghost use Rattle.sizes.specs.Sizes.{max_chemicals, most_receptors};
-ghost use Rattle.cases.specs.declared.Status.TheVariants as Statuses;
-ghost use Rattle.cases.specs.Conditions.{first};
-ghost use Rattle.media.specs.Media as media;
-ghost use Rattle.pair.specs.Calls.{is};
-ghost use Rattle.scenario.specs.Scenario.{values_of, no_receptor, is_refused};
-ghost use Rattle.lists.specs.Lists.{chained, any_of};
+ghost use Rattle.pair.specs.Calls.{answer};
+ghost use Rattle.scenario.specs.Scenario.{no_receptor, is_refused};
+ghost use Rattle.lists.specs.Lists.{any_of};
 ghost use Rattle.sheet.specs.Counts.{mean_with};
-ghost use Rattle.sheet.specs.Inner.{means_of, no_source, source_from, source_of, sources_of, stops_with, refused_source};
+ghost use Rattle.sheet.specs.Inner.{means_of, no_source, source_of, stops_with, SourcesTold};
 
-use crate::lines::REFUSED;
+use crate::Source;
 use crate::references::references_of;
-use crate::{Prepared, Source, Sources};
-use cases::{Chemicals, Record, Status, lacks};
+use cases::{Chemicals, Record, lacks};
 use equations::Values;
-use media::{Found, Ground, Grounded, Media, ground_of, mean_concentrations};
-use pair::Pair;
-use pathway::{Absorbed, Printed, absorbed_of, references_from};
+use media::{Ground, Media, ground_of, mean_concentrations};
+use pair::{Pair, Refused};
+use pathway::{Absorbed, absorbed_of, references_from};
 use scenario::{Receptor, Receptors, particles_of, values_of};
 use sizes::{MAX_CHEMICALS, MAX_RECEPTORS};
 use slots::{Owner, Sort, T2};
 
-// The media of each receptor's cancer, or that those of one are refused.
-#[derive(Clone, Copy)]
-struct Means {
-    worked: bool,
-    list: [Media; MAX_RECEPTORS],
-}
-
-// A chemical's source, or that its media are refused.
-#[derive(Clone, Copy)]
-struct Sourced {
-    worked: bool,
-    source: Source,
-}
-
-fn no_source() -> Source
+pub(crate) fn no_source() -> Source
     ensures { result ≡ no_source }
 {
-    let none = Printed::Absent;
-    let references = references_from(none, none, none, none);
+    let references = references_from(None, None, None, None);
     Source {
         absorbed: Absorbed {
             inhaled: Pair::ONE,
@@ -53,8 +34,13 @@ fn no_source() -> Source
     }
 }
 
-fn mean_with(site: Values, chemical: Values, receptor: Receptor, the_ground: Ground) -> Found
-    ensures { media.found result ≡ mean_with site chemical receptor the_ground }
+fn mean_with(
+    site: Values,
+    chemical: Values,
+    receptor: Receptor,
+    the_ground: Ground,
+) -> Result<Media, Refused>
+    ensures { answer result ≡ mean_with site chemical receptor the_ground }
 {
     let stay = receptor.stay;
     let later = receptor.later;
@@ -62,119 +48,60 @@ fn mean_with(site: Values, chemical: Values, receptor: Receptor, the_ground: Gro
     mean_concentrations(the_ground, site, chemical, stay, values.value(T2), later)
 }
 
-fn no_means() -> Means
-    ensures { result.worked ≡ false }
+// The media of the receptors' cancer, or none where those of one are refused. The receptors are a caller's, so that their count is required here
+// and not a type's.
+fn means_of(
+    site: Values,
+    chemical: Values,
+    receptors: &Receptors,
+    the_ground: Ground,
+) -> Option<[Media; MAX_RECEPTORS]>
+    requires { receptors.now.count ≤ most_receptors }
+    ensures { result ≡ cond (any_of (λ j. is_refused (mean_with site chemical (get_or receptors.now.list j no_receptor) the_ground)) receptors.now.count) None (Some (means_of site chemical receptors.now the_ground)) }
 {
-    Means {
-        worked: false,
-        list: [Media::none(); MAX_RECEPTORS],
-    }
-}
-
-fn not_sourced() -> Sourced
-    ensures { result.worked ≡ false }
-{
-    Sourced {
-        worked: false,
-        source: no_source(),
-    }
-}
-
-// The media of the receptors' cancer.
-fn means_of(site: Values, chemical: Values, receptors: Receptors, the_ground: Ground) -> Means
-    requires { receptors.count ≤ most_receptors }
-    ensures worked_value { result.worked ≡ not (any_of (λ j. is_refused (mean_with site chemical (get_or receptors.list j no_receptor) the_ground)) receptors.count) }
-    ensures list_value { result.worked ≡ true → result.list ≡ means_of site chemical receptors the_ground }
-{
-    let count = receptors.count;
     let mut list = [Media::none(); MAX_RECEPTORS];
-    let mut j: usize = 0;
-    while j < count {
-        let receptor = receptors.list[j];
-        let Found::Is(m) = mean_with(site, chemical, receptor, the_ground) else {
-            return no_means();
+    for j in 0..receptors.count {
+        let Ok(m) = mean_with(site, chemical, receptors.list[j], the_ground) else {
+            return None;
         };
         list[j] = m;
-        j += 1;
     }
-    Means { worked: true, list }
-}
-
-// What a chemical's lines take, from its ground.
-fn source_from(
-    site: Values,
-    chemical: Record,
-    values: Values,
-    receptors: Receptors,
-    the_ground: Ground,
-) -> Sourced
-    requires { (receptors.count ≤ most_receptors) × (values ≡ values_of chemical) }
-    ensures worked_value { result.worked ≡ not (any_of (λ j. is_refused (mean_with site (values_of chemical) (get_or receptors.list j no_receptor) the_ground)) receptors.count) }
-    ensures source_value { result.worked ≡ true → result.source ≡ source_from site chemical receptors (is the_ground) }
-{
-    let highest = the_ground.highest;
-    let made = means_of(site, values, receptors, the_ground);
-    let means = made.list;
-    Sourced {
-        worked: made.worked,
-        source: Source {
-            absorbed: absorbed_of(values),
-            media: highest,
-            means,
-            references: references_of(chemical),
-        },
-    }
+    Some(list)
 }
 
 // What a chemical's lines take, or nothing where a value that it needs is missing or its media are refused.
-fn source_of(site: Values, chemical: Record, receptors: Receptors) -> Sourced
-    requires { receptors.count ≤ most_receptors }
-    ensures worked_value { result.worked ≡ not (stops_with site receptors chemical) }
-    ensures source_value { result.worked ≡ true → result.source ≡ source_of site receptors chemical }
+fn source_of(site: Values, chemical: Record, receptors: &Receptors) -> Option<Source>
+    requires { receptors.now.count ≤ most_receptors }
+    ensures { result ≡ cond (stops_with site receptors.now chemical) None (Some (source_of site receptors.now chemical)) }
 {
-    if lacks(Sort::Ordinary, Owner::Chemical, chemical) {
-        return not_sourced();
+    if lacks(Sort::Ordinary, Owner::Chemical, &chemical) {
+        return None;
     }
     let values = values_of(chemical);
-    let Grounded::Is(the_ground) = ground_of(site, values, particles_of(chemical)) else {
-        return not_sourced();
+    let Ok(the_ground) = ground_of(site, values, particles_of(chemical)) else {
+        return None;
     };
-    source_from(site, chemical, values, receptors, the_ground)
+    let means = means_of(site, values, receptors, the_ground)?;
+    Some(Source {
+        absorbed: absorbed_of(values),
+        media: the_ground.highest,
+        means,
+        references: references_of(chemical),
+    })
 }
 
-// Chemical i, counted from 1, stops the report.
-fn stopped_at(i: usize) -> Prepared
-    ensures { result.status ≡ Statuses.Stopped 53 i 0 }
+// The source of each chemical into the list, or the place, from 1, of the first whose media are refused. No chemical of a deck is.
+pub(crate) fn sources_of(
+    site: Values,
+    chemicals: &Chemicals,
+    receptors: &Receptors,
+    list: &mut [Source; MAX_CHEMICALS],
+) -> Result<(), usize>
+    requires { (chemicals.now.count ≤ max_chemicals) × (receptors.now.count ≤ most_receptors) × (list.old ≡ replicate max_chemicals no_source) }
+    ensures { SourcesTold site receptors.now chemicals.now list.new result }
 {
-    let list = [no_source(); MAX_CHEMICALS];
-    Prepared {
-        status: Status::Stopped(REFUSED, i, 0),
-        sources: Sources { count: 0, list },
+    for i in 0..chemicals.count {
+        list[i] = source_of(site, chemicals.records[i], receptors).ok_or(i + 1)?;
     }
-}
-
-// The source of each chemical, or the first whose media are refused. No chemical of a deck is.
-pub(crate) fn sources_of(site: Values, chemicals: Chemicals, receptors: Receptors) -> Prepared
-    requires { (chemicals.count ≤ max_chemicals) × (receptors.count ≤ most_receptors) }
-    ensures status_value { result.status ≡ first (chained (refused_source site receptors chemicals.records) chemicals.count) }
-    ensures sources_value { result.status ≡ Statuses.Passed → result.sources ≡ sources_of site receptors chemicals }
-{
-    let count = chemicals.count;
-    let mut list = [no_source(); MAX_CHEMICALS];
-    let mut i: usize = 0;
-    while i < count {
-        let next = i + 1;
-        let chemical = chemicals.records[i];
-        let made = source_of(site, chemical, receptors);
-        if !made.worked {
-            return stopped_at(next);
-        }
-        let source = made.source;
-        list[i] = source;
-        i = next;
-    }
-    Prepared {
-        status: Status::Passed,
-        sources: Sources { count, list },
-    }
+    Ok(())
 }

@@ -1,13 +1,12 @@
 // A line's figures counted in units, and held against their caps.
 ghost use Rattle.std.specs.Prelude.{◌≡◌};
 ghost use Rattle.pair.specs.Calls.{answer, is};
-ghost use Rattle.pathway.specs.Lines as lines;
 ghost use Rattle.scenario.specs.Scenario.{is_refused};
 ghost use Rattle.sheet.specs.Sheet.{unit_of, cap_of, counted_in, high_above};
 ghost use Rattle.sheet.specs.Inner.{columns_of, above_cap};
 
 use equations::Effect;
-use pair::{Answer, Count, Order, Pair};
+use pair::{Answer, Pair};
 use pathway::Figure;
 use totals::Columns;
 
@@ -35,20 +34,20 @@ fn unit_of(effect: Effect) -> i32
     }
 }
 
+#[tactic(auto, unfolding(pair::specs::Calls::answer, crate::specs::Sheet::is_above, crate::specs::Sheet::high_above))]
 fn is_above(p: Pair, bound: Pair) -> bool
     ensures { result ≡ high_above bound.high (is p) }
 {
     match p.high.compare(bound.high) {
-        Order::AtMost => false,
-        Order::Above => true,
-        Order::Refused => false,
+        Ok(at_most) => !at_most,
+        Err(_) => false,
     }
 }
 
 fn exceeds(p: Pair, effect: Effect) -> bool
     ensures { result ≡ high_above (cap_of effect) (is p) }
 {
-    let Answer::Is(cap) = cap_of(effect) else {
+    let Ok(cap) = cap_of(effect) else {
         return false;
     };
     is_above(p, cap)
@@ -57,43 +56,34 @@ fn exceeds(p: Pair, effect: Effect) -> bool
 fn counted(p: Pair, unit: i32) -> Columns
     ensures { result ≡ counted_in unit (is p) }
 {
-    match p.in_units(unit) {
-        Count::Is(n) => Columns::Counted {
-            low: n.low,
-            high: n.high,
-        },
-        Count::Refused => Columns::Absent,
-    }
+    p.in_units(unit).ok()
 }
 
 // The two columns of a figure.
+#[tactic(auto, unfolding(pair::specs::Calls::answer, crate::specs::Inner::columns_of))]
 pub(crate) fn columns_of(figure: Figure, effect: Effect) -> Columns
-    ensures { result ≡ columns_of effect (lines.figure figure) }
+    ensures { result ≡ columns_of effect (answer figure) }
 {
     match figure {
-        Figure::Is(p) => counted(p, unit_of(effect)),
-        Figure::Absent => Columns::Absent,
-        Figure::Refused => Columns::Absent,
+        Ok(Some(p)) => counted(p, unit_of(effect)),
+        Ok(None) | Err(_) => None,
     }
 }
 
 // Whether the pair rule refused a figure.
+#[tactic(auto, unfolding(pair::specs::Calls::answer, scenario::specs::Scenario::is_refused))]
 pub(crate) fn is_refused(figure: Figure) -> bool
-    ensures { result ≡ is_refused (lines.figure figure) }
+    ensures { result ≡ is_refused (answer figure) }
 {
-    match figure {
-        Figure::Is(_) => false,
-        Figure::Absent => false,
-        Figure::Refused => true,
-    }
+    figure.is_err()
 }
 
+#[tactic(auto, unfolding(pair::specs::Calls::answer, crate::specs::Inner::above_cap))]
 pub(crate) fn above_cap(figure: Figure, effect: Effect) -> bool
-    ensures { result ≡ above_cap effect (lines.figure figure) }
+    ensures { result ≡ above_cap effect (answer figure) }
 {
     match figure {
-        Figure::Is(p) => exceeds(p, effect),
-        Figure::Absent => false,
-        Figure::Refused => false,
+        Ok(Some(p)) => exceeds(p, effect),
+        Ok(None) | Err(_) => false,
     }
 }

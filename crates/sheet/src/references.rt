@@ -5,25 +5,25 @@ ghost use Rattle.sizes.specs.Sizes.{slots_per_record};
 ghost use Rattle.sheet.specs.Inner.{printed_as, references_of};
 
 use cases::{Record, Value};
-use pathway::{Printed, References, references_from};
+use pair::Pair;
+use pathway::{References, references_from};
 use scenario::pair_of;
 use slots::{CSF_I, CSF_O, RFD_I, RFD_O};
 
 // What a slot holds.
-fn printed(r: Record, k: usize) -> Printed
+fn printed(r: Record, k: usize) -> Option<Pair>
     requires { k < slots_per_record }
     ensures { result ≡ printed_as (value_at r k) }
 {
-    let slot = r.slots[k];
-    let v = slot.value;
+    let v = r.slots[k];
     let Value::Given {
         digits: _,
         power: _,
     } = v
     else {
-        return Printed::Absent;
+        return None;
     };
-    Printed::Is(pair_of(v))
+    Some(pair_of(v))
 }
 
 pub(crate) fn references_of(r: Record) -> References

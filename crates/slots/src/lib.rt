@@ -8,14 +8,14 @@ ghost use Rattle.slots.specs.Slots.{rule_at, line_rules, year_of};
 use sizes::FIELDS;
 
 // The sort of a deck: an ordinary one, or a composite receptor's (document 02, P2).
-#[derive(Clone, Copy)]
+#[derive(Clone, Copy, PartialEq, Eq)]
 pub enum Sort {
     Ordinary,
     Composite,
 }
 
 // Whose record a slot stands in.
-#[derive(Clone, Copy)]
+#[derive(Clone, Copy, PartialEq, Eq)]
 pub enum Owner {
     Site,
     Chemical,
@@ -23,21 +23,19 @@ pub enum Owner {
 }
 
 // The guidance that a sheet follows, named by its year (document 02, P6): HHRAP of 2005, or for the air RAGS Part F of 2009.
-#[derive(Clone, Copy)]
+#[derive(Clone, Copy, PartialEq, Eq)]
 pub enum Guidance {
-    Of2005,
-    Of2009,
+    Of2005 = 2005,
+    Of2009 = 2009,
 }
 
 impl Guidance {
     // Its year.
+    #[tactic(auto, unfolding(crate::specs::Slots::year_of))]
     pub fn year(self) -> u32
         ensures { result ≡ year_of self }
     {
-        match self {
-            Guidance::Of2005 => 2005,
-            Guidance::Of2009 => 2009,
-        }
+        self as u32
     }
 }
 
@@ -52,7 +50,7 @@ pub struct Rule {
     pub year: bool,
 }
 
-// The places of a site's slots.
+// The places of a site's slots. Numbers and no enum: they index a record's slots, and the table of specs/ counts by them.
 pub const ZS: usize = 0;
 
 pub const BD: usize = 1;
@@ -179,57 +177,31 @@ const AMOUNT: Rule = Rule {
 };
 
 const POSITIVE: Rule = Rule {
-    used: true,
-    blank: false,
-    dash: false,
     zero: false,
-    most: 1000000000,
-    year: false,
+    ..AMOUNT
 };
 
-const SHARE: Rule = Rule {
-    used: true,
-    blank: false,
-    dash: false,
-    zero: true,
-    most: 1,
-    year: false,
-};
+const SHARE: Rule = Rule { most: 1, ..AMOUNT };
 
 const DAYS: Rule = Rule {
-    used: true,
-    blank: false,
-    dash: false,
-    zero: true,
     most: 366,
-    year: false,
+    ..AMOUNT
 };
 
 const REFERENCE: Rule = Rule {
-    used: true,
-    blank: false,
     dash: true,
-    zero: false,
-    most: 1000000000,
-    year: false,
+    ..POSITIVE
 };
 
 const SLOPE: Rule = Rule {
-    used: true,
-    blank: false,
     dash: true,
-    zero: true,
-    most: 1000000000,
-    year: false,
+    ..AMOUNT
 };
 
 const GUIDANCE_YEAR: Rule = Rule {
-    used: true,
     blank: true,
-    dash: false,
-    zero: false,
-    most: 1000000000,
     year: true,
+    ..POSITIVE
 };
 
 // A later slot.
@@ -243,16 +215,18 @@ pub const UNUSED: Rule = Rule {
 };
 
 // The rules of the six fields of a record's line, counted from 0.
+#[tactic(auto, unfolding(crate::specs::Slots::line_rules, crate::specs::Slots::rule_at, crate::specs::Slots::rule_in, crate::specs::Slots::table))]
 fn site_rules(line: usize) -> [Rule; FIELDS]
     ensures { (sort : Sort) → result ≡ line_rules sort Owner.Site line }
 {
     match line {
         0 => [POSITIVE, POSITIVE, POSITIVE, POSITIVE, AMOUNT, AMOUNT],
         1 => [AMOUNT, AMOUNT, AMOUNT, SHARE, SHARE, GUIDANCE_YEAR],
-        _ => [UNUSED, UNUSED, UNUSED, UNUSED, UNUSED, UNUSED],
+        _ => [UNUSED; FIELDS],
     }
 }
 
+#[tactic(auto, unfolding(crate::specs::Slots::line_rules, crate::specs::Slots::rule_at, crate::specs::Slots::rule_in, crate::specs::Slots::table))]
 fn chemical_rules(line: usize) -> [Rule; FIELDS]
     ensures { (sort : Sort) → result ≡ line_rules sort Owner.Chemical line }
 {
@@ -261,11 +235,12 @@ fn chemical_rules(line: usize) -> [Rule; FIELDS]
         1 => [AMOUNT, AMOUNT, AMOUNT, AMOUNT, POSITIVE, AMOUNT],
         2 => [AMOUNT, AMOUNT, AMOUNT, SHARE, SHARE, SHARE],
         3 => [REFERENCE, REFERENCE, SLOPE, SLOPE, UNUSED, UNUSED],
-        _ => [UNUSED, UNUSED, UNUSED, UNUSED, UNUSED, UNUSED],
+        _ => [UNUSED; FIELDS],
     }
 }
 
 // The only line whose rules differ with the sort.
+#[tactic(auto, unfolding(crate::specs::Slots::line_rules, crate::specs::Slots::rule_at, crate::specs::Slots::rule_in, crate::specs::Slots::table))]
 fn last_rules(sort: Sort) -> [Rule; FIELDS]
     ensures { result ≡ line_rules sort Owner.Receptor 3 }
 {
@@ -275,6 +250,7 @@ fn last_rules(sort: Sort) -> [Rule; FIELDS]
     }
 }
 
+#[tactic(auto, unfolding(crate::specs::Slots::line_rules, crate::specs::Slots::rule_at, crate::specs::Slots::rule_in, crate::specs::Slots::table))]
 fn receptor_rules(sort: Sort, line: usize) -> [Rule; FIELDS]
     ensures { result ≡ line_rules sort Owner.Receptor line }
 {
@@ -283,7 +259,7 @@ fn receptor_rules(sort: Sort, line: usize) -> [Rule; FIELDS]
         1 => [AMOUNT, SHARE, DAYS, DAYS, AMOUNT, AMOUNT],
         2 => [AMOUNT, AMOUNT, SHARE, AMOUNT, SHARE, AMOUNT],
         3 => last_rules(sort),
-        _ => [UNUSED, UNUSED, UNUSED, UNUSED, UNUSED, UNUSED],
+        _ => [UNUSED; FIELDS],
     }
 }
 
@@ -299,6 +275,7 @@ pub fn rules(sort: Sort, owner: Owner, line: usize) -> [Rule; FIELDS]
 }
 
 // The rule of a record's place, from 0.
+#[tactic(auto, using(crate::proofs::SlotLaws::rule_read))]
 pub fn rule_at(sort: Sort, owner: Owner, place: usize) -> Rule
     ensures { result ≡ rule_at sort owner place }
 {

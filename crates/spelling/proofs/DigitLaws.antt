@@ -74,6 +74,10 @@ room_loop v d i n M h l r =
     let e : n - i ≡ suc (n - (i + 1)) = omega arith in
     room_turn v d (n - (i + 1)) M h (subst (λ (k : ℕ). (v + 1) * 10 ^ k ≤ M) e r)
 
+pub room_digit : (s : List ℕ) (v i M : ℕ) → within 48 57 (get_or s i 0) ≡ true → i < length s → (v + 1) * 10 ^ (length s - i) ≤ M
+    → (v * 10 + (get_or s i 0 - 48) + 1) * 10 ^ (length s - (i + 1)) ≤ M
+room_digit s v i M digit here r = room_loop v (get_or s i 0 - 48) i (length s) M (omega (arith, within_bounds_lem 48 57 (get_or s i 0) digit)) here r
+
 pub room_start : (v : ℕ) (s : List ℕ) (M : ℕ) → (v + 1) * 10 ^ length s ≤ M → (v + 1) * 10 ^ (length s - 0) ≤ M
 room_start v s M r = let e : length s - 0 ≡ length s = omega arith in rw e r
 

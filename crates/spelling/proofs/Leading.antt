@@ -4,9 +4,14 @@ use Prim.Native.Nat.{ℕ, zero, suc, ◌+◌, ◌≤◌, ◌<◌}
 use native.Mathlib.Numerals.{add-one}
 use native.Mathlib.Omega.{arith}
 use mathlib.Core.Path.{◌≡◌, refl, ap, ◌∙◌}
-use mathlib.Core.Bool.{Bool, true, false, cond}
+use mathlib.Core.Bool.{Bool, true, false, cond, not, ◌&&◌, ◌||◌}
 use mathlib.Core.List.{List, [], ◌∷◌}
-use borrow.Author.Tests.{le-leb, lt-leb}
+use borrow.Author.Tests.{le-leb, lt-leb, ltb-true, ltb-false}
+use lib.Dec.{leb, ltb}
+use Rattle.std.specs.Prelude.{Some, None}
+use Rattle.std.specs.Option.{unwrap_or}
+use Rattle.std.specs.List.{position, prefix_len}
+use Rattle.std.proofs.lemmas.List.Sums.{prefix_len-le-length}
 use lib.ListN.{length, take, drop, get_or, drop_of_length-le}
 use lib.Seq.{drop-cons}
 use Rattle.spelling.specs.Columns.{within, leading}
@@ -23,6 +28,31 @@ within_low lo hi b p = simp (lt-leb lo b p)
 pub within_high : (lo hi b : ℕ) → hi < b → within lo hi b ≡ false
 unfolding within
 within_high lo hi b p = simp (lt-leb b hi p, and-false)
+
+-- the first byte that does not lie from lo to hi, as a search finds it
+outside_is : (lo hi b : ℕ) → not (ltb b lo || ltb hi b) ≡ within lo hi b
+unfolding within
+outside_is lo hi b = go (ltb b lo) refl (ltb hi b) refl
+  where
+    go : (t : Bool) → ltb b lo ≡ t → (u : Bool) → ltb hi b ≡ u → not (t || u) ≡ (leb lo b && leb b hi)
+    go true e u f = simp (lt-leb lo b (ltb-true b lo e))
+    go false e true f = simp (lt-leb b hi (ltb-true hi b f), and-false)
+    go false e false f = simp (le-leb lo b (ltb-false b lo e), le-leb b hi (ltb-false hi b f))
+
+prefix_is : (lo hi : ℕ) (s : List ℕ) → prefix_len (λ b. not (ltb b lo || ltb hi b)) s ≡ leading lo hi s
+unfolding leading
+prefix_is lo hi [] = refl
+prefix_is lo hi (b ∷ bs) = rw (outside_is lo hi b, prefix_is lo hi bs) (ap (λ n. cond (within lo hi b) n 0) (omega arith))
+
+pub found_is : (lo hi : ℕ) (s : List ℕ) → unwrap_or (position (λ b. ltb b lo || ltb hi b) s) (length s) ≡ leading lo hi s
+found_is lo hi s = go (ltb n (length s)) refl
+  where
+    n : ℕ
+    n = prefix_len (λ b. not (ltb b lo || ltb hi b)) s
+
+    go : (t : Bool) → ltb n (length s) ≡ t → unwrap_or (cond t (Some n) None) (length s) ≡ leading lo hi s
+    go true e = prefix_is lo hi s
+    go false e = omega (arith, ltb-false n (length s) e, prefix_len-le-length (λ b. not (ltb b lo || ltb hi b)) s, prefix_is lo hi s)
 
 module _ (lo hi : ℕ) (s : List ℕ) where
   leading_at : (i : ℕ) → i < length s → leading lo hi (drop i s) ≡ cond (within lo hi (get_or s i 0)) (suc (leading lo hi (drop (suc i) s))) 0

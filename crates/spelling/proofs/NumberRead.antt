@@ -7,8 +7,9 @@ use native.Mathlib.Nat.{le_refl, pow-suc, pow-le-pow_right}
 use native.Mathlib.Omega.{arith}
 use mathlib.Core.Bool.{Bool, true, false, cond}
 use borrow.Author.Tests.{eqb-true, leb-true}
-use lib.Dec.{leb, ltb, eqb, eqb-suc-zero, lit≤, lit<}
+use lib.Dec.{leb, ltb, eqb, eqb-suc-zero, lit≤}
 use lib.ListN.{length, get_or, replicate}
+use Rattle.std.specs.Prelude.{IfSome, Some, None}
 use Rattle.spelling.specs.Columns.{id_width, leading, digits_value, digit, digits, decimal, justified, number}
 use Rattle.spelling.specs.Spelling.{digits_of, unspaced, id_spelled, id_in}
 use Rattle.lists.proofs.Booleans.{both}
@@ -79,13 +80,14 @@ unfolding number justified decimal digits
 five_hundred = refl
 
 -- ---- an id has at most six digits, however many columns it stands in
-spelled_small : (t : Bool) (text : List ℕ) → (t ≡ true → (length text ≤ id_width) × (leading 48 57 text ≡ length text)) → cond t (digits_value 0 text) 0 < 10 ^ id_width
+spelled_small : (t : Bool) (text : List ℕ) → (t ≡ true → (length text ≤ id_width) × (leading 48 57 text ≡ length text))
+    → IfSome (cond t (Some (digits_value 0 text)) None) (λ id. id < 10 ^ id_width)
 spelled_small true text h =
     let most : 10 ^ length text ≤ 10 ^ id_width = pow-le-pow_right (lit≤ tt) (h refl).0 in
     omega (arith, digits_value_below text (h refl).1 0 1 (le_refl 1))
-spelled_small false text h = lit< tt
+spelled_small false text h = tt
 
-pub id_small : (columns : List ℕ) → id_in columns < 10 ^ id_width
+pub id_small : (columns : List ℕ) → IfSome (id_in columns) (λ id. id < 10 ^ id_width)
 unfolding id_in id_spelled
 id_small columns =
     let text = unspaced columns in

@@ -2,7 +2,7 @@
 -- many as the columns of a field hold, zeros counted (document 02, P1); then, optionally, E, a sign and two digits. It has no leading sign.
 -- Bytes: 32 is a space, 43 +, 45 -, 46 a point, 48 to 57 the digits, 69 E.
 -- Assumes nothing.
-use Rattle.std.specs.Prelude.{ℕ, ◌+◌, Bool, cond, ◌&&◌, ◌||◌, List, ◌++◌, leb, ltb, eqb, ℤ, length, get_or, take, drop}
+use Rattle.std.specs.Prelude.{ℕ, ◌+◌, Bool, cond, ◌&&◌, ◌||◌, List, ◌++◌, leb, ltb, eqb, ℤ, length, get_or, take, drop, Option, Some, None}
 use Rattle.std.proofs.Math.IntN.{sub_ℕ}
 use Rattle.spelling.specs.Columns.{leading, field_width, id_width, digits_value}
 use Rattle.spelling.specs.declared.Word.{Word}
@@ -20,9 +20,9 @@ unspaced part = drop (leading 32 32 part) part
 unfoldable pub id_spelled : List ℕ → Bool
 id_spelled text = ltb 48 (get_or text 0 0) && (leb (length text) id_width && eqb (digits_of text) (length text))
 
--- the id that columns spell; 0, which is no id, where they are misspelled
-unfoldable pub id_in : List ℕ → ℕ
-id_in columns = cond (id_spelled (unspaced columns)) (digits_value 0 (unspaced columns)) 0
+-- the id that columns spell, if they spell one
+unfoldable pub id_in : List ℕ → Option ℕ
+id_in columns = cond (id_spelled (unspaced columns)) (Some (digits_value 0 (unspaced columns))) None
 
 -- + or -
 unfoldable pub sign_spelled : List ℕ → Bool

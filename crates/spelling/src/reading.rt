@@ -1,8 +1,8 @@
 // What the text of a field or an id means.
-ghost use Rattle.std.specs.Prelude.{◌≡◌, true, cond, ◌+◌, ◌-◌, ◌*◌, ◌^◌, ◌<◌, ◌≤◌, eqb, length, take, drop, get_or};
+ghost use Rattle.std.specs.Prelude.{position, ltb, ◌||◌, ◌≡◌, true, cond, ◌+◌, ◌-◌, ◌*◌, ◌^◌, ◌<◌, ◌≤◌, length, take, drop};
 ghost use Rattle.std.proofs.Math.IntN.{sub_ℕ};
-ghost use Rattle.spelling.specs.Columns.{within, leading, digits_value};
-ghost use Rattle.spelling.specs.Spelling.{id_in, sign_spelled, exponent_spelled, power_of, max_digits, pointed_of, spelled_of, lone_dash, word_of};
+ghost use Rattle.spelling.specs.Columns.{leading, digits_value};
+ghost use Rattle.spelling.specs.Spelling.{unspaced, id_in, exponent_spelled, power_of, max_digits, pointed_of, spelled_of, word_of};
 
 use crate::{ID_WIDTH, MAX_DIGITS, Word};
 
@@ -16,32 +16,19 @@ struct Digits {
 // One digit more than a number may have shows that there are too many; no more are looked at, so that their number fits.
 const LOOKED_AT: usize = MAX_DIGITS + 1;
 
-const ZERO: u64 = 48;
-
-const NINE: u64 = 57;
-
-fn wide(b: u8) -> u64
-    ensures { result ≡ b }
+// Where the first byte stands that does not lie from lo to hi.
+fn first_outside(s: &[u8], lo: u8, hi: u8) -> Option<usize>
+    ensures { result ≡ position (λ b. ltb b lo || ltb hi b) s.now }
 {
-    b as u64
+    s.iter().position(|b| *b < lo || hi < *b)
 }
 
 // How many bytes at the front of s lie from lo to hi.
+#[tactic(auto, using(crate::proofs::Leading::found_is))]
 pub fn leading_bytes(s: &[u8], lo: u8, hi: u8) -> usize
     ensures { result ≡ leading lo hi s.now }
 {
-    let mut i: usize = 0;
-    while i < s.len() {
-        let b = s[i];
-        if b < lo {
-            return i;
-        }
-        if hi < b {
-            return i;
-        }
-        i += 1;
-    }
-    i
+    first_outside(s, lo, hi).unwrap_or(s.len())
 }
 
 // The digits at the front of s, whose number goes on after `from`. One pass counts them and adds them up.
@@ -51,29 +38,23 @@ fn leading_digits(from: u64, s: &[u8]) -> Digits
     ensures value_value { result.value ≡ digits_value from (take (leading 48 57 s.now) s.now) }
 {
     let mut value = from;
-    let mut i: usize = 0;
-    while i < s.len() {
-        let b = wide(s[i]);
-        if b < ZERO {
-            return Digits { count: i, value };
+    for (count, b) in s.iter().enumerate() {
+        if !b.is_ascii_digit() {
+            return Digits { count, value };
         }
-        if NINE < b {
-            return Digits { count: i, value };
-        }
-        value = value * 10 + (b - ZERO);
-        i += 1;
+        value = value * 10 + u64::from(*b - b'0');
     }
-    Digits { count: i, value }
+    Digits {
+        count: s.len(),
+        value,
+    }
 }
 
 // The first bytes of s, at most so many.
 pub fn front(s: &[u8], most: usize) -> &[u8]
     ensures { result.now ≡ take most s.now }
 {
-    if most < s.len() {
-        return &s[..most];
-    }
-    s
+    &s[..most.min(s.len())]
 }
 
 // up - down.
@@ -84,75 +65,46 @@ fn difference(up: u32, down: u32) -> i32
     up as i32 - down as i32
 }
 
-// The id in the columns, or 0 where it is misspelled.
-pub fn id_in(columns: &[u8]) -> u32
+// What follows the leading spaces.
+#[tactic(auto, using(crate::proofs::DigitLaws::leading_le))]
+fn unspaced(part: &[u8]) -> &[u8]
+    ensures { result.now ≡ unspaced part.now }
+{
+    &part[leading_bytes(part, b' ', b' ')..]
+}
+
+// The id in the columns, if one is spelled.
+#[tactic(auto, unfolding(crate::specs::Spelling::id_in, crate::specs::Spelling::id_spelled))]
+pub fn id_in(columns: &[u8]) -> Option<u32>
     ensures { result ≡ id_in columns.now }
 {
-    let from = leading_bytes(columns, b' ', b' ');
-    let text = &columns[from..];
-    if text.len() == 0 {
-        return 0;
+    let text = unspaced(columns);
+    if text.is_empty() {
+        return None;
     }
     if text[0] <= b'0' {
-        return 0;
+        return None;
     }
     if ID_WIDTH < text.len() {
-        return 0;
+        return None;
     }
     let id = leading_digits(0, text);
     if id.count != text.len() {
-        return 0;
+        return None;
     }
-    id.value as u32
-}
-
-fn is_digit(b: u8) -> bool
-    ensures { result ≡ within 48 57 b }
-{
-    if b < b'0' {
-        return false;
-    }
-    b <= b'9'
-}
-
-// Byte `at` of s is b. There is no byte 0 in a text, so one past the end is none.
-fn byte_is(s: &[u8], at: usize, b: u8) -> bool
-    requires { 0 < b }
-    ensures { result ≡ eqb (get_or s.now at 0) b }
-{
-    if at < s.len() { s[at] == b } else { false }
-}
-
-// The exponent's sign.
-fn signed(tail: &[u8]) -> bool
-    ensures { result ≡ sign_spelled tail.now }
-{
-    if byte_is(tail, 1, b'+') {
-        return true;
-    }
-    byte_is(tail, 1, b'-')
+    Some(id.value as u32)
 }
 
 // Nothing, or E, a sign and two digits.
+#[tactic(auto, unfolding(crate::specs::Spelling::exponent_spelled, crate::specs::Spelling::sign_spelled))]
 fn exponent_spelled(tail: &[u8]) -> bool
     ensures { result ≡ exponent_spelled tail.now }
 {
-    if tail.len() == 0 {
-        return true;
+    match tail {
+        [] => true,
+        [b'E', b'+' | b'-', tens, ones] => tens.is_ascii_digit() && ones.is_ascii_digit(),
+        _ => false,
     }
-    if tail.len() != 4 {
-        return false;
-    }
-    if !byte_is(tail, 0, b'E') {
-        return false;
-    }
-    if !signed(tail) {
-        return false;
-    }
-    if !is_digit(tail[2]) {
-        return false;
-    }
-    is_digit(tail[3])
 }
 
 // The two digits of an exponent that is not left out.
@@ -160,12 +112,11 @@ fn exponent(tail: &[u8]) -> u32
     requires { (exponent_spelled tail.now ≡ true) × (length tail.now ≡ 4) }
     ensures { result ≡ digits_value 0 (drop 2 tail.now) }
 {
-    let tens = wide(tail[2]) - ZERO;
-    let ones = wide(tail[3]) - ZERO;
-    (tens * 10 + ones) as u32
+    u32::from(tail[2] - b'0') * 10 + u32::from(tail[3] - b'0')
 }
 
 // The power of ten of a number with so many digits after its point, and this exponent.
+#[tactic(auto, using(crate::proofs::WordLaws::exponent_small, crate::proofs::WordLaws::exponent_four, crate::proofs::WordLaws::no_exponent), unfolding(crate::specs::Spelling::power_of))]
 fn power_of(tail: &[u8], places: u32) -> i32
     requires { (exponent_spelled tail.now ≡ true) × (places < 100) }
     ensures { result ≡ power_of tail.now places }
@@ -174,7 +125,7 @@ fn power_of(tail: &[u8], places: u32) -> i32
         return difference(0, places);
     }
     let exponent = exponent(tail);
-    if byte_is(tail, 1, b'-') {
+    if tail[1] == b'-' {
         return difference(0, places + exponent);
     }
     difference(exponent, places)
@@ -224,32 +175,20 @@ fn spelled(text: &[u8]) -> Word
     if MAX_DIGITS < whole.count {
         return Word::Other;
     }
-    if byte_is(text, whole.count, b'.') {
-        return pointed(text, whole);
+    match text.get(whole.count) {
+        Some(b'.') => pointed(text, whole),
+        _ => ended(text, whole.value, 0, whole.count),
     }
-    ended(text, whole.value, 0, whole.count)
-}
-
-fn lone_dash(text: &[u8]) -> bool
-    ensures { result ≡ lone_dash text.now }
-{
-    if text.len() != 1 {
-        return false;
-    }
-    byte_is(text, 0, b'-')
 }
 
 // What a part holds after its leading spaces.
+#[tactic(auto, unfolding(crate::specs::Spelling::word_of, crate::specs::Spelling::lone_dash))]
 pub(crate) fn word(part: &[u8]) -> Word
     ensures { result ≡ word_of part.now }
 {
-    let from = leading_bytes(part, b' ', b' ');
-    let text = &part[from..];
-    if text.len() == 0 {
-        return Word::Blank;
+    match unspaced(part) {
+        [] => Word::Blank,
+        [b'-'] => Word::Dash,
+        text => spelled(text),
     }
-    if lone_dash(text) {
-        return Word::Dash;
-    }
-    spelled(text)
 }

@@ -1,31 +1,13 @@
 // Digits written into columns, from the right.
-ghost use Rattle.std.specs.Prelude.{◌≡◌, [], ◌∷◌, ◌++◌, ◌+◌, ◌-◌, ◌/◌, ◌%◌, ◌<◌, ◌≤◌, length, drop, replicate};
+ghost use Rattle.std.specs.Prelude.{◌≡◌, [], ◌∷◌, ◌++◌, ◌+◌, ◌-◌, ◌/◌, ◌%◌, ◌<◌, length};
 ghost use Rattle.spelling.specs.Columns.{digits, justified, number_in, dash_in};
-
-const SPACE: u8 = 32;
-
-const DASH: u8 = 45;
-
-const ZERO: u8 = 48;
 
 // The last digit of n, which is 10 × tens and that digit.
 fn digit(n: u64, tens: u64) -> u8
     requires { tens ≡ n / 10 }
     ensures { result ≡ 48 + n % 10 }
 {
-    ZERO + (n - 10 * tens) as u8
-}
-
-// Spaces in the first count bytes.
-fn put_spaces(part: &mut [u8], count: usize)
-    requires { count ≤ length part.old }
-    ensures { part.new ≡ replicate count 32 ++ drop count part.old }
-{
-    let mut k: usize = 0;
-    while k < count {
-        part[k] = SPACE;
-        k += 1;
-    }
+    b'0' + (n - 10 * tens) as u8
 }
 
 // Fills the part from the right: last, before it the digits of n, none of 0, and spaces.
@@ -33,19 +15,18 @@ fn fill(part: &mut [u8], n: u64, last: u8)
     requires { 0 < length part.old }
     ensures { part.new ≡ justified (length part.old) (digits (length part.old - 1) n ++ (last ∷ [])) }
 {
-    let mut at = part.len() - 1;
-    part[at] = last;
+    let end = part.len() - 1;
+    part[end] = last;
     let mut left = n;
-    while 0 < left {
-        if at == 0 {
+    for at in (0..end).rev() {
+        if left == 0 {
+            part[..=at].fill(b' ');
             return;
         }
-        at -= 1;
         let tens = left / 10;
         part[at] = digit(left, tens);
         left = tens;
     }
-    put_spaces(part, at);
 }
 
 // The number n in the columns of a part; where it has none, nothing.
@@ -66,5 +47,5 @@ pub fn put_dash(part: &mut [u8])
     if part.len() == 0 {
         return;
     }
-    fill(part, 0, DASH);
+    fill(part, 0, b'-');
 }

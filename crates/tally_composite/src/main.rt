@@ -2,16 +2,11 @@
 // of what stops it.
 #![tactic(auto)]
 
-use answers::Input;
-
 fn main(rt: HostRuntime) {
     let mut input = [0u8; composite::DECK_ROOM];
-    let Input::Read(n) = answers::read_input(&mut rt.stdin(), &mut input) else {
-        answers::unreadable(&mut rt.stderr(), b"tally_composite");
-        return;
-    };
     let mut buffer = [0u8; composite::MAX_REPORT];
-    let told = composite::report_with_room(&input, n, &mut buffer);
+    let read = answers::read_input(&mut rt.stdin(), &mut input);
+    let told = read.map(|n| composite::report_with_room(&input, n, &mut buffer));
     answers::answer(
         &mut rt.stdout(),
         &mut rt.stderr(),

@@ -6,8 +6,8 @@ use Prim.Native.Nat.{ℕ, ◌-◌, ◌/◌, ◌^◌, ◌<◌}
 use native.Mathlib.Omega.{arith}
 use lib.Dec.{lit<}
 use lib.ListN.{length, replicate}
-use Rattle.totals.specs.declared.Columns.{Columns}
-use Rattle.totals.specs.declared.Columns.TheVariants.{Absent, Counted}
+use Rattle.std.specs.Prelude.{Some, None}
+use Rattle.totals.specs.Totals.{Columns}
 use Rattle.text.specs.declared.Row.{Row}
 use Rattle.spelling.specs.Columns.{id_width, digits_value, digit, digits, decimal, justified, number, dash}
 use Rattle.text.specs.Text.{pathway_width, count_width, columns_text, row_text, CountsFit, FitsColumns}
@@ -38,13 +38,13 @@ dash_no_number w n t u some e =
 
 columns_determine : (c d : Columns) → CountsFit c → CountsFit d → columns_text c ≡ columns_text d → c ≡ d
 unfolding columns_text CountsFit
-columns_determine Absent Absent f g e = refl
-columns_determine Absent (Counted low high) f g e = absurd (dash_no_number count_width low _ _ (lit< tt) e)
-columns_determine (Counted low high) Absent f g e = absurd (dash_no_number count_width low _ _ (lit< tt) (sym e))
-columns_determine (Counted low high) (Counted low' high') f g e =
-    let first = number_first count_width low low' (number count_width high) (number count_width high') (lit< tt) f.0 g.0 e in
-    let second = number_first count_width high high' [] [] (lit< tt) f.1 g.1 (ap (λ (x : List ℕ). x ++ []) first.1) in
-    cc
+columns_determine None None f g e = refl
+columns_determine None (Some n) f g e = absurd (dash_no_number count_width n.low _ _ (lit< tt) e)
+columns_determine (Some n) None f g e = absurd (dash_no_number count_width n.low _ _ (lit< tt) (sym e))
+columns_determine (Some n) (Some m) f g e =
+    let first = number_first count_width n.low m.low (number count_width n.high) (number count_width m.high) (lit< tt) f.0 g.0 e in
+    let second = number_first count_width n.high m.high [] [] (lit< tt) f.1 g.1 (ap (λ (x : List ℕ). x ++ []) first.1) in
+    λ i. Some (record { low = first.0 i; high = second.0 i })
 
 columns_first : (c d : Columns) (t u : List ℕ) → CountsFit c → CountsFit d → columns_text c ++ t ≡ columns_text d ++ u → (c ≡ d) × (t ≡ u)
 columns_first c d t u f g e =

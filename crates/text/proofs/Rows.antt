@@ -9,8 +9,9 @@ use native.Mathlib.Omega.{arith}
 use borrow.Author.Tests.{lt-ltb, le-ltb}
 use lib.ListN.{length, get_or, take, drop, set, length-append, drop_of_length-le}
 use lib.Seq.{drop-cons, set_at}
-use Rattle.totals.specs.declared.Columns.{Columns}
-use Rattle.totals.specs.declared.Columns.TheVariants.{Absent, Counted}
+use Rattle.std.specs.Prelude.{Some, None}
+use Rattle.pair.specs.declared.Units.{Units}
+use Rattle.totals.specs.Totals.{Columns}
 use Rattle.text.specs.declared.Row.{Row}
 use Rattle.text.specs.Text.{report_line_width, columns_text, row_text, lines_text, line_told, line_after}
 use Rattle.spelling.specs.Columns.{number, justified, dash}
@@ -20,8 +21,8 @@ use Rattle.lists.proofs.Placed.{grown, placed_two}
 
 pub length_columns : (columns : Columns) → length (columns_text columns) ≡ 40
 unfolding columns_text
-length_columns Absent = simp (length-append, length_justified 20 dash (lit≤ tt))
-length_columns (Counted low high) = simp (length-append, length_number 20 low (lit< tt), length_number 20 high (lit< tt))
+length_columns None = simp (length-append, length_justified 20 dash (lit≤ tt))
+length_columns (Some n) = simp (length-append, length_number 20 n.low (lit< tt), length_number 20 n.high (lit< tt))
 
 -- low and high, one after the other
 columns_placed : (line l₁ l₂ low high : List ℕ) (at : ℕ) → at + 40 ≤ length line → length low ≡ 20 → l₁ ≡ placed line at low
@@ -31,18 +32,18 @@ columns_placed line l₁ l₂ low high at h n e₁ e₂ =
     ∙ ap (λ (x : List ℕ). placed x (at + 20) high) e₁
     ∙ placed_two line low high at (at + 20) (omega arith) (ap (λ (m : ℕ). at + m) n)
 
-pub columns_absent : (line l₁ l₂ : List ℕ) (at : ℕ) (columns : Columns) → at + 40 ≤ length line → columns ≡ Absent
+pub columns_absent : (line l₁ l₂ : List ℕ) (at : ℕ) (columns : Columns) → at + 40 ≤ length line → columns ≡ None
     → l₁ ≡ placed line at (justified 20 dash) → l₂ ≡ placed l₁ (at + 20) (justified 20 dash) → l₂ ≡ placed line at (columns_text columns)
 unfolding columns_text
 columns_absent line l₁ l₂ at columns h u e₁ e₂ =
     columns_placed line l₁ l₂ (justified 20 dash) (justified 20 dash) at h (length_justified 20 dash (lit≤ tt)) e₁ e₂
     ∙ ap (λ (x : Columns). placed line at (columns_text x)) (sym u)
 
-pub columns_counted : (line l₁ l₂ : List ℕ) (at : ℕ) (columns : Columns) (low high : ℕ) → at + 40 ≤ length line → columns ≡ Counted low high
-    → l₁ ≡ placed line at (number 20 low) → l₂ ≡ placed l₁ (at + 20) (number 20 high) → l₂ ≡ placed line at (columns_text columns)
+pub columns_counted : (line l₁ l₂ : List ℕ) (at : ℕ) (columns : Columns) (n : Units) → at + 40 ≤ length line → columns ≡ Some n
+    → l₁ ≡ placed line at (number 20 n.low) → l₂ ≡ placed l₁ (at + 20) (number 20 n.high) → l₂ ≡ placed line at (columns_text columns)
 unfolding columns_text
-columns_counted line l₁ l₂ at columns low high h u e₁ e₂ =
-    columns_placed line l₁ l₂ (number 20 low) (number 20 high) at h (length_number 20 low (lit< tt)) e₁ e₂
+columns_counted line l₁ l₂ at columns n h u e₁ e₂ =
+    columns_placed line l₁ l₂ (number 20 n.low) (number 20 n.high) at h (length_number 20 n.low (lit< tt)) e₁ e₂
     ∙ ap (λ (x : Columns). placed line at (columns_text x)) (sym u)
 
 -- a text more from the start of a line

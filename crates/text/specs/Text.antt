@@ -2,12 +2,10 @@
 -- right-justified, and a line feed: 95 bytes.
 -- Bytes: 10 is a line feed, 32 a space, 45 -, 48 to 57 the digits.
 -- Assumes nothing.
-use Rattle.std.specs.Prelude.{ℕ, ◌+◌, ◌*◌, ◌^◌, ◌<◌, cond, List, [], ◌∷◌, ◌++◌, ltb, length, drop}
-use Rattle.totals.specs.declared.Columns.{Columns}
-use Rattle.totals.specs.declared.Columns.TheVariants.{Absent, Counted}
+use Rattle.std.specs.Prelude.{ℕ, ◌+◌, ◌*◌, ◌^◌, ◌<◌, cond, List, [], ◌∷◌, ◌++◌, ltb, length, drop, Some, None, Result, Ok, Err}
+use Rattle.totals.specs.Totals.{Columns}
 use Rattle.text.specs.declared.Row.{Row}
-use Rattle.text.specs.declared.Written.{Written}
-use Rattle.text.specs.declared.Written.TheVariants.{Whole, Short}
+use Rattle.text.specs.declared.TooShort.{TooShort}
 use Rattle.spelling.specs.Columns.{id_width, justified, number, dash}
 
 abbrev pub pathway_width : ℕ
@@ -22,8 +20,8 @@ report_line_width = 2 * id_width + pathway_width + 4 * count_width + 1
 
 -- low and high
 unfoldable pub columns_text : Columns → List ℕ
-columns_text Absent = justified count_width dash ++ justified count_width dash
-columns_text (Counted low high) = number count_width low ++ number count_width high
+columns_text None = justified count_width dash ++ justified count_width dash
+columns_text (Some counts) = number count_width counts.low ++ number count_width counts.high
 
 unfoldable pub row_text : Row → List ℕ
 row_text row =
@@ -41,8 +39,8 @@ lines_text (row ∷ rows) = row_text row ++ lines_text rows
 
 -- ---- a row that its columns hold, so that its text determines it: ids below 10^6, the pathway below 10^2, counts below 10^20
 unfoldable pub CountsFit : Columns → Type 0
-CountsFit Absent = Unit {0}
-CountsFit (Counted low high) = (low < 10 ^ count_width) × (high < 10 ^ count_width)
+CountsFit None = Unit {0}
+CountsFit (Some counts) = (counts.low < 10 ^ count_width) × (counts.high < 10 ^ count_width)
 
 pub record FitsColumns (row : Row) : Type 0 where
   pub receptor : row.receptor < 10 ^ id_width
@@ -53,9 +51,9 @@ pub record FitsColumns (row : Row) : Type 0 where
 
 -- ---- the call
 -- the number of each answer
-unfoldable pub written : Written → ℕ
-written Whole = 0
-written Short = 51
+abbrev pub written : Result (Unit {0}) TooShort → ℕ
+written (Ok done) = 0
+written (Err e) = 51
 
 -- 51 for a part shorter than a line
 unfoldable pub line_told : ℕ → ℕ

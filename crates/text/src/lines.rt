@@ -18,7 +18,7 @@ const CANCER_START: usize = HAZARD_START + 2 * COUNT_WIDTH;
 
 const LINE_FEED_AT: usize = LINE_WIDTH - 1;
 
-const LINE_FEED: u8 = 10;
+const LINE_FEED: u8 = b'\n';
 
 // The number n in width columns from at.
 fn put_number(line: &mut [u8], at: usize, width: usize, n: u64)
@@ -37,23 +37,25 @@ fn put_dash(line: &mut [u8], at: usize, width: usize)
 }
 
 // Low and high, from at.
+#[tactic(auto, using(crate::proofs::Rows::columns_absent))]
 fn put_columns(line: &mut [u8], at: usize, columns: Columns)
     requires { at + 2 * count_width ≤ length line.old }
     ensures { line.new ≡ placed line.old at (columns_text columns) }
 {
     match columns {
-        Columns::Absent => {
+        None => {
             put_dash(line, at, COUNT_WIDTH);
             put_dash(line, at + COUNT_WIDTH, COUNT_WIDTH);
         }
-        Columns::Counted { low, high } => {
-            put_number(line, at, COUNT_WIDTH, low);
-            put_number(line, at + COUNT_WIDTH, COUNT_WIDTH, high);
+        Some(counts) => {
+            put_number(line, at, COUNT_WIDTH, counts.low);
+            put_number(line, at + COUNT_WIDTH, COUNT_WIDTH, counts.high);
         }
     }
 }
 
 // Writes a row into its own part of the report, a line long.
+#[tactic(auto, using(crate::proofs::Rows::row_written))]
 pub(crate) fn put_line(line: &mut [u8], row: Row)
     requires { length line.old ≡ report_line_width }
     ensures { line.new ≡ row_text row }

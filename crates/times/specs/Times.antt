@@ -5,15 +5,8 @@ use Rattle.std.specs.Prelude.{ℕ, ◌+◌, ◌-◌, ◌*◌, ◌/◌, ◌%◌, 
 use Rattle.std.specs.Int.Signed.{le_z}
 use Rattle.pair.specs.declared.Pair.{Pair}
 use Rattle.pair.specs.Fraction.{Fraction}
-use Rattle.pair.specs.Calls.{Outcome, is, refused, provided, long_entry}
+use Rattle.pair.specs.Calls.{Outcome, is, provided, long_entry}
 use Rattle.times.specs.declared.Years.{Years}
-use Rattle.times.specs.declared.Time.{Time}
-use Rattle.times.specs.declared.Time.TheVariants as Times
-
--- each case of an answer in these terms
-unfoldable pub time : Time → Outcome Years
-time (Times.Is y) = is y
-time Times.Refused = refused 53
 
 -- how many 1E-27 years a time is, and what so many are as a fraction of years
 unfoldable pub amount : Years → ℕ

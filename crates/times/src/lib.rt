@@ -4,24 +4,17 @@
 
 ghost use Rattle.std.specs.Prelude.{◌≡◌, true, ◌&&◌, ◌+◌, ◌-◌, ◌*◌, ◌^◌, ◌≤◌, ◌<◌, leb, pos};
 ghost use Rattle.std.specs.Int.Signed.{le_z};
-ghost use Rattle.pair.specs.Calls.{answer, order};
+ghost use Rattle.pair.specs.Calls.{answer};
 ghost use Rattle.times.specs.Times as specs;
-ghost use Rattle.times.specs.Times.{time, amount, is_years, words_of, time_of, least};
+ghost use Rattle.times.specs.Times.{amount, is_years, words_of, time_of, least};
 
-use pair::{Answer, Order, Pair};
+use pair::{Answer, Pair, Refused};
 
 // A time: a whole number of 1E-27 years in two words, high × 10^18 + low, below 1E+10 years.
-#[derive(Clone, Copy)]
+#[derive(Clone, Copy, PartialEq, Eq, PartialOrd, Ord)]
 pub struct Years {
     pub high: u64,
     pub low: u64,
-}
-
-// What a call that makes a time answers. Refused is document 01's 53.
-#[derive(Clone, Copy)]
-pub enum Time {
-    Is(Years),
-    Refused,
 }
 
 const MOST_HIGH: u64 = 9_999_999_999_999_999_999;
@@ -29,26 +22,18 @@ const MOST_HIGH: u64 = 9_999_999_999_999_999_999;
 // The base of the words.
 const BASE: u64 = 1_000_000_000_000_000_000;
 
+#[tactic(auto, unfolding(crate::specs::Times::is_years))]
 fn is_years(y: Years) -> bool
     ensures { result ≡ is_years y }
 {
-    if MOST_HIGH < y.high {
-        return false;
-    }
-    y.low < BASE
+    y.high <= MOST_HIGH && y.low < BASE
 }
 
 fn at_most(a: Years, b: Years) -> bool
     requires { (is_years a ≡ true) × (is_years b ≡ true) }
     ensures { result ≡ leb (amount a) (amount b) }
 {
-    if a.high < b.high {
-        return true;
-    }
-    if b.high < a.high {
-        return false;
-    }
-    a.low <= b.low
+    a <= b
 }
 
 // a − b, for b at most a: where b has more in the lower word, one is taken from the upper.
@@ -78,13 +63,11 @@ fn ten_to(k: usize) -> u64
 }
 
 // Whether the last digit of what is printed stands from 1E-27 to 1E+9.
+#[tactic(auto, unfolding(crate::specs::Times::least))]
 fn is_place(power: i32) -> bool
     ensures { result ≡ (le_z least power && le_z power (pos 9)) }
 {
-    if -27 <= power {
-        return power <= 9;
-    }
-    false
+    -27 <= power && power <= 9
 }
 
 // How far above 1E-27.
@@ -96,15 +79,15 @@ fn places(power: i32) -> usize
 }
 
 // digits × 10^places in the upper word
-fn upper(digits: u64, places: usize) -> Time
+fn upper(digits: u64, places: usize) -> Result<Years, Refused>
     requires { places ≤ 18 }
-    ensures { time result ≡ time_of (digits * 10 ^ (places + 18)) }
+    ensures { answer result ≡ time_of (digits * 10 ^ (places + 18)) }
 {
     let unit = ten_to(places);
     if MOST_HIGH / unit < digits {
-        return Time::Refused;
+        return Err(Refused);
     }
-    Time::Is(Years {
+    Ok(Years {
         high: digits * unit,
         low: 0,
     })
@@ -126,57 +109,54 @@ impl Years {
     pub const NONE: Years = Years { high: 0, low: 0 };
 
     // digits × 10^power years, as printed.
-    pub fn printed(digits: u64, power: i32) -> Time
-        ensures { time result ≡ specs.printed digits power }
+    pub fn printed(digits: u64, power: i32) -> Result<Years, Refused>
+        ensures { answer result ≡ specs.printed digits power }
     {
         if !is_place(power) {
-            return Time::Refused;
+            return Err(Refused);
         }
         let k = places(power);
         if k < 18 {
-            return Time::Is(across(digits, k));
+            return Ok(across(digits, k));
         }
         upper(digits, k - 18)
     }
 
     // The sum of two times.
-    pub fn together(self, other: Years) -> Time
-        ensures { time result ≡ specs.together self other }
+    pub fn together(self, other: Years) -> Result<Years, Refused>
+        ensures { answer result ≡ specs.together self other }
     {
         if !is_years(self) {
-            return Time::Refused;
+            return Err(Refused);
         }
         if !is_years(other) {
-            return Time::Refused;
+            return Err(Refused);
         }
         if MOST_HIGH - self.high < other.high {
-            return Time::Refused;
+            return Err(Refused);
         }
         let low = self.low + other.low;
         let high = self.high + other.high + low / BASE;
         if MOST_HIGH < high {
-            return Time::Refused;
+            return Err(Refused);
         }
-        Time::Is(Years {
+        Ok(Years {
             high,
             low: low % BASE,
         })
     }
 
-    // Whether a time is at most a bound.
-    pub fn compare(self, bound: Years) -> Order
-        ensures { order result ≡ specs.at_most self bound }
+    // Whether a time is at most a bound. No derived order: what is no time is refused, as `Number::compare` refuses what is no number.
+    pub fn compare(self, bound: Years) -> Result<bool, Refused>
+        ensures { answer result ≡ specs.at_most self bound }
     {
         if !is_years(self) {
-            return Order::Refused;
+            return Err(Refused);
         }
         if !is_years(bound) {
-            return Order::Refused;
+            return Err(Refused);
         }
-        if at_most(self, bound) {
-            return Order::AtMost;
-        }
-        Order::Above
+        Ok(at_most(self, bound))
     }
 
     // The years beyond others, which are no more: the difference as a pair, rounded once.
@@ -184,13 +164,13 @@ impl Years {
         ensures { answer result ≡ specs.beyond self other }
     {
         if !is_years(self) {
-            return Answer::Refused;
+            return Err(Refused);
         }
         if !is_years(other) {
-            return Answer::Refused;
+            return Err(Refused);
         }
         if !at_most(other, self) {
-            return Answer::Refused;
+            return Err(Refused);
         }
         less(self, other).pair()
     }

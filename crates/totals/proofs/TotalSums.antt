@@ -1,6 +1,6 @@
 -- The totals call over plain lists: a sum and a test from an index on, and the three ways out.
 -- Assumes nothing.
-use mathlib.Core.Path.{◌≡◌, refl, sym, ap, ◌∙◌}
+use mathlib.Core.Path.{◌≡◌, sym, ap, ◌∙◌}
 use mathlib.Core.Bool.{Bool, true, false, ◌&&◌}
 use mathlib.Core.List.{List, []}
 use Prim.Native.Nat.{ℕ, ◌+◌, ◌≤◌, ◌<◌}
@@ -12,7 +12,9 @@ use lib.ListN.{length, get_or, drop, drop_of_length-le}
 use lib.Seq.{drop-cons}
 use Rattle.sizes.specs.Sizes.{most_lines}
 use Rattle.totals.specs.Totals.{largest_number, totalled, total_of, list_sum, all_at_most}
-use Rattle.totals.specs.declared.Sum.TheVariants.{Is, Refused}
+use Rattle.std.specs.Prelude.{Ok, Err}
+use Rattle.std.proofs.Math.Bool.{and-false}
+use Rattle.totals.specs.declared.NoTotal.{NoTotal}
 
 pub sum_from : (list : List ℕ) (i : ℕ) → i < length list → list_sum (drop i list) ≡ get_or list i 0 + list_sum (drop (i + 1) list)
 unfolding list_sum
@@ -31,16 +33,12 @@ all_past most list i h le e =
     ∙ sym (all_from most list i h)
     ∙ e
 
-pub too_many : (list : List ℕ) → most_lines < length list → totalled Refused ≡ total_of list
+pub too_many : {e : NoTotal} (list : List ℕ) → most_lines < length list → totalled (Err e) ≡ total_of list
 unfolding totalled total_of
 too_many list h = simp (lt-leb _ _ h)
 
-and-false : (b : Bool) → b && false ≡ false
-and-false true = refl
-and-false false = refl
-
-pub too_large : (list : List ℕ) (i : ℕ) → i < length list → largest_number < get_or list i 0
-    → all_at_most largest_number (drop i list) ≡ all_at_most largest_number list → totalled Refused ≡ total_of list
+pub too_large : {why : NoTotal} (list : List ℕ) (i : ℕ) → i < length list → largest_number < get_or list i 0
+    → all_at_most largest_number (drop i list) ≡ all_at_most largest_number list → totalled (Err why) ≡ total_of list
 unfolding totalled total_of
 too_large list i h large e =
     let none : all_at_most largest_number list ≡ false =
@@ -50,7 +48,7 @@ too_large list i h large e =
     simp (none, and-false)
 
 pub summed : (list : List ℕ) (i s : ℕ) → length list ≤ most_lines → length list ≤ i → s + list_sum (drop i list) ≡ list_sum list
-    → all_at_most largest_number (drop i list) ≡ all_at_most largest_number list → totalled (Is s) ≡ total_of list
+    → all_at_most largest_number (drop i list) ≡ all_at_most largest_number list → totalled (Ok s) ≡ total_of list
 unfolding totalled total_of list_sum all_at_most
 summed list i s few past e a =
     let gone : drop i list ≡ [] = drop_of_length-le list past in

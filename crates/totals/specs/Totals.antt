@@ -1,19 +1,21 @@
 -- Totals (document 01, "Units and totals", and 52 of "Where a deck stops").
 -- Assumes nothing.
-use Rattle.std.specs.Prelude.{ℕ, ◌+◌, ◌^◌, Bool, true, cond, ◌&&◌, List, [], ◌∷◌, leb, length}
+use Rattle.std.specs.Prelude.{ℕ, ◌+◌, ◌^◌, Bool, true, cond, ◌&&◌, List, [], ◌∷◌, leb, length, Option, Some, None, Result, Ok, Err}
 use Rattle.sizes.specs.Sizes.{most_lines}
 use Rattle.pair.specs.Calls.{Outcome, is, refused}
-use Rattle.totals.specs.declared.Columns.{Columns}
-use Rattle.totals.specs.declared.Columns.TheVariants.{Absent, Counted}
-use Rattle.totals.specs.declared.Sum.{Sum}
-use Rattle.totals.specs.declared.Sum.TheVariants.{Is, Refused}
+use Rattle.pair.specs.declared.Units.{Units}
+use Rattle.totals.specs.declared.NoTotal.{NoTotal}
+
+-- two columns of a report line: - in both, or two counts
+abbrev pub Columns : Type 0
+Columns = Option Units
 
 -- two columns added: a dash counts as nothing
 infixl 60 ◌added◌
 unfoldable pub ◌added◌ : Columns → Columns → Columns
-Absent added y = y
-Counted l h added Absent = Counted l h
-Counted l h added Counted k g = Counted (l + k) (h + g)
+None added y = y
+Some n added None = Some n
+Some n added Some m = Some (record { low = n.low + m.low; high = n.high + m.high })
 
 -- ---- the totals call
 -- each of the numbers is at most 1E+16
@@ -21,9 +23,9 @@ abbrev pub largest_number : ℕ
 largest_number = 10 ^ 16
 
 -- each case of an answer in these terms
-unfoldable pub totalled : Sum → Outcome ℕ
-totalled (Is n) = is n
-totalled Refused = refused 52
+unfoldable pub totalled : Result ℕ NoTotal → Outcome ℕ
+totalled (Ok n) = is n
+totalled (Err e) = refused 52
 
 unfoldable pub list_sum : List ℕ → ℕ
 list_sum [] = 0

@@ -1,2 +1,2 @@
--- Laws that several proofs cite.
-pub mod Signs
+-- The crate's law: the number that digits spell. Assumes nothing.
+mod Spelled

@@ -19,8 +19,10 @@ use Rattle.equations.specs.Series.{phi, psi, pair_series}
 use Rattle.equations.proofs.PageRefusals.{series_by}
 use Rattle.slots.specs.declared.Sort.{Sort}
 use Rattle.slots.specs.declared.Sort.TheVariants.{Ordinary, Composite}
+use Rattle.cases.specs.Conditions.{first}
 use Rattle.deck.specs.DeckConditions.{conditions}
 use Rattle.deck.specs.DeckCase.{read_of}
+use Rattle.deck.proofs.ReadLaws.{reading_status}
 use Rattle.cases.proofs.FirstMet.{told_without}
 use Rattle.deck.proofs.DeckWithout.{deck_without}
 use Rattle.sizes.specs.Sizes.{most_lines}
@@ -87,7 +89,8 @@ total_by list = cond_by (leb (length list) most_lines && all_at_most largest_num
 -- ---- a deck read alone
 read_never : (sort : Sort) (deck : List ℕ) → (read_told sort deck).number ≢ 41
 unfolding read_told read_of
-read_never sort deck = told_without 41 (λ e. omega arith) (conditions sort deck) (deck_without 41 (lit< tt) sort deck)
+read_never sort deck =
+    rw (reading_status (first (conditions sort deck)) deck) (told_without 41 (λ e. omega arith) (conditions sort deck) (deck_without 41 (lit< tt) sort deck))
 
 pub never_41 : Never 41
 never_41 =

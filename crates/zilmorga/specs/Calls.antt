@@ -6,7 +6,7 @@ use Rattle.pair.specs.Calls.{Outcome, is, refused, after, after_one, in_units}
 use Rattle.slots.specs.declared.Sort.{Sort}
 use Rattle.cases.specs.declared.Told.{Told}
 use Rattle.deck.specs.DeckCase.{read_of}
-use Rattle.cases.specs.Conditions.{told_of}
+use Rattle.cases.specs.Conditions.{status_of, told_of}
 use Rattle.zilmorga.specs.Numbers.{entry_at, and_then, number_of, pair_from, compared_if, numbers_of}
 
 pub record Left (A : Type 0) : Type 0 where
@@ -27,7 +27,7 @@ told number line field = record { number = number; line = line; field = field }
 
 -- a deck of this sort that is read and no more
 unfoldable pub read_told : Sort → List ℕ → Told
-read_told sort deck = told_of (read_of sort deck).status
+read_told sort deck = told_of (status_of (read_of sort deck))
 
 -- an operation on pairs that the caller wrote
 unfoldable pub on_one_pair : (Pair → Outcome Pair) → List ℤ → List ℤ → Left (List ℤ)

@@ -4,13 +4,6 @@ use Rattle.std.specs.Int.Signed.{le_z}
 use Rattle.pair.specs.declared.Number.{Number}
 use Rattle.pair.specs.declared.Pair.{Pair}
 use Rattle.pair.specs.Calls.{Outcome, is, refused, provided, compared}
-use Rattle.zilmorga.specs.declared.numbers.NumberHeld.{NumberHeld}
-use Rattle.zilmorga.specs.declared.numbers.NumberHeld.TheVariants as Helds
-
--- each case of an answer in these terms
-unfoldable pub number_held : NumberHeld → Outcome Number
-number_held (Helds.Is w) = is w
-number_held Helds.Not = refused 53
 
 unfoldable pub is_between : ℤ → ℤ → ℤ → Bool
 is_between least z most = le_z least z && le_z z most

@@ -11,15 +11,17 @@ ghost use Rattle.report.specs.Forms.{outcome_of, buffer_of};
 ghost use Rattle.report.specs.Report.{ordinary};
 ghost use Rattle.composite.specs.Composite.{composite};
 ghost use Rattle.slots.specs.declared.Sort.TheVariants.{Ordinary, Composite};
+ghost use Rattle.cases.specs.Conditions.{status_of};
+ghost use Rattle.deck.specs.DeckCase.{read_of};
 ghost use Rattle.totals.specs.Totals.{total_of};
 ghost use Rattle.zilmorga.specs.Numbers.{numbers_of};
 ghost use Rattle.zilmorga.specs.Calls.{left, leaves, told, read_told, on_one_pair, on_two_pairs, comparison, units, units_left};
 
-use crate::numbers::{REFUSED, compared, number_of, pair_from, put, put_order};
-use cases::Told;
-use pair::{Answer, Count, Pair};
+use crate::numbers::{compared, number_of, pair_from, put, put_order};
+use cases::numbers::{REFUSED, UNSUMMED};
+use cases::{Status, Told};
+use pair::{Chain, Pair};
 use slots::Sort;
-use totals::Sum;
 
 // The number, with line and field written.
 fn put_told(t: Told, line: &mut usize, field: &mut usize) -> u32
@@ -60,13 +62,21 @@ pub extern "C" fn zilmorga_composite_report(
     put_told(told, line, field)
 }
 
+// Where a deck of this sort stops, if it does.
+#[tactic(auto, unfolding(cases::specs::Conditions::status_of))]
+fn read_status(deck: &[u8], sort: Sort) -> Status
+    ensures { result ≡ status_of (read_of sort deck.now) }
+{
+    deck::read(deck, sort)?;
+    Ok(())
+}
+
 // A deck of this sort read alone: 0, 0 and 0; or number, line and field of the refusal.
+#[tactic(auto, unfolding(crate::specs::Calls::read_told))]
 fn read_alone(deck: &[u8], sort: Sort, line: &mut usize, field: &mut usize) -> u32
     ensures { told result line.new field.new ≡ read_told sort deck.now }
 {
-    let reading = deck::read(deck, sort);
-    let status = reading.status;
-    put_told(cases::tell(status), line, field)
+    put_told(cases::tell(read_status(deck, sort)), line, field)
 }
 
 // An ordinary deck read alone.
@@ -91,11 +101,11 @@ pub extern "C" fn zilmorga_total(list: &[u64], sum: &mut u64) -> u32
     ensures { left result sum.new ≡ leaves (λ n. n) (total_of list.now) sum.old }
 {
     match totals::total(list) {
-        Sum::Is(n) => {
+        Ok(n) => {
             *sum = n;
             0
         }
-        Sum::Refused => 52,
+        Err(_) => UNSUMMED,
     }
 }
 
@@ -155,7 +165,7 @@ pub extern "C" fn zilmorga_one_minus(f: &[i64; 4], out: &mut [i64; 4]) -> u32
 pub extern "C" fn zilmorga_series(x: &[i64; 4], out: &mut [i64; 4]) -> u32
     ensures { left result out.new ≡ on_one_pair (λ p. pair_series phi (calls.is p)) x.now out.old }
 {
-    let Answer::Is(p) = pair_from(x) else {
+    let Ok(p) = pair_from(x) else {
         return REFUSED;
     };
     put(media::series(p), out)
@@ -166,7 +176,7 @@ pub extern "C" fn zilmorga_series(x: &[i64; 4], out: &mut [i64; 4]) -> u32
 pub extern "C" fn zilmorga_mean_series(x: &[i64; 4], out: &mut [i64; 4]) -> u32
     ensures { left result out.new ≡ on_one_pair (λ p. pair_series psi (calls.is p)) x.now out.old }
 {
-    let Answer::Is(p) = pair_from(x) else {
+    let Ok(p) = pair_from(x) else {
         return REFUSED;
     };
     put(media::mean_series(p), out)
@@ -187,15 +197,15 @@ pub extern "C" fn zilmorga_compare(end: &[i64; 2], bound: &[i64; 2], at_most: &m
 pub extern "C" fn zilmorga_in_units(p: &[i64; 4], unit: i32, low: &mut u64, high: &mut u64) -> u32
     ensures { left result (units low.new high.new) ≡ units_left p.now unit (units low.old high.old) }
 {
-    let Answer::Is(q) = pair_from(p) else {
+    let Ok(q) = pair_from(p) else {
         return REFUSED;
     };
     match q.in_units(unit) {
-        Count::Is(n) => {
+        Ok(n) => {
             *low = n.low;
             *high = n.high;
             0
         }
-        Count::Refused => REFUSED,
+        Err(_) => REFUSED,
     }
 }

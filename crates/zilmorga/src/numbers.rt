@@ -4,17 +4,8 @@ ghost use Rattle.pair.specs.Calls as calls;
 ghost use Rattle.zilmorga.specs.Numbers as specs;
 ghost use Rattle.zilmorga.specs.Calls.{left, leaves, as_number};
 
-use pair::{Answer, Number, Order, Pair};
-
-// A working number as a caller writes it, or none.
-#[derive(Clone, Copy)]
-pub(crate) enum NumberHeld {
-    Is(Number),
-    Not,
-}
-
-// Document 01's number for a pair call that cannot be answered.
-pub(crate) const REFUSED: u32 = 53;
+use cases::numbers::REFUSED;
+use pair::{Answer, Number, Pair, Refused};
 
 fn within(least: i64, n: i64, most: i64) -> bool
     ensures { result ≡ specs.is_between least n most }
@@ -25,17 +16,17 @@ fn within(least: i64, n: i64, most: i64) -> bool
     false
 }
 
-// A working number's two parts, if each fits its field.
-pub(crate) fn number_of(significand: i64, exponent: i64) -> NumberHeld
-    ensures { specs.number_held result ≡ specs.number_of significand exponent }
+// A working number's two parts, if each fits its field. By `try_from` it was tried, and the proof did not close.
+pub(crate) fn number_of(significand: i64, exponent: i64) -> Result<Number, Refused>
+    ensures { calls.answer result ≡ specs.number_of significand exponent }
 {
     if !within(0, significand, 4_294_967_295) {
-        return NumberHeld::Not;
+        return Err(Refused);
     }
     if !within(-2_147_483_648, exponent, 2_147_483_647) {
-        return NumberHeld::Not;
+        return Err(Refused);
     }
-    NumberHeld::Is(Number {
+    Ok(Number {
         significand: significand as u32,
         exponent: exponent as i32,
     })
@@ -44,33 +35,27 @@ pub(crate) fn number_of(significand: i64, exponent: i64) -> NumberHeld
 pub(crate) fn pair_from(a: &[i64; 4]) -> Answer
     ensures { calls.answer result ≡ specs.pair_from a.now }
 {
-    let NumberHeld::Is(low) = number_of(a[0], a[1]) else {
-        return Answer::Refused;
-    };
-    let NumberHeld::Is(high) = number_of(a[2], a[3]) else {
-        return Answer::Refused;
-    };
-    Answer::Is(Pair { low, high })
+    let low = number_of(a[0], a[1])?;
+    let high = number_of(a[2], a[3])?;
+    Ok(Pair { low, high })
 }
 
 // Whether a number is at most a bound, if both are there.
-pub(crate) fn compared(x: NumberHeld, y: NumberHeld) -> Order
-    ensures { calls.order result ≡ specs.compared_if (specs.number_held x) (specs.number_held y) }
+#[tactic(auto, unfolding(pair::specs::Calls::answer, crate::specs::Numbers::and_then, crate::specs::Numbers::compared_if))]
+pub(crate) fn compared(
+    x: Result<Number, Refused>,
+    y: Result<Number, Refused>,
+) -> Result<bool, Refused>
+    ensures { calls.answer result ≡ specs.compared_if (calls.answer x) (calls.answer y) }
 {
-    let NumberHeld::Is(a) = x else {
-        return Order::Refused;
-    };
-    let NumberHeld::Is(b) = y else {
-        return Order::Refused;
-    };
-    a.compare(b)
+    x?.compare(y?)
 }
 
 // An answer's code, and its pair where there is one.
 pub(crate) fn put(a: Answer, out: &mut [i64; 4]) -> u32
     ensures { left result out.new ≡ leaves specs.numbers_of (calls.answer a) out.old }
 {
-    let Answer::Is(p) = a else {
+    let Ok(p) = a else {
         return REFUSED;
     };
     let low = p.low.exponent as i64;
@@ -85,18 +70,15 @@ pub(crate) fn put(a: Answer, out: &mut [i64; 4]) -> u32
 }
 
 // A comparison's code, and 1 or 0 where it has an answer.
-pub(crate) fn put_order(o: Order, out: &mut u32) -> u32
-    ensures { left result out.new ≡ leaves as_number (calls.order o) out.old }
+#[tactic(auto, unfolding(pair::specs::Calls::answer, crate::specs::Calls::leaves, crate::specs::Calls::as_number))]
+pub(crate) fn put_order(at_most: Result<bool, Refused>, out: &mut u32) -> u32
+    ensures { left result out.new ≡ leaves as_number (calls.answer at_most) out.old }
 {
-    match o {
-        Order::AtMost => {
-            *out = 1;
+    match at_most {
+        Ok(at_most) => {
+            *out = u32::from(at_most);
             0
         }
-        Order::Above => {
-            *out = 0;
-            0
-        }
-        Order::Refused => REFUSED,
+        Err(_) => REFUSED,
     }
 }

@@ -13,6 +13,6 @@ returns-then-is_timed c =
 pub returns : goal.returns
 unfolding figured figures_with dose_figures_with exposure_with base_in shared
 returns c =
-    (rw (c.cancer_from.ensures, c.csf_of.ensures, c.hazard_from.ensures, c.rfd_of.ensures, c.exposure_from-exposure.ensures, c.share_of.ensures, c.begun_in.ensures)
+    (rw (c.cancer_from.ensures, c.csf_of.ensures, c.hazard_from.ensures, c.rfd_of.ensures, c.exposure-exposure.ensures, c.share_of.ensures, c.begun_in.ensures)
     refl)
     ∙ as_dose _ _ _ _ _ (sym c.is_timed.ensures ∙ c.if-is_timed.false)

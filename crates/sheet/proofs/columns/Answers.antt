@@ -1,48 +1,30 @@
--- The cells of a line, where they are held. Assumes nothing.
-use mathlib.Core.Path.{ap, ◌∙◌}
-use Prim.Native.Nat.{ℕ, ◌+◌, ◌*◌, ◌<◌}
-use borrow.Author.Tests.{eq-eqb, ne_eqb, le-ltb, lt-ltb}
+-- A line's columns, where the cells are held. Assumes nothing.
 use borrow.Author.Rules.{rules}
-use Rattle.sheet.specs.Counts.{is_held, columns_found, columns_in, effect_cells, receptor_cells}
-use Rattle.sheet.proofs.TotalsTold.{side_small}
+use borrow.Author.Tests.{le-ltb, lt-ltb}
+use mathlib.Core.Path.{sym, ap, ◌∙◌}
+use Prim.Native.Nat.{ℕ, ◌+◌}
+use native.Mathlib.Omega.{arith}
+use Rattle.sheet.specs.Counts.{columns_found, columns_in}
+use Rattle.sheet.proofs.TotalsTold.{started, not_started}
 use Rattle.sheet.proofs.columns.Goals as goal
 
-pub returns-then-cells-ne-CELLS : goal.returns-then-cells-ne-CELLS
-unfolding is_held columns_in
-returns-then-cells-ne-CELLS c = simp (ne_eqb _ _ c.if-cells-ne-CELLS.true)
-
-pub returns-then-receptor-ge-MAX_RECEPTORS : goal.returns-then-receptor-ge-MAX_RECEPTORS
-unfolding is_held columns_in
-returns-then-receptor-ge-MAX_RECEPTORS c = simp (eq-eqb _ _ c.if-cells-ne-CELLS.false, le-ltb _ _ c.if-receptor-ge-MAX_RECEPTORS.true)
+pub returns-in_err-start : goal.returns-in_err-start
+unfolding columns_in
+returns-in_err-start c = simp (not_started _ _ _ (sym c.in_err-start.was ∙ c.column_start.ensures)) (search rules)
 
 pub returns-then-line-ge-MOST_LINES : goal.returns-then-line-ge-MOST_LINES
-unfolding is_held columns_in
-returns-then-line-ge-MOST_LINES c = simp (eq-eqb _ _ c.if-cells-ne-CELLS.false, lt-ltb _ _ c.if-receptor-ge-MAX_RECEPTORS.false, le-ltb _ _ c.if-line-ge-MOST_LINES.true)
-
-pub overflow_mul-at-2 : goal.overflow_mul-at-2
-overflow_mul-at-2 c =
-    let small : c.side_of.result < 2 = rw c.side_of.ensures (side_small _) in
-    search rules
-
-pub overflow_add-at : goal.overflow_add-at
-overflow_add-at c =
-    let small : c.side_of.result < 2 = rw c.side_of.ensures (side_small _) in
-    search rules
-
-pub overflow_add-at-2 : goal.overflow_add-at-2
-overflow_add-at-2 c =
-    let small : c.side_of.result < 2 = rw c.side_of.ensures (side_small _) in
-    search rules
+unfolding columns_in
+returns-then-line-ge-MOST_LINES c =
+    let s = started _ _ _ _ (sym c.in_ok-start.was ∙ c.column_start.ensures) in
+    simp (s.held, le-ltb _ _ c.if-line-ge-MOST_LINES.true)
 
 pub columns_found-requires : goal.columns_found-requires
 columns_found-requires c =
-    let small : c.side_of.result < 2 = rw c.side_of.ensures (side_small _) in
-    search rules
+    let s = started _ _ _ _ (sym c.in_ok-start.was ∙ c.column_start.ensures) in
+    omega (arith, s.room, s.long, c.if-line-ge-MOST_LINES.false)
 
 pub returns : goal.returns
-unfolding is_held columns_in
+unfolding columns_in
 returns c =
-    let t = c in
-    let a = t.args in
-    simp (eq-eqb _ _ t.if-cells-ne-CELLS.false, lt-ltb _ _ t.if-receptor-ge-MAX_RECEPTORS.false, lt-ltb _ _ t.if-line-ge-MOST_LINES.false)
-    (c.columns_found.ensures ∙ ap (λ (s : ℕ). columns_found a.cells.now (receptor_cells * a.receptor + effect_cells * s + a.line)) c.side_of.ensures)
+    let s = started _ _ _ _ (sym c.in_ok-start.was ∙ c.column_start.ensures) in
+    simp (s.held, lt-ltb _ _ c.if-line-ge-MOST_LINES.false) (c.columns_found.ensures ∙ ap (λ (k : ℕ). columns_found c.args.cells.now (k + c.args.line)) s.place)

@@ -1,28 +1,22 @@
 -- The upper words decide, or the lower ones. Assumes nothing.
-use mathlib.Core.Path.{sym}
-use native.Mathlib.Nat.{le_antisymm}
+use mathlib.Core.Path.{◌≡◌, ◌∙◌}
+use Prim.Native.Nat.{ℕ, ◌+◌, ◌*◌, ◌≤◌}
 use native.Mathlib.Omega.{arith}
-use borrow.Author.Tests.{le-leb, lt-leb}
+use lib.Dec.{leb}
+use Rattle.std.proofs.Common.{Some}
+use Rattle.std.specs.Ordering.{nat_cmp, is_le, is_some_and, partial_ordering_then}
+use Rattle.std.proofs.lemmas.Bool.Decides.{nat_tests}
 use Rattle.times.specs.Times.{amount}
-use Rattle.times.proofs.TwoWords.{highs_order, lows_order}
+use Rattle.times.proofs.TwoWords.{bounded}
 use Rattle.times.proofs.at_most.Goals as goal
 
-pub returns-then-a-b : goal.returns-then-a-b
-returns-then-a-b c =
-    let s = c in
-    let a = s.args.a in
-    let b = s.args.b in
-    sym (le-leb (amount a) (amount b) (omega (arith, highs_order a b s.requires.0 c.if-a-b.true)))
-
-pub returns-then-b-a : goal.returns-then-b-a
-returns-then-b-a c =
-    let s = c in
-    let a = s.args.a in
-    let b = s.args.b in
-    sym (lt-leb (amount a) (amount b) (highs_order b a s.requires.1 c.if-b-a.true))
+by_words : (x p y q : ℕ) → p ≤ 999999999999999999 → q ≤ 999999999999999999 →
+    is_some_and is_le (partial_ordering_then (Some (nat_cmp x y)) (Some (nat_cmp p q))) ≡ leb (x * 1000000000000000000 + p) (y * 1000000000000000000 + q)
+by_words x p y q h k = grind (arith, nat_tests)
 
 pub returns : goal.returns
+unfolding amount
 returns c =
-    let t = c in
-    let s = t in
-    lows_order s.args.a s.args.b (le_antisymm t.if-b-a.false t.if-a-b.false)
+    let a = c.args.a in
+    let b = c.args.b in
+    c.le.ensures ∙ by_words a.high a.low b.high b.low (bounded a c.requires.0).low (bounded b c.requires.1).low

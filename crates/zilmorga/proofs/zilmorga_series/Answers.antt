@@ -11,4 +11,4 @@ returns-in_default c = rw (← c.pair_from.ensures, c.in_default.is) refl
 
 pub returns : goal.returns
 unfolding answer after_one on_one_pair
-returns c = rw (c.put.ensures, c.series.ensures, ← c.pair_from.ensures, c.in-Is.is) refl
+returns c = rw (c.put.ensures, c.series.ensures, ← c.pair_from.ensures, c.in-Ok.is) refl

@@ -5,10 +5,10 @@ use Rattle.totals.specs.Totals.{totalled}
 use Rattle.zilmorga.specs.Calls.{leaves}
 use Rattle.zilmorga.proofs.zilmorga_total.Goals as goal
 
-pub returns-in-Is : goal.returns-in-Is
+pub returns-in-Ok : goal.returns-in-Ok
 unfolding leaves totalled
-returns-in-Is c = rw (← c.total.ensures, c.in-Is.is) refl
+returns-in-Ok c = rw (← c.total.ensures, c.in-Ok.is) refl
 
-pub returns-in-Refused : goal.returns-in-Refused
+pub returns-in-Err : goal.returns-in-Err
 unfolding leaves totalled
-returns-in-Refused c = rw (← c.total.ensures, c.in-Refused.is) refl
+returns-in-Err c = rw (← c.total.ensures, c.in-Err.is) refl

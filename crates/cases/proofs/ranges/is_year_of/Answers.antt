@@ -5,6 +5,7 @@ use mathlib.Core.Path.{ap, ◌∙◌, subst, sym}
 use Prim.Native.Nat.{ℕ, ◌^◌, ◌≤◌}
 use lib.Dec.{lit<}
 use mir.Facts.{to_z-of_z}
+use Rattle.powers.proofs.PowerLaws.{ten_to_is}
 use Rattle.powers.specs.Powers.{above, below}
 use Rattle.cases.proofs.RangeLaws.{product_fits, year_to, year_above, year_below, year_near}
 use Rattle.cases.proofs.ranges.is_year_of.Goals as goal
@@ -26,7 +27,7 @@ returns-then-down-gt15 c =
 pub overflow_mul-result : goal.overflow_mul-result
 overflow_mul-result c =
     product_fits 2009 15 (lit< tt) c.year.result c.lowered-down.result _
-    (subst (λ (n : ℕ). n ≤ 2009) (sym c.year.ensures) (year_to _)) c.if-down-gt15.false c.ten_to.ensures
+    (subst (λ (n : ℕ). n ≤ 2009) (sym c.year.ensures) (year_to _)) c.if-down-gt15.false (c.ten_to.ensures ∙ ten_to_is _ (omega arith))
 
 pub returns : goal.returns
 returns c =
@@ -34,4 +35,4 @@ returns c =
     let up = c.raised.ensures ∙ ap above (to_z-of_z s.ranges.power) in
     let down = c.lowered-down.ensures ∙ ap below (to_z-of_z s.ranges.power) in
     year_near s.args.guidance s.args.digits _ (omega (arith, up, c.if-raised-gt0.false)) _ _ c.year.ensures
-    (c.ten_to.ensures ∙ ap (λ (n : ℕ). 10 ^ n) down)
+    (c.ten_to.ensures ∙ ten_to_is _ (omega arith) ∙ ap (λ (n : ℕ). 10 ^ n) down)

@@ -1,12 +1,8 @@
--- `cases::zeros::zeros_at_end` meets its contract: so many zeros were dropped, and the rest has the others.
--- Assumes nothing.
+-- So many zeros were dropped, and the rest has the others. Assumes nothing.
 use mathlib.Core.Path.{◌≡◌}
-use Prim.Native.Nat.{◌+◌, ◌-◌, ◌≤◌}
+use Prim.Native.Nat.{◌+◌, ◌-◌}
 use Rattle.cases.specs.Cases.{zeros_at_end}
 use Rattle.cases.proofs.zeros.zeros_at_end.Given as goal
 
 abbrev pub invariant-loop-n : goal.invariant-loop-n
-invariant-loop-n l = (l.n ≤ l.most) × (zeros_at_end l.most l.digits ≡ l.n + zeros_at_end (l.most - l.n) l.left)
-
-abbrev pub decreases-loop-n : goal.decreases-loop-n
-decreases-loop-n l = l.most - l.n
+invariant-loop-n l = zeros_at_end l.most l.digits ≡ l.n + zeros_at_end (l.most - l.n) l.left

@@ -1,8 +1,7 @@
--- `composite::stages::composite_of` meets its contract. Assumes nothing.
-use mathlib.Core.Path.{◌≡◌, sym, ◌∙◌}
+-- One receptor of the stages. Assumes nothing.
+use mathlib.Core.Path.{◌≡◌}
 use native.Mathlib.Omega.{arith}
-use borrow.Author.Rules.{rules}
-use lib.ListN.{length, length-map}
+use lib.ListN.{length}
 use Rattle.sizes.specs.Sizes.{most_stages}
 use Rattle.pair.specs.Calls.{answer}
 use Rattle.composite.proofs.StageLaws.{composite_made}
@@ -10,12 +9,9 @@ use Rattle.composite.proofs.stages.composite_of.Goals as goal
 
 pub returns : goal.returns
 returns c =
-    let r = c in
-    let d = r in
-    let v = d in
-    let p = v in
-    let e = p in
-    let s = e in
-    let long : length s.args.case.receptors.records ≡ most_stages = s.well_formed.0.1.1.1.1.0.1.1.1.0.1.0.1 in
-    composite_made s.args.case _ (omega arith) v.composed_values-values.result e.time_exposed-exposure.result (answer p.pair.result) e.time_exposed-exposure.ensures p.pair.ensures v.composed_values-values.ensures
-    d.deposition_of-deposition.result r.receptor_with-receptor.result c.no_receptor-none.result d.deposition_of-deposition.ensures r.receptor_with-receptor.ensures c.no_receptor-none.ensures
+    let case = c.args.case.now in
+    let long : length case.receptors.records ≡ most_stages = omega arith in
+    let stages = c.of-stages.ensures in
+    composite_made case _ (omega (arith, long)) c.composed_values-values.result c.time_exposed-exposure.result (answer c.pair.result)
+    (rw (stages.0, stages.1) at c.time_exposed-exposure.ensures) c.pair.ensures (rw (stages.0, stages.1) at c.composed_values-values.ensures)
+    c.deposition_of-deposition.result c.receptor_with-receptor.result c.no_receptor-none.result c.deposition_of-deposition.ensures c.receptor_with-receptor.ensures c.no_receptor-none.ensures

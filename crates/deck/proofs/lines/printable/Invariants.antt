@@ -1,12 +1,9 @@
--- `deck::lines::printable` meets its contract. The invariant: as many print of the bytes passed.
+-- `deck::lines::printable` meets its contract. The invariant: all of the bytes passed print, or not.
 -- Assumes nothing.
-use Prim.Native.Nat.{◌-◌, ◌≤◌}
-use Rattle.deck.specs.Inner.{Printable}
-use Rattle.deck.specs.Parts.{columns}
+use mathlib.Core.Path.{◌≡◌}
+use lib.Dec.{leb}
+use Rattle.spelling.specs.Columns.{leading}
 use Rattle.deck.proofs.lines.printable.Given as goal
 
 abbrev pub invariant-loop-i : goal.invariant-loop-i
-invariant-loop-i l = (l.i ≤ columns) × Printable l.line l.i l.count
-
-abbrev pub decreases-loop-i : goal.decreases-loop-i
-decreases-loop-i l = columns - l.i
+invariant-loop-i l = l.all ≡ leb l.i (leading 32 126 l.line)

@@ -16,10 +16,10 @@ pub returns-then-is_fast : goal.returns-then-is_fast
 unfolding answer paced growth pair_growing pairs
 returns-then-is_fast c =
     let t = c in
-    rw (growth_tested c.in-Is.e (ap answer c.in-Is.is) t.is_fast.ensures c.if-is_fast.true, c.over-h.ensures, c.one_minus.ensures, c.fast_build_up-g.ensures) (refl, refl)
+    rw (growth_tested c.in-Ok.e (ap answer c.in-Ok.is) t.is_fast.ensures c.if-is_fast.true, c.over-h.ensures, c.one_minus.ensures, c.fast_build_up-g.ensures) (refl, refl)
 
 pub returns : goal.returns
 unfolding answer paced growth pair_growing
 returns c =
     let t = c in
-    rw (growth_tested c.in-Is.e (ap answer c.in-Is.is) t.is_fast.ensures c.if-is_fast.false, c.mean_build_up-h.ensures, c.mean_of_terms.ensures, c.slow_build_up-g.ensures, c.sum_of_terms-phi.ensures) (refl, refl)
+    rw (growth_tested c.in-Ok.e (ap answer c.in-Ok.is) t.is_fast.ensures c.if-is_fast.false, c.mean_build_up-h.ensures, c.sum_of.ensures, c.slow_build_up-g.ensures, c.sum_of-phi.ensures) (refl, refl)

@@ -1,40 +1,39 @@
--- The tests in their order. Assumes nothing.
-use mathlib.Core.Path.{◌≡◌, sym, ◌∙◌, ap, subst}
+-- A pair, its high end at least 1E-292, and its low end too or 0. Assumes nothing.
+use mathlib.Core.Path.{◌≡◌, sym, ◌∙◌, subst}
 use mathlib.Core.Bool.{true, true≢false}
-use mathlib.Core.Logic.{inl, inr}
+use mathlib.Core.Logic.{◌⊎◌, inl, inr}
 use lib.Dec.{lit≤}
 use lib.IntN.{negsuc}
-use borrow.Author.Tests.{not-false}
 use Rattle.pair.specs.declared.Pair.{Pair}
-use Rattle.pair.specs.Calls.{is, answer, compared}
-use Rattle.pair.proofs.Promises.{checked_pair, zero_is}
-use Rattle.media.specs.Inner.{least}
-use Rattle.media.proofs.Passing.{as_written}
+use Rattle.pair.specs.Number.{is_pair, zero}
+use Rattle.pair.specs.Calls.{is, answer, entry, compared}
+use Rattle.pair.proofs.Promises.{zero_is}
+use Rattle.media.specs.Inner.{least, Moderate}
+use Rattle.media.proofs.Passing.{as_written, ok_pair}
+use Rattle.media.proofs.terms.is_moderate.Goals.{then-is_ok, else-is_ok}
 use Rattle.media.proofs.terms.is_moderate.Goals as goal
 
-pub returns-in_default : goal.returns-in_default
-returns-in_default c h = absurd (true≢false (sym h))
-
-pub returns-in_default-entry : goal.returns-in_default-entry
-returns-in_default-entry c h = absurd (true≢false (sym h))
-
-pub returns-then-not-is_at_most : goal.returns-then-not-is_at_most
-returns-then-not-is_at_most c h = absurd (true≢false (sym h))
+-- at least what is entered as 1E-292
+above : (b x : Pair) → is b ≡ entry 1 (negsuc 291) → is_pair x ≡ true → compared b.low x.high ≡ is true → (x.low ≡ zero) ⊎ (compared b.low x.low ≡ is true) → Moderate x
+unfolding least
+above b x e p h l =
+    let t = as_written 1 (negsuc 291) (lit≤ tt) (lit≤ tt) b e in
+    record { pair = p; high = subst (λ (q : Pair). compared q.low x.high ≡ is true) t h; low = subst (λ (q : Pair). (x.low ≡ zero) ⊎ (compared q.low x.low ≡ is true)) t l }
 
 pub returns-then-is_zero : goal.returns-then-is_zero
-unfolding least answer
+unfolding answer
 returns-then-is_zero c h =
-    let l = c in
-    let b = l in
-    let t = as_written 1 (negsuc 291) (lit≤ tt) (lit≤ tt) l.in-Is-entry.least (sym (ap answer l.in-Is-entry.is) ∙ b.entry.ensures) in
-    let x = b.args.x in
-    record { pair = (checked_pair x b.in-Is.field-0 (sym b.checked.ensures ∙ ap answer b.in-Is.is)).0; high = subst (λ (p : Pair). compared p.low x.high ≡ is true) t (c.is_at_most.ensures (not-false c.is_at_most.result c.if-not-is_at_most.false-raw)); low = inl (zero_is x.low (sym c.is_zero.ensures ∙ c.if-is_zero.true)) }
+    let x = c.args.x in
+    elim c.if-is_ok.branch [
+      | then-is_ok w ↦ above c.in-Ok.least x c.in-Ok.ensures (ok_pair x c.checked.result c.checked.ensures (sym c.is_ok.ensures.value ∙ w.if-is_ok.true)) (w.is_at_most.ensures (sym w.value-is ∙ c.if-is_at_most.true)) (inl (zero_is x.low (sym c.is_zero.ensures ∙ h)))
+      | else-is_ok w ↦ absurd (true≢false (sym c.if-is_at_most.true ∙ w.value-is ∙ w.if-is_ok.false))
+    ]
 
-pub returns : goal.returns
-unfolding least answer
-returns c h =
-    let l = c in
-    let b = l in
-    let t = as_written 1 (negsuc 291) (lit≤ tt) (lit≤ tt) l.in-Is-entry.least (sym (ap answer l.in-Is-entry.is) ∙ b.entry.ensures) in
-    let x = b.args.x in
-    record { pair = (checked_pair x b.in-Is.field-0 (sym b.checked.ensures ∙ ap answer b.in-Is.is)).0; high = subst (λ (p : Pair). compared p.low x.high ≡ is true) t (c.is_at_most.ensures (not-false c.is_at_most.result c.if-not-is_at_most.false-raw)); low = inr (subst (λ (p : Pair). compared p.low x.low ≡ is true) t (c.is_at_most-2.ensures h)) }
+pub returns-else-is_zero : goal.returns-else-is_zero
+unfolding answer
+returns-else-is_zero c h =
+    let x = c.args.x in
+    elim c.if-is_ok.branch [
+      | then-is_ok w ↦ above c.in-Ok.least x c.in-Ok.ensures (ok_pair x c.checked.result c.checked.ensures (sym c.is_ok.ensures.value ∙ w.if-is_ok.true)) (w.is_at_most.ensures (sym w.value-is ∙ c.if-is_at_most.true)) (inr (c.is_at_most-else-is_zero.ensures h))
+      | else-is_ok w ↦ absurd (true≢false (sym c.if-is_at_most.true ∙ w.value-is ∙ w.if-is_ok.false))
+    ]

@@ -1,14 +1,12 @@
 -- A pair whose high end is at most 1, and so is its low end. Assumes nothing.
-use mathlib.Core.Path.{◌≡◌, refl, sym, ◌∙◌, ap₂}
-use mathlib.Core.Bool.{true, false, ◌&&◌}
+use mathlib.Core.Path.{◌≡◌, refl}
+use mathlib.Core.Bool.{true}
 use Prim.Native.Nat.{◌≤◌}
 use native.Mathlib.Omega.{arith}
 use Rattle.pair.specs.declared.Pair.{Pair}
 use Rattle.pair.specs.Number.{nine_figures, in_reach, is_zero, is_number, is_pair, at_most, one}
-use Rattle.pair.specs.Rounding.{rest_end}
-use Rattle.pair.specs.Calls.{answer, ends, one_minus}
 use Rattle.pair.proofs.Numbers.{pair_low, pair_high, pair_order, number_mag, number_reach, number_back}
-use Rattle.pair.proofs.Providing.{first_fails, second_fails, first_holds, refused_as, told_as, failed, passed}
+use Rattle.pair.proofs.Providing.{passed}
 use Rattle.pair.proofs.Alignment.{Small, order_trans}
 use Rattle.pair.proofs.Ordered.{working}
 use Rattle.pair.specs.declared.Number.{Number}
@@ -34,23 +32,11 @@ low_below f h k =
 few : (w : Number) → is_number w ≡ true → w.significand ≤ 999999999999
 few w h = omega (arith, (working w h).most)
 
-pub returns-then-not-is_pair : goal.returns-then-not-is_pair
-unfolding answer one_minus
-returns-then-not-is_pair c =
-    let f = c.args.self in
-    refused_as (is_pair f && at_most f.high one) (ends (rest_end false f.high) (rest_end true f.low)) (first_fails (is_pair f) (at_most f.high one) (failed c.is_pair.ensures c.if-not-is_pair.true-raw))
-
 pub at_most-requires : goal.at_most-requires
 unfolding one
 at_most-requires c =
     let f = c.args.self in
     record { a_value = pair_high f (passed c.is_pair.ensures c.if-not-is_pair.false-raw); b_value = one_number }
-
-pub returns-then-not-at_most : goal.returns-then-not-at_most
-unfolding answer one_minus one
-returns-then-not-at_most c =
-    let f = c.args.self in
-    refused_as (is_pair f && at_most f.high one) (ends (rest_end false f.high) (rest_end true f.low)) (second_fails (is_pair f) (at_most f.high one) (failed c.at_most.ensures c.if-not-at_most.true-raw))
 
 pub rest-requires : goal.rest-requires
 unfolding one
@@ -71,14 +57,3 @@ rest-requires-2 c =
     let k : at_most f.high one ≡ true = passed b.at_most.ensures b.if-not-at_most.false-raw in
     let n : is_number f.low ≡ true = pair_low f h in
     record { m_bound = few f.low n; e_value = rw (number_back f.low n) (number_reach f.low n); one_value = rw (number_back f.low n) (low_below f h k) }
-
-pub returns : goal.returns
-unfolding one_minus one
-returns c =
-    let b = c in
-    let f = b.args.self in
-    let h : is_pair f ≡ true = passed b.is_pair.ensures b.if-not-is_pair.false-raw in
-    let k : at_most f.high one ≡ true = passed b.at_most.ensures b.if-not-at_most.false-raw in
-    c.answered.ensures
-    ∙ ap₂ ends (rw (number_back f.high (pair_high f h)) at c.rest.ensures) (rw (number_back f.low (pair_low f h)) at c.rest-2.ensures)
-    ∙ told_as (is_pair f && at_most f.high one) (ends (rest_end false f.high) (rest_end true f.low)) (first_holds (is_pair f) (at_most f.high one) true h (sym k))

@@ -5,20 +5,10 @@ use native.Mathlib.Omega.{arith}
 use Rattle.pair.specs.Number.{place, rise}
 use Rattle.pair.proofs.Alignment.{nine_small, not_less_place}
 use Rattle.pair.proofs.Dividing.{divided_most}
-use Rattle.pair.proofs.Numbers.{Nine, number_nine, number_back, number_minus}
+use Rattle.pair.proofs.Numbers.{Nine, number_nine, number_back}
 use Rattle.pair.proofs.Powers.{ten_above}
 use Rattle.pair.proofs.Sums.{sum_rounded}
 use Rattle.pair.proofs.ends.aligned.Goals as goal
-
-pub above-g-requires : goal.above-g-requires
-above-g-requires c =
-    let a = c in record { sfits = number_minus a.args.a a.args.b a.requires.a_value.0 a.requires.b_value.0; s_value = rw (number_back a.args.a a.requires.a_value.0, number_back a.args.b a.requires.b_value.0) a.requires.exponent_value }
-
-pub lowered-requires : goal.lowered-requires
-lowered-requires c =
-    let a = c in
-    let w : Nine a.args.b = number_nine a.args.b a.requires.b_value.0 a.requires.b_value.1 in
-    (a.requires.b_value.1, omega (arith, w.most))
 
 pub overflow_add-s : goal.overflow_add-s
 overflow_add-s c =

@@ -7,14 +7,8 @@ use mir.Syntax.{w32}
 use mir.Val.{SFits}
 use borrow.Author.Rules.{rules}
 use Rattle.pair.specs.Number.{in_reach}
-use Rattle.pair.proofs.Numbers.{is_zero_number, is_nine_number, nine_figures_lem, too_few, too_many}
+use Rattle.pair.proofs.Numbers.{is_nine_number, nine_figures_lem, too_few, too_many}
 use Rattle.pair.proofs.ends.is_number.Goals as goal
-
-pub returns-then-w-eq0 : goal.returns-then-w-eq0
-returns-then-w-eq0 c =
-    let w = c.args.w in
-    let f : SFits w32 w.exponent = search rules in
-    rw (c.is_zero.ensures, to_z-of_z f) (is_zero_number w (omega arith))
 
 pub returns-then-w-lt100000000 : goal.returns-then-w-lt100000000
 returns-then-w-lt100000000 c = let w = c.args.w in ap (λ (t : Bool). t && in_reach w.exponent) (sym (too_few w.significand (omega arith))) ∙ is_nine_number w (omega arith)

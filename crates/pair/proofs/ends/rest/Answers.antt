@@ -1,8 +1,7 @@
 -- 0 and 1 by themselves, then by how many places m has. Assumes nothing.
-use mathlib.Core.Path.{◌≡◌, sym, ◌∙◌, subst}
-use mathlib.Core.Bool.{Bool, true, false, not}
+use mathlib.Core.Path.{◌≡◌, sym, ◌∙◌, ap, subst}
+use mathlib.Core.Bool.{Bool, true, not}
 use Prim.Native.Nat.{ℕ, ◌+◌, ◌-◌, ◌^◌, ◌≤◌, ◌<◌}
-use native.Mathlib.Nat.{pos_of_ne-zero}
 use native.Mathlib.Omega.{arith}
 use lib.Dec.{lit<}
 use lib.IntN.{ℤ, pos}
@@ -11,14 +10,14 @@ use mir.Facts.{to_z-of_z}
 use borrow.Author.Tests.{leb-true}
 use Rattle.pair.specs.Number.{depth, place, rise, at_most, as_printed, one}
 use Rattle.pair.specs.Rounding.{divided}
-use Rattle.pair.proofs.Alignment.{Small, less_place, less_turned, not_less_place}
+use Rattle.pair.proofs.Alignment.{Small, less_place}
 use Rattle.pair.proofs.Dividing.{divided_most}
-use Rattle.pair.proofs.ExactEnds.{place_whole, whole_small}
-use Rattle.pair.proofs.Numbers.{reach_mag, fits_minus}
+use Rattle.pair.proofs.ExactEnds.{whole_small}
+use Rattle.pair.proofs.Exponents.{lt_z_le_z}
+use Rattle.pair.proofs.Numbers.{reach_mag}
 use Rattle.pair.proofs.Ordered.{size_small}
 use Rattle.pair.proofs.Powers.{ten_above, ten_rises}
-use Rattle.pair.proofs.Providing.{failed, passed}
-use Rattle.pair.proofs.Rests.{places, share_is, rest_zero, rest_one, rest_below, rest_rounded}
+use Rattle.pair.proofs.Rests.{places, share_is, rest_below, rest_rounded}
 use Rattle.pair.proofs.ends.rest.Goals as goal
 
 -- m × 10^e with d places
@@ -31,30 +30,6 @@ digits m d e s p h = leb-true m (10 ^ d) (sym (share_is m d e s p) ∙ h)
 -- what is taken away past twelve places
 taken : (up : Bool) (m d : ℕ) → 12 < d → m ≤ 999999999999 → divided up m (10 ^ (d - 9)) ≤ 100000000
 taken up m d far few = divided_most up m (10 ^ (d - 9)) 100000000 (ten_above (d - 9)) (omega (arith, ten_rises {i = 4} {j = d - 9} (omega arith)))
-
-pub returns-then-m-eq0 : goal.returns-then-m-eq0
-returns-then-m-eq0 c =
-    let a = c in
-    let e = a.args.e in
-    c.normal.ensures a.args.up ∙ rest_zero a.args.up a.args.m e (reach_mag e a.requires.e_value) c.if-m-eq0.true
-
-pub returns-then-not-less : goal.returns-then-not-less
-returns-then-not-less c =
-    let b = c in
-    let a = b in
-    let e = a.args.e in
-    let s : Small e = size_small (reach_mag e a.requires.e_value) in
-    let t : lt_z e (pos 0) ≡ false = rw (to_z-of_z a.ranges.e) at (failed b.less.ensures b.if-not-less.true-raw) in
-    c.zero.ensures
-    ∙ rest_one a.args.up a.args.m e s (pos_of_ne-zero b.if-m-eq0.false) (omega (arith, place_whole, not_less_place s whole_small t))
-
-pub above-d-requires : goal.above-d-requires
-above-d-requires c =
-    let a = c in
-    let e = a.args.e in
-    let s : Small e = size_small (reach_mag e a.requires.e_value) in
-    let t : lt_z e (pos 0) ≡ true = rw (to_z-of_z a.ranges.e) at (passed c.less.ensures c.if-not-less.false-raw) in
-    record { sfits = rw (to_z-of_z a.ranges.e) (fits_minus (pos 0) e (omega (arith, reach_mag e a.requires.e_value))); s_value = rw (to_z-of_z a.ranges.e) (less_turned s whole_small t) }
 
 pub overflow_sub-lowered : goal.overflow_sub-lowered
 overflow_sub-lowered c =
@@ -75,7 +50,7 @@ returns-then-d-gt12 c =
     let e = a.args.e in
     let d = c.above-d.result in
     let s : Small e = size_small (reach_mag e a.requires.e_value) in
-    let t : lt_z e (pos 0) ≡ true = rw (to_z-of_z a.ranges.e) at (passed b.less.ensures b.if-not-less.false-raw) in
+    let t : lt_z e (pos 0) ≡ true = lt_z_le_z e (pos 0) ∙ ap not (rw (to_z-of_z a.ranges.e) at c.if-e-ge0.false) in
     let r : d ≡ rise e (pos 0) = rw (to_z-of_z a.ranges.e) at c.above-d.ensures in
     rw (c.ten.ensures, c.lowered.ensures)
     (rest_rounded a.args.up a.args.m d e s (places e d s (below_one e s t) r) c.if-d-gt12.true a.requires.m_bound)
@@ -87,16 +62,9 @@ overflow_sub-power c =
     let e = a.args.e in
     let d = c.above-d.result in
     let s : Small e = size_small (reach_mag e a.requires.e_value) in
-    let t : lt_z e (pos 0) ≡ true = rw (to_z-of_z a.ranges.e) at (passed b.less.ensures b.if-not-less.false-raw) in
+    let t : lt_z e (pos 0) ≡ true = lt_z_le_z e (pos 0) ∙ ap not (rw (to_z-of_z a.ranges.e) at c.if-e-ge0.false) in
     let r : d ≡ rise e (pos 0) = rw (to_z-of_z a.ranges.e) at c.above-d.ensures in
     omega (arith, c.power.ensures, digits a.args.m d e s (places e d s (below_one e s t) r) a.requires.one_value)
-
-pub figured-requires : goal.figured-requires
-figured-requires c =
-    let a = c in
-    let e = a.args.e in
-    let p : c.power.result ≤ 10 ^ 12 = subst (λ (x : ℕ). x ≤ 10 ^ 12) (sym c.power.ensures) (ten_rises {j = 12} c.if-d-gt12.false) in
-    record { m_bound = omega (arith, p, pos_of_ne-zero c.if-m-eq0.false); e_bound = rw (to_z-of_z a.ranges.e) (omega (arith, reach_mag e a.requires.e_value)) }
 
 pub returns : goal.returns
 returns c =
@@ -105,6 +73,6 @@ returns c =
     let e = a.args.e in
     let d = c.above-d.result in
     let s : Small e = size_small (reach_mag e a.requires.e_value) in
-    let t : lt_z e (pos 0) ≡ true = rw (to_z-of_z a.ranges.e) at (passed b.less.ensures b.if-not-less.false-raw) in
+    let t : lt_z e (pos 0) ≡ true = lt_z_le_z e (pos 0) ∙ ap not (rw (to_z-of_z a.ranges.e) at c.if-e-ge0.false) in
     let r : d ≡ rise e (pos 0) = rw (to_z-of_z a.ranges.e) at c.above-d.ensures in
     rw (c.figured.ensures, c.power.ensures, to_z-of_z a.ranges.e) (rest_below a.args.up a.args.m d e s (places e d s (below_one e s t) r))

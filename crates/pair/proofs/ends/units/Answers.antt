@@ -1,5 +1,5 @@
 -- Which of the two exponents is the lower decides whether the significand is divided or multiplied. Assumes nothing.
-use mathlib.Core.Path.{◌≡◌, sym, ◌∙◌, subst}
+use mathlib.Core.Path.{◌≡◌, sym, subst}
 use mathlib.Core.Bool.{Bool, true, false}
 use Prim.Native.Nat.{ℕ, ◌≤◌, ◌<◌, ◌^◌}
 use native.Mathlib.Nat.{mul-le-mul}
@@ -12,10 +12,10 @@ use borrow.Author.Tests.{ltb-true, ltb-false}
 use Rattle.pair.specs.declared.Number.{Number}
 use Rattle.pair.specs.Number.{place, rise, in_reach}
 use Rattle.pair.specs.Rounding.{units_end}
-use Rattle.pair.proofs.Alignment.{Small, nine_small, rise_of, less_place, not_less_place, less_turned}
-use Rattle.pair.proofs.Counts.{count_zero, count_above, count_below, count_long}
+use Rattle.pair.proofs.Alignment.{Small, nine_small, rise_of, less_place, not_less_place}
+use Rattle.pair.proofs.Counts.{count_above, count_below, count_long}
 use Rattle.pair.proofs.Exponents.{by_cases}
-use Rattle.pair.proofs.Numbers.{Nine, number_nine, number_back, reach_mag, fits_minus}
+use Rattle.pair.proofs.Numbers.{Nine, number_nine, number_back, reach_mag}
 use Rattle.pair.proofs.Powers.{ten_rises}
 use Rattle.pair.proofs.ends.units.Goals as goal
 
@@ -33,45 +33,22 @@ short up w u n small t h =
     (arith, ltb-true (units_end up w u) (10 ^ 19) t, count_long up w u n small (omega (arith, ltb-true 10 (rise u w.exponent) l, rise_of small (nine_small n) h)))))
     (λ l. ltb-false 10 (rise u w.exponent) l)
 
-pub returns-then-w-eq0 : goal.returns-then-w-eq0
-returns-then-w-eq0 c = let a = c in count_zero a.args.up a.args.w a.args.u c.if-w-eq0.true
-
-pub above-requires : goal.above-requires
-above-requires c =
+pub returns-then-w-u : goal.returns-then-w-u
+returns-then-w-u c =
     let a = c in
     let n : Nine a.args.w = number_nine a.args.w a.requires.w_value (omega arith) in
     let v : Small a.args.u = unit_small a.args.u a.requires.u_value in
-    let t : lt_z a.args.w.exponent a.args.u ≡ true = rw (number_back a.args.w a.requires.w_value, to_z-of_z a.ranges.u) at (sym c.less.ensures ∙ c.if-less.true) in record { sfits = rw (number_back a.args.w a.requires.w_value, to_z-of_z a.ranges.u) (fits_minus a.args.u a.args.w.exponent (omega (arith, n.reach, v.small))); s_value = rw (number_back a.args.w a.requires.w_value, to_z-of_z a.ranges.u) (less_turned (nine_small n) v t) }
-
-pub lowered-requires : goal.lowered-requires
-lowered-requires c =
-    let a = c in
-    let n : Nine a.args.w = number_nine a.args.w a.requires.w_value (omega arith) in
-    (omega (arith, n.least), omega (arith, n.most))
-
-pub returns-then-less : goal.returns-then-less
-returns-then-less c =
-    let a = c in
-    let n : Nine a.args.w = number_nine a.args.w a.requires.w_value (omega arith) in
-    let v : Small a.args.u = unit_small a.args.u a.requires.u_value in
-    let t : lt_z a.args.w.exponent a.args.u ≡ true = rw (number_back a.args.w a.requires.w_value, to_z-of_z a.ranges.u) at (sym c.less.ensures ∙ c.if-less.true) in
+    let t : lt_z a.args.w.exponent a.args.u ≡ true = rw (number_back a.args.w a.requires.w_value, to_z-of_z a.ranges.u) at c.if-w-u.true in
     let g : c.above.result ≡ rise a.args.w.exponent a.args.u = rw (number_back a.args.w a.requires.w_value, to_z-of_z a.ranges.u) at c.above.ensures in
     let l : place a.args.w.exponent < place a.args.u = less_place (nine_small n) v t in
     rw (c.lowered.ensures, g) (count_above a.args.up a.args.w a.args.u n v (omega arith))
-
-pub above-requires-2 : goal.above-requires-2
-above-requires-2 c =
-    let a = c in
-    let n : Nine a.args.w = number_nine a.args.w a.requires.w_value (omega arith) in
-    let v : Small a.args.u = unit_small a.args.u a.requires.u_value in
-    let t : lt_z a.args.w.exponent a.args.u ≡ false = rw (number_back a.args.w a.requires.w_value, to_z-of_z a.ranges.u) at (sym c.less.ensures ∙ c.if-less.false) in record { sfits = rw (number_back a.args.w a.requires.w_value, to_z-of_z a.ranges.u) (fits_minus a.args.w.exponent a.args.u (omega (arith, n.reach, v.small))); s_value = rw (number_back a.args.w a.requires.w_value, to_z-of_z a.ranges.u) t }
 
 pub power-requires : goal.power-requires
 power-requires c =
     let a = c in
     let n : Nine a.args.w = number_nine a.args.w a.requires.w_value (omega arith) in
     let v : Small a.args.u = unit_small a.args.u a.requires.u_value in
-    let t : lt_z a.args.w.exponent a.args.u ≡ false = rw (number_back a.args.w a.requires.w_value, to_z-of_z a.ranges.u) at (sym c.less.ensures ∙ c.if-less.false) in
+    let t : lt_z a.args.w.exponent a.args.u ≡ false = rw (number_back a.args.w a.requires.w_value, to_z-of_z a.ranges.u) at c.if-w-u.false in
     let g : c.above-2.result ≡ rise a.args.u a.args.w.exponent = rw (number_back a.args.w a.requires.w_value, to_z-of_z a.ranges.u) at c.above-2.ensures in
     let l : place a.args.u ≤ place a.args.w.exponent = not_less_place (nine_small n) v t in
     let s : rise a.args.u a.args.w.exponent ≤ 10 = short a.args.up a.args.w a.args.u n v a.requires.u_value_2 l in
@@ -82,7 +59,7 @@ overflow_mul-result c =
     let a = c in
     let n : Nine a.args.w = number_nine a.args.w a.requires.w_value (omega arith) in
     let v : Small a.args.u = unit_small a.args.u a.requires.u_value in
-    let t : lt_z a.args.w.exponent a.args.u ≡ false = rw (number_back a.args.w a.requires.w_value, to_z-of_z a.ranges.u) at (sym c.less.ensures ∙ c.if-less.false) in
+    let t : lt_z a.args.w.exponent a.args.u ≡ false = rw (number_back a.args.w a.requires.w_value, to_z-of_z a.ranges.u) at c.if-w-u.false in
     let g : c.above-2.result ≡ rise a.args.u a.args.w.exponent = rw (number_back a.args.w a.requires.w_value, to_z-of_z a.ranges.u) at c.above-2.ensures in
     let l : place a.args.u ≤ place a.args.w.exponent = not_less_place (nine_small n) v t in
     let s : rise a.args.u a.args.w.exponent ≤ 10 = short a.args.up a.args.w a.args.u n v a.requires.u_value_2 l in
@@ -94,7 +71,7 @@ returns c =
     let a = c in
     let n : Nine a.args.w = number_nine a.args.w a.requires.w_value (omega arith) in
     let v : Small a.args.u = unit_small a.args.u a.requires.u_value in
-    let t : lt_z a.args.w.exponent a.args.u ≡ false = rw (number_back a.args.w a.requires.w_value, to_z-of_z a.ranges.u) at (sym c.less.ensures ∙ c.if-less.false) in
+    let t : lt_z a.args.w.exponent a.args.u ≡ false = rw (number_back a.args.w a.requires.w_value, to_z-of_z a.ranges.u) at c.if-w-u.false in
     let g : c.above-2.result ≡ rise a.args.u a.args.w.exponent = rw (number_back a.args.w a.requires.w_value, to_z-of_z a.ranges.u) at c.above-2.ensures in
     let l : place a.args.u ≤ place a.args.w.exponent = not_less_place (nine_small n) v t in
     let s : rise a.args.u a.args.w.exponent ≤ 10 = short a.args.up a.args.w a.args.u n v a.requires.u_value_2 l in

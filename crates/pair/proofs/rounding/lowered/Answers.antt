@@ -1,10 +1,10 @@
 -- Twelve figures or fewer, twelve places or more down, are a part of one. Assumes nothing.
-use mathlib.Core.Path.{refl, ◌∙◌}
+use mathlib.Core.Path.{◌∙◌}
 use Prim.Native.Nat.{◌^◌}
 use native.Mathlib.Nat.{lt_of_lt_of_le}
 use native.Mathlib.Omega.{arith}
 use Rattle.pair.proofs.Dividing.{divided_part}
-use Rattle.pair.proofs.Powers.{ten_rises, power}
+use Rattle.pair.proofs.Powers.{ten_rises}
 use Rattle.pair.proofs.rounding.lowered.Goals as goal
 
 pub returns-then-g-gt11 : goal.returns-then-g-gt11
@@ -12,12 +12,3 @@ returns-then-g-gt11 c =
     let a = c in
     c.whole.ensures
     ∙ divided_part a.args.up a.args.n (10 ^ a.args.g) a.requires.0 (lt_of_lt_of_le (omega arith) (ten_rises {i = 12} (omega arith)))
-
-pub whole-requires-2 : goal.whole-requires-2
-whole-requires-2 c =
-    let a = c in
-    let p = power a.args.g c.power.result (omega arith) c.power.ensures in
-    record { d_nonzero = p.least; d_bound = omega (arith, p.most) }
-
-pub returns : goal.returns
-returns c = rw (c.whole-2.ensures, c.power.ensures) refl

@@ -25,30 +25,9 @@ filled up m k e few least most r =
     least most
     (lowered e k (9 - k) 9 (omega arith) (omega arith))
 
-pub returns-then-m-eq0 : goal.returns-then-m-eq0
-unfolding rounded
-returns-then-m-eq0 c up = rw c.if-m-eq0.true c.zero.ensures
-
-pub overflow_mul-result : goal.overflow_mul-result
-overflow_mul-result c =
-    let h = ap (λ (x : ℕ). c.args.m * x) c.power.ensures in
-    omega (arith, h, c.zeros-k.ensures.2)
-
-pub overflow_cast-result : goal.overflow_cast-result
-overflow_cast-result c =
-    let h = ap (λ (x : ℕ). c.args.m * x) c.power.ensures in
-    omega (arith, h, c.zeros-k.ensures.2)
-
-pub minus-requires : goal.minus-requires
-minus-requires c =
-    let a = c in
-    let k = c.zeros-k.result in
-    rw (to_z-of_z a.ranges.e, back c.figures.type_inv, c.figures.ensures)
-    (fits_minus a.args.e (pos k) (omega (arith, c.zeros-k.ensures.0)))
-
 pub returns : goal.returns
 returns c up =
     let a = c in
     let z = c.zeros-k in
-    rw (c.power.ensures, back c.minus.type_inv, c.minus.ensures, to_z-of_z a.ranges.e, back c.figures.type_inv, c.figures.ensures)
+    rw (c.power.ensures, to_z-of_z a.ranges.e, back {z = pos z.result} (omega (arith, z.ensures.0)), to_z-of_z (fits_minus a.args.e (pos z.result) (omega (arith, z.ensures.0))))
     (filled up a.args.m z.result a.args.e z.ensures.0 z.ensures.1 z.ensures.2 a.requires.e_bound)

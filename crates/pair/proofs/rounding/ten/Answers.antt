@@ -5,23 +5,14 @@ use lib.Dec.{lit<}
 use lib.IntN.{pos, ◌+ℤ◌}
 use mir.Facts.{to_z-of_z}
 use Rattle.pair.proofs.Alignment.{Small, raised}
-use Rattle.pair.proofs.Exponents.{mag_plus}
-use Rattle.pair.proofs.Numbers.{fits_plus, back}
+use Rattle.pair.proofs.Numbers.{fits_plus}
 use Rattle.pair.proofs.Rounds.{rounded_off, rounded_exact}
 use Rattle.pair.proofs.rounding.ten.Goals as goal
-
-pub plus-requires : goal.plus-requires
-plus-requires c = let a = c in rw (to_z-of_z a.ranges.e) (fits_plus a.args.e (pos 1) (omega arith))
-
-pub nine-requires : goal.nine-requires
-nine-requires c =
-    let a = c in
-    record { d_nonzero = lit< tt; d_bound = (omega arith, omega arith); d_bound_2 = omega arith; e_bound = rw (back c.plus.type_inv, c.plus.ensures, to_z-of_z a.ranges.e) (omega (arith, mag_plus a.args.e (pos 1))) }
 
 pub returns-then-m-gt999999999 : goal.returns-then-m-gt999999999
 returns-then-m-gt999999999 c =
     let a = c in
-    rw (c.nine.ensures, back c.plus.type_inv, c.plus.ensures, to_z-of_z a.ranges.e)
+    rw (c.nine.ensures, to_z-of_z a.ranges.e, to_z-of_z (fits_plus a.args.e (pos 1) (omega arith)))
     (rounded_off a.args.up a.args.m 1 a.args.e (a.args.e +ℤ pos 1) (omega arith) (omega arith) refl)
 
 pub returns : goal.returns

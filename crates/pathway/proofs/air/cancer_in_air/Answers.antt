@@ -1,12 +1,19 @@
--- No reference value, no figure; else that of the exposure concentration. Assumes nothing.
+-- No reference value, no figure; a refusal on the way is carried along. Assumes nothing.
 use mathlib.Core.Path.{refl}
-use Rattle.pathway.specs.Lines.{figure, unit_risk_value, air_figure_of}
+use borrow.Author.Rules.{rules}
+use Rattle.pair.specs.Calls.{answer}
+use Rattle.pathway.specs.Lines.{unit_risk_value, air_figure_of}
+use Rattle.pathway.proofs.Carried.{refused_in_air}
 use Rattle.pathway.proofs.air.cancer_in_air.Goals as goal
 
 pub returns-in_default : goal.returns-in_default
-unfolding figure air_figure_of unit_risk_value
+unfolding answer air_figure_of unit_risk_value
 returns-in_default c = rw c.in_default.is refl
 
+pub returns-in_err-exposed_of : goal.returns-in_err-exposed_of
+unfolding answer unit_risk_value
+returns-in_err-exposed_of c = rw (c.in-Some.is, ← c.in_err-exposed_of.ensures, refused_in_air) (search rules)
+
 pub returns : goal.returns
-unfolding unit_risk_value
-returns c = rw (c.in-Is.is, c.risk_in_air.ensures, c.exposed_of.ensures) refl
+unfolding answer unit_risk_value
+returns c = rw (c.in-Some.is, ← c.in_ok-exposed_of.ensures) c.risk_in_air.ensures

@@ -1,19 +1,19 @@
--- A refusal is carried along. Assumes nothing.
+-- What the quotient answers. Assumes nothing.
 use mathlib.Core.Path.{refl}
+use borrow.Author.Rules.{rules}
 use Rattle.slots.specs.Slots.{same}
 use Rattle.equations.specs.Formula.{read, pairs}
 use Rattle.equations.specs.Readings.{letters, plain_with, plain}
 use Rattle.equations.specs.Ahead.{of_two}
 use Rattle.equations.specs.Page.{air_figure_by}
-use Rattle.pair.specs.Calls.{after, mapped}
-use Rattle.pathway.specs.Lines.{figure, exposed, air_figure_of}
-use Rattle.pathway.proofs.Carried.{refused_in_air}
+use Rattle.pair.specs.Calls.{answer, after, mapped}
+use Rattle.pathway.specs.Lines.{air_figure_of}
 use Rattle.pathway.proofs.air.quotient_in_air.Goals as goal
 
-pub returns-in_default : goal.returns-in_default
-unfolding figure exposed
-returns-in_default c = rw (c.in_default.is, refused_in_air) refl
+pub returns-in_err-quotient : goal.returns-in_err-quotient
+unfolding answer after mapped air_figure_by of_two plain plain_with read letters pairs same air_figure_of
+returns-in_err-quotient c = rw (← c.in_err-quotient.ensures) (search rules)
 
 pub returns : goal.returns
-unfolding after mapped exposed air_figure_by of_two plain plain_with read letters pairs same air_figure_of
-returns c = rw (c.in-Is.is, c.worked_figure.ensures, c.over.ensures, c.answer-2.ensures, c.answer.ensures) refl
+unfolding answer after mapped air_figure_by of_two plain plain_with read letters pairs same air_figure_of
+returns c = rw (← c.in_ok-quotient.ensures) refl

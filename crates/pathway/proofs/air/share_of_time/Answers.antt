@@ -1,14 +1,14 @@
 -- What the quotient answers. Assumes nothing.
 use mathlib.Core.Path.{refl}
+use borrow.Author.Rules.{rules}
 use Rattle.pair.specs.Calls.{answer, mapped}
 use Rattle.pathway.specs.Inner.{share_with}
-use Rattle.pathway.specs.Lines.{timed}
 use Rattle.pathway.proofs.air.share_of_time.Goals as goal
 
-pub returns-in-Is : goal.returns-in-Is
-unfolding answer mapped timed share_with
-returns-in-Is c = rw (← c.averaging_time.ensures, ← c.over.ensures, c.in-Is.is) refl
+pub returns-in_err-over : goal.returns-in_err-over
+unfolding answer mapped share_with
+returns-in_err-over c = rw (← c.averaging_time.ensures, ← c.in_err-over.ensures) (search rules)
 
-pub returns-in-Refused : goal.returns-in-Refused
-unfolding answer mapped timed share_with
-returns-in-Refused c = rw (← c.averaging_time.ensures, ← c.over.ensures, c.in-Refused.is) refl
+pub returns : goal.returns
+unfolding answer mapped share_with
+returns c = rw (← c.averaging_time.ensures, ← c.in_ok-over.ensures) refl

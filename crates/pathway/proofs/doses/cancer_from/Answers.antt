@@ -1,23 +1,19 @@
 -- No reference value, no figure; a refusal on the way is carried along. Assumes nothing.
-use mathlib.Core.Path.{refl, sym}
-use Rattle.equations.specs.declared.Effect.TheVariants.{Cancer}
-use Rattle.pair.specs.Calls.{answer, after, mapped}
-use Rattle.pathway.specs.Lines.{figure, csf_value, factor_with, dose_for, figure_of}
+use mathlib.Core.Path.{refl}
+use borrow.Author.Rules.{rules}
+use Rattle.pair.specs.Calls.{answer}
+use Rattle.pathway.specs.Lines.{csf_value, figure_of}
 use Rattle.pathway.proofs.Carried.{refused_carried}
 use Rattle.pathway.proofs.doses.cancer_from.Goals as goal
 
 pub returns-in_default : goal.returns-in_default
-unfolding figure figure_of csf_value
+unfolding answer figure_of csf_value
 returns-in_default c = rw c.in_default.is refl
 
-pub returns-in_default-over : goal.returns-in_default-over
-unfolding answer figure after mapped dose_for factor_with csf_value
-returns-in_default-over c = rw (c.in-Is.is, ← c.over.ensures, c.in_default-over.is) (sym (refused_carried Cancer 53 _))
-
-pub returns-in_default-dose_of : goal.returns-in_default-dose_of
-unfolding answer figure after mapped dose_for factor_with csf_value
-returns-in_default-dose_of c = rw (c.in-Is.is, ← c.over.ensures, c.in-Is-over.is, ← c.medium_of.ensures, ← c.dose_of.ensures, c.in_default-dose_of.is) (sym (refused_carried Cancer 53 _))
+pub returns-in_err-dose_from : goal.returns-in_err-dose_from
+unfolding answer csf_value
+returns-in_err-dose_from c = rw (c.in-Some.is, ← c.in_err-dose_from.ensures, refused_carried) (search rules)
 
 pub returns : goal.returns
-unfolding answer after mapped dose_for factor_with csf_value
-returns c = rw (c.in-Is.is, ← c.over.ensures, c.in-Is-over.is, ← c.medium_of.ensures, ← c.dose_of.ensures, c.in-Is-dose_of.is) c.risk_of.ensures
+unfolding answer csf_value
+returns c = rw (c.in-Some.is, ← c.in_ok-dose_from.ensures) c.risk_of.ensures

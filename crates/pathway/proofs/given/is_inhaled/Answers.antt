@@ -1,5 +1,8 @@
--- Each pathway by its route. Assumes nothing.
-use mathlib.Core.Path.{refl}
+-- The air alone. Assumes nothing.
+use mathlib.Core.Path.{◌≡◌, refl}
+use mathlib.Core.Bool.{true, false}
+use Rattle.equations.specs.declared.Pathway.{Pathway}
+use Rattle.equations.specs.declared.Pathway.TheVariants.{Air, SoilSummer, SoilWinter, Skin, AboveGround, BelowGround}
 use Rattle.equations.specs.Page.{by_medium, by_route}
 use Rattle.pathway.proofs.given.is_inhaled.Goals as goal
 
@@ -7,22 +10,14 @@ pub returns-in-Air : goal.returns-in-Air
 unfolding by_route by_medium
 returns-in-Air c = rw c.in-Air.is refl
 
-pub returns-in-SoilSummer : goal.returns-in-SoilSummer
+by_mouth : (p : Pathway) → (p ≡ Air → ⊥) → false ≡ by_route p true false
 unfolding by_route by_medium
-returns-in-SoilSummer c = rw c.in-SoilSummer.is refl
+by_mouth Air h = absurd (h refl)
+by_mouth SoilSummer h = refl
+by_mouth SoilWinter h = refl
+by_mouth Skin h = refl
+by_mouth AboveGround h = refl
+by_mouth BelowGround h = refl
 
-pub returns-in-SoilWinter : goal.returns-in-SoilWinter
-unfolding by_route by_medium
-returns-in-SoilWinter c = rw c.in-SoilWinter.is refl
-
-pub returns-in-Skin : goal.returns-in-Skin
-unfolding by_route by_medium
-returns-in-Skin c = rw c.in-Skin.is refl
-
-pub returns-in-AboveGround : goal.returns-in-AboveGround
-unfolding by_route by_medium
-returns-in-AboveGround c = rw c.in-AboveGround.is refl
-
-pub returns-in-BelowGround : goal.returns-in-BelowGround
-unfolding by_route by_medium
-returns-in-BelowGround c = rw c.in-BelowGround.is refl
+pub returns-in_default : goal.returns-in_default
+returns-in_default c = by_mouth c.args.pathway c.in_default.not-Air

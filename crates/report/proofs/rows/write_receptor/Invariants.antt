@@ -16,7 +16,4 @@ use Rattle.report.proofs.rows.write_receptor.Given as goal
 
 abbrev pub invariant-loop-q : goal.invariant-loop-q
 invariant-loop-q l =
-    (l.q ≤ l.count) × (length l.part ≡ length l.initial.part) × (l.part ≡ lines_text (lines_in l.cells l.receptor l.id l.chemicals l.q) ++ drop (report_line_width * l.q) l.initial.part)
-
-abbrev pub decreases-loop-q : goal.decreases-loop-q
-decreases-loop-q l = l.count - l.q
+    (length l.part ≡ length l.initial.part) × (l.part ≡ lines_text (lines_in l.cells l.receptor l.id l.chemicals l.q) ++ drop (report_line_width * l.q) l.initial.part)

@@ -17,38 +17,38 @@ use Rattle.report.proofs.rows.write_rows.Goals as goal
 
 pub loop-j-init : goal.loop-j-init
 unfolding chained lines_text report_in
-loop-j-init c = (omega arith, refl, rw mul-zero refl)
+loop-j-init c = (refl, rw mul-zero refl)
 
 pub overflow_mul-at : goal.overflow_mul-at
 overflow_mul-at c =
     let s = c in
     let l = c.loop-j in
-    let width = report_line_width * (s.args.chemicals.count * pathways_per_chemical + 1) in
-    let past : width * l.j + width ≤ length l.out = omega (arith, l.invariant.1, s.requires, within s.args.receptors.count l.j s.args.chemicals.count c.loop-j-test.true) in
+    let width = report_line_width * (s.args.scenario.now.chemicals.count * pathways_per_chemical + 1) in
+    let past : width * l.j + width ≤ length l.out = omega (arith, l.invariant.0, s.requires, within s.args.scenario.now.receptors.count l.j s.args.scenario.now.chemicals.count c.loop-j-test.true) in
     record { fits = omega arith }
 
 pub overflow_add-at : goal.overflow_add-at
 overflow_add-at c =
     let s = c in
     let l = c.loop-j in
-    let width = report_line_width * (s.args.chemicals.count * pathways_per_chemical + 1) in
-    let past : width * l.j + width ≤ length l.out = omega (arith, l.invariant.1, s.requires, within s.args.receptors.count l.j s.args.chemicals.count c.loop-j-test.true) in
+    let width = report_line_width * (s.args.scenario.now.chemicals.count * pathways_per_chemical + 1) in
+    let past : width * l.j + width ≤ length l.out = omega (arith, l.invariant.0, s.requires, within s.args.scenario.now.receptors.count l.j s.args.scenario.now.chemicals.count c.loop-j-test.true) in
     record { fits = omega arith }
 
 pub slice_bounds-write_receptor-end : goal.slice_bounds-write_receptor-end
 slice_bounds-write_receptor-end c =
     let s = c in
     let l = c.loop-j in
-    let width = report_line_width * (s.args.chemicals.count * pathways_per_chemical + 1) in
-    let past : width * l.j + width ≤ length l.out = omega (arith, l.invariant.1, s.requires, within s.args.receptors.count l.j s.args.chemicals.count c.loop-j-test.true) in
+    let width = report_line_width * (s.args.scenario.now.chemicals.count * pathways_per_chemical + 1) in
+    let past : width * l.j + width ≤ length l.out = omega (arith, l.invariant.0, s.requires, within s.args.scenario.now.receptors.count l.j s.args.scenario.now.chemicals.count c.loop-j-test.true) in
     past
 
 pub write_receptor-requires : goal.write_receptor-requires
 write_receptor-requires c =
     let s = c in
     let l = c.loop-j in
-    let width = report_line_width * (s.args.chemicals.count * pathways_per_chemical + 1) in
-    let past : width * l.j + width ≤ length l.out = omega (arith, l.invariant.1, s.requires, within s.args.receptors.count l.j s.args.chemicals.count c.loop-j-test.true) in
+    let width = report_line_width * (s.args.scenario.now.chemicals.count * pathways_per_chemical + 1) in
+    let past : width * l.j + width ≤ length l.out = omega (arith, l.invariant.0, s.requires, within s.args.scenario.now.receptors.count l.j s.args.scenario.now.chemicals.count c.loop-j-test.true) in
     let wide : width * l.j + width - width * l.j ≡ width = omega arith in
     record { count_le_max_chemicals = s.requires.count_le_max_chemicals.0; part_len = mid_len (width * l.j) (width * l.j + width) l.out past ∙ wide }
 
@@ -56,24 +56,23 @@ pub loop-j-preserved : goal.loop-j-preserved
 loop-j-preserved c =
     let s = c in
     let l = c.loop-j in
-    let width = report_line_width * (s.args.chemicals.count * pathways_per_chemical + 1) in
-    let past : width * l.j + width ≤ length l.out = omega (arith, l.invariant.1, s.requires, within s.args.receptors.count l.j s.args.chemicals.count c.loop-j-test.true) in
-    let long : length s.args.receptors.list ≡ most_receptors = s.well_formed.1.1.1.0.1.1.1.0.1.0.1 in
-    let here : l.j < length s.args.receptors.list = omega (arith, c.loop-j-test.true, s.requires) in
+    let width = report_line_width * (s.args.scenario.now.chemicals.count * pathways_per_chemical + 1) in
+    let past : width * l.j + width ≤ length l.out = omega (arith, l.invariant.0, s.requires, within s.args.scenario.now.receptors.count l.j s.args.scenario.now.chemicals.count c.loop-j-test.true) in
+    let long : length s.args.scenario.now.receptors.list ≡ most_receptors = omega arith in
+    let here : l.j < length s.args.scenario.now.receptors.list = omega (arith, c.loop-j-test.true, s.requires) in
     let part = c.write_receptor in (
-      omega (arith, c.loop-j-test.true),
-      same_len_mid (width * l.j) (width * l.j + width - width * l.j) l.out part.new.part part.auto.part ∙ l.invariant.1,
-      receptor_more s.args.cells.now s.args.chemicals s.args.receptors.list _ s.args.out.now l.out part.new.part l.j here part.ensures l.invariant.2,
+      same_len_mid (width * l.j) (width * l.j + width - width * l.j) l.out part.new.part part.auto.part ∙ l.invariant.0,
+      receptor_more s.args.cells.now s.args.scenario.now.chemicals s.args.scenario.now.receptors.list _ s.args.out.now l.out part.new.part l.j here part.ensures l.invariant.1,
     )
 
 pub shape_of-out : goal.shape_of-out
-shape_of-out c = c.loop-j.invariant.1
+shape_of-out c = c.loop-j.invariant.0
 
 pub returns : goal.returns
 returns c =
     let s = c in
     let l = c.loop-j in
-    let all : l.j ≡ s.args.receptors.count = omega (arith, c.loop-j-test.false) in
-    let end : report_line_width * (s.args.chemicals.count * pathways_per_chemical + 1) * s.args.receptors.count ≡ report_line_width * (s.args.receptors.count * (s.args.chemicals.count * pathways_per_chemical + 1)) = omega arith in
-    (rw all at l.invariant.2)
-    ∙ ap (λ (k : ℕ). lines_text (report_in s.args.cells.now s.args.chemicals s.args.receptors.list s.args.receptors.count) ++ drop k s.args.out.now) end
+    let all : l.j ≡ s.args.scenario.now.receptors.count = omega (arith, c.loop-j-test.false) in
+    let end : report_line_width * (s.args.scenario.now.chemicals.count * pathways_per_chemical + 1) * s.args.scenario.now.receptors.count ≡ report_line_width * (s.args.scenario.now.receptors.count * (s.args.scenario.now.chemicals.count * pathways_per_chemical + 1)) = omega arith in
+    (rw all at l.invariant.1)
+    ∙ ap (λ (k : ℕ). lines_text (report_in s.args.cells.now s.args.scenario.now.chemicals s.args.scenario.now.receptors.list s.args.scenario.now.receptors.count) ++ drop k s.args.out.now) end

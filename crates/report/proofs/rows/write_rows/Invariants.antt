@@ -17,9 +17,5 @@ use Rattle.report.proofs.rows.write_rows.Given as goal
 
 abbrev pub invariant-loop-j : goal.invariant-loop-j
 invariant-loop-j l =
-    (l.j ≤ l.count)
-    × (length l.out ≡ length l.initial.out)
-    × (l.out ≡ lines_text (report_in l.cells l.chemicals l.receptors.list l.j) ++ drop (l.width * l.j) l.initial.out)
-
-abbrev pub decreases-loop-j : goal.decreases-loop-j
-decreases-loop-j l = l.count - l.j
+    (length l.out ≡ length l.initial.out)
+    × (l.out ≡ lines_text (report_in l.cells l.scenario.chemicals l.scenario.receptors.list l.j) ++ drop (l.width * l.j) l.initial.out)

@@ -1,42 +1,26 @@
--- `scenario::memory::chemicals_unpaired` meets its contract: every chemical so far has its pairs. Assumes nothing.
-use mathlib.Core.Path.{◌≡◌, refl, sym, ap, ◌∙◌}
-use Prim.Native.Nat.{◌<◌}
+-- Each chemical is tested in turn. Assumes nothing.
+use borrow.Author.Rules.{rules}
+use borrow.Author.Tests.{le-ltb}
+use mathlib.Core.Path.{◌≡◌, refl, ap, ◌∙◌}
 use native.Mathlib.Omega.{arith}
-use lib.ListN.{length, get_or}
-use Rattle.lists.specs.Lists.{any_of}
-use Rattle.lists.proofs.ListLaws.{read_any}
+use Prim.Native.Nat.{◌≤◌}
+use lib.ListN.{length, take}
 use Rattle.sizes.specs.Sizes.{max_chemicals}
 use Rattle.cases.specs.Cases.{no_record}
-use Rattle.cases.proofs.CaseConditionLaws.{any_stops, any_on}
+use Rattle.std.specs.List.{list_any}
+use Rattle.std.proofs.lemmas.Iterator.{YieldsList-from_slice}
+use Rattle.std.proofs.lemmas.Iterator.Search.{any_from_yields_List}
+use Rattle.scenario.proofs.Arrays.{any_first}
 use Rattle.scenario.specs.Scenario.{unpaired}
 use Rattle.scenario.proofs.memory.chemicals_unpaired.Goals as goal
 
-pub loop-i-init : goal.loop-i-init
-unfolding any_of
-loop-i-init c = (omega arith, refl)
-
-pub returns-then-unpaired : goal.returns-then-unpaired
-returns-then-unpaired c =
-    let s = c in
-    let l = c.loop-i in
-    let test = c.loop-i-test.true in
-    let long : length s.args.chemicals.records ≡ max_chemicals = s.well_formed.0.1.1.1.0.1.0.1 in
-    let here : l.i < length s.args.chemicals.records = omega (arith, test, s.requires) in
-    let turn = c.unpaired.ensures ∙ ap unpaired (read_any s.args.chemicals.records l.i here _ no_record) in
-    any_stops (λ n. unpaired (get_or s.args.chemicals.records n no_record)) l.i _ turn c.if-unpaired.true _ test
-
-pub loop-i-preserved : goal.loop-i-preserved
-loop-i-preserved c =
-    let s = c in
-    let l = c.loop-i in
-    let test = c.loop-i-test.true in
-    let long : length s.args.chemicals.records ≡ max_chemicals = s.well_formed.0.1.1.1.0.1.0.1 in
-    let here : l.i < length s.args.chemicals.records = omega (arith, test, s.requires) in
-    let turn = c.unpaired.ensures ∙ ap unpaired (read_any s.args.chemicals.records l.i here _ no_record) in
-    (omega (arith, test), any_on (λ n. unpaired (get_or s.args.chemicals.records n no_record)) l.i _ turn c.if-unpaired.false l.invariant.1)
-
 pub returns : goal.returns
 returns c =
-    let l = c.loop-i in
-    let all : l.i ≡ c.args.chemicals.count = omega arith in
-    sym (rw all at l.invariant.1)
+    let chemicals = c.args.chemicals.now in
+    let long : length chemicals.records ≡ max_chemicals = omega arith in
+    let few : chemicals.count ≤ length chemicals.records = search rules in
+    let part : c.in-Some.records.now ≡ take chemicals.count chemicals.records = search rules in
+    any_from_yields_List unpaired _ _ _ c.any.ensures.ran (YieldsList-from_slice c.in-Some.records.now cc) (λ x b q k. search rules)
+    ∙ ap (list_any unpaired) part
+    ∙ any_first unpaired chemicals.records no_record chemicals.count few
+    ∙ rw (le-ltb max_chemicals chemicals.count (omega (arith, few))) refl

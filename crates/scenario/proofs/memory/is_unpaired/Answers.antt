@@ -17,4 +17,4 @@ returns-in_default-entered c =
 pub returns : goal.returns
 unfolding is_unpaired answer
 returns c =
-    rw c.in-Given.is (told_not _ _ (sym (rw c.in-Given.is at c.entered.ensures) ∙ ap answer c.in-Is.is))
+    rw c.in-Given.is (told_not _ _ (sym (rw c.in-Given.is at c.entered.ensures) ∙ ap answer c.in-Ok.is))

@@ -1,34 +1,21 @@
--- `scenario::memory::unpaired` meets its contract: every value so far has a pair. Assumes nothing.
-use mathlib.Core.Path.{◌≡◌, refl, sym}
+-- Each slot is tested in turn. Assumes nothing.
+use borrow.Author.Rules.{rules}
+use mathlib.Core.Path.{◌≡◌, ◌∙◌}
 use native.Mathlib.Omega.{arith}
-use Rattle.lists.specs.Lists.{any_of}
+use lib.ListN.{length}
 use Rattle.sizes.specs.Sizes.{slots_per_record}
+use Rattle.cases.specs.declared.Value.TheVariants.{Absent}
 use Rattle.cases.specs.Cases.{value_at}
-use Rattle.cases.proofs.CaseConditionLaws.{any_stops, any_on}
+use Rattle.std.proofs.lemmas.Iterator.{YieldsList-from_slice}
+use Rattle.std.proofs.lemmas.Iterator.Search.{any_from_yields_List}
+use Rattle.scenario.proofs.Arrays.{any_each}
 use Rattle.scenario.specs.Scenario.{is_unpaired, unpaired}
 use Rattle.scenario.proofs.memory.unpaired.Goals as goal
 
-pub loop-k-init : goal.loop-k-init
-unfolding any_of
-loop-k-init c = (omega arith, refl)
-
-pub returns-then-is_unpaired : goal.returns-then-is_unpaired
-unfolding unpaired value_at
-returns-then-is_unpaired c =
-    let s = c in
-    let l = c.loop-k in
-    any_stops (λ n. is_unpaired (value_at s.args.r n)) l.k _ c.is_unpaired.ensures c.if-is_unpaired.true slots_per_record c.loop-k-test.true
-
-pub loop-k-preserved : goal.loop-k-preserved
-unfolding value_at
-loop-k-preserved c =
-    let s = c in
-    let l = c.loop-k in
-    (omega (arith, c.loop-k-test.true), any_on (λ n. is_unpaired (value_at s.args.r n)) l.k _ c.is_unpaired.ensures c.if-is_unpaired.false l.invariant.1)
-
 pub returns : goal.returns
-unfolding unpaired
+unfolding unpaired value_at
 returns c =
-    let l = c.loop-k in
-    let all : l.k ≡ slots_per_record = omega arith in
-    sym (rw all at l.invariant.1)
+    let slots = c.args.r.now.slots in
+    let long : length slots ≡ slots_per_record = omega arith in
+    any_from_yields_List is_unpaired _ _ _ c.any.ensures.ran (YieldsList-from_slice slots cc) (λ x b q k. search rules)
+    ∙ any_each is_unpaired slots Absent slots_per_record long

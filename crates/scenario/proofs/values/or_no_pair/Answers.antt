@@ -10,4 +10,4 @@ returns-in_default c = c.no_pair.ensures ∙ rw c.in_default.is refl
 
 pub returns : goal.returns
 unfolding or_no_pair answer
-returns c = rw c.in-Is.is refl
+returns c = rw c.in-Ok.is refl

@@ -1,8 +1,8 @@
--- `sheet::chemicals::means_of` meets its contract. The invariant: the means so far, then none; none of them was refused. Assumes nothing.
+-- The means so far, then none; none of them was refused. Assumes nothing.
 use mathlib.Core.Path.{◌≡◌}
 use mathlib.Core.List.{◌++◌}
 use mathlib.Core.Bool.{false}
-use Prim.Native.Nat.{◌-◌, ◌≤◌}
+use Prim.Native.Nat.{◌-◌}
 use lib.ListN.{get_or, replicate}
 use Rattle.sizes.specs.Sizes.{most_receptors}
 use Rattle.lists.specs.Lists.{tabulate, any_of}
@@ -14,9 +14,5 @@ use Rattle.sheet.proofs.chemicals.means_of.Given as goal
 
 abbrev pub invariant-loop-j : goal.invariant-loop-j
 invariant-loop-j l =
-    (l.j ≤ l.receptors.count)
-    × (l.list ≡ tabulate l.j (λ k. media_from (mean_with l.site l.chemical (get_or l.receptors.list k no_receptor) l.the_ground)) ++ replicate (most_receptors - l.j) no_media)
+    (l.list ≡ tabulate l.j (λ k. media_from (mean_with l.site l.chemical (get_or l.receptors.list k no_receptor) l.the_ground)) ++ replicate (most_receptors - l.j) no_media)
     × (any_of (λ k. is_refused (mean_with l.site l.chemical (get_or l.receptors.list k no_receptor) l.the_ground)) l.j ≡ false)
-
-abbrev pub decreases-loop-j : goal.decreases-loop-j
-decreases-loop-j l = l.receptors.count - l.j

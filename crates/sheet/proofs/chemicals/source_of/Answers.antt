@@ -1,34 +1,37 @@
--- The ground decides whether there is a source. Assumes nothing.
-use mathlib.Core.Path.{◌≡◌, refl, sym, ◌∙◌}
-use mathlib.Core.Bool.{true, false≢true}
-use Rattle.media.specs.Media.{grounded}
+-- The ground decides whether there is a source, and then each receptor's media. Assumes nothing.
+use borrow.Author.Rules.{rules}
+use mathlib.Core.Path.{◌≡◌, refl, sym, ap, ◌∙◌}
+use mathlib.Core.Bool.{true}
+use Rattle.std.specs.Prelude.{Some}
+use Rattle.pair.specs.Calls.{answer}
 use Rattle.scenario.specs.Scenario.{is_refused}
-use Rattle.sheet.proofs.ChemicalLaws.{lacks_worked, told_worked, told_made, none_worked}
+use Rattle.sheet.proofs.ChemicalLaws.{lacks_stops, refused_stops, means_stop, source_made}
+use Rattle.sheet.proofs.Chosen.{is_missing, is_there}
 use Rattle.sheet.proofs.chemicals.source_of.Goals as goal
 
 pub returns-then-lacks : goal.returns-then-lacks
 returns-then-lacks c =
     let a = c.args in
-    let stop = c.not_sourced.ensures in
-    record { worked_value = lacks_worked a.site a.receptors a.chemical _ refl (sym c.lacks.ensures ∙ c.if-lacks.true) _ stop; source_value = λ e. absurd (false≢true (sym stop ∙ e)) }
+    rw (lacks_stops a.site a.receptors.now a.chemical _ refl (sym c.lacks.ensures ∙ c.if-lacks.true)) refl
 
 pub returns-in_default : goal.returns-in_default
-unfolding grounded is_refused
+unfolding answer is_refused
 returns-in_default c =
-    let s = c in
-    let whole = sym c.lacks.ensures ∙ c.if-lacks.false in
-    let a = s.args in
-    let told = c.ground_of in
-    let none : is_refused (grounded told.result) ≡ true = rw c.in_default.is refl in
-    let stop = c.not_sourced-in_default.ensures in record { worked_value = none_worked a.site a.receptors a.chemical _ c.values_of-values.ensures _ c.particles_of.ensures told.result told.ensures whole none _ stop; source_value = λ e. absurd (false≢true (sym stop ∙ e)) }
+    let a = c.args in
+    let none : is_refused (answer c.ground_of.result) ≡ true = rw c.in_default.is refl in
+    rw (refused_stops a.site a.receptors.now a.chemical _ c.values_of-values.ensures (sym c.lacks.ensures ∙ c.if-lacks.false) _ c.particles_of.ensures _ c.ground_of.ensures none) refl
 
-pub source_from-requires : goal.source_from-requires
-source_from-requires c = (c.requires, c.values_of-values.ensures)
+pub returns-in_err-means : goal.returns-in_err-means
+returns-in_err-means c =
+    let a = c.args in
+    let stop = means_stop a.site a.receptors.now a.chemical _ c.values_of-values.ensures (sym c.lacks.ensures ∙ c.if-lacks.false) _ c.particles_of.ensures _ c.ground_of.ensures _ c.in-Ok.is in
+    rw (stop ∙ is_missing _ _ _ c.means_of.ensures c.in_err-means.was) (search rules)
 
 pub returns : goal.returns
 returns c =
-    let s = c in
+    let a = c.args in
     let whole = sym c.lacks.ensures ∙ c.if-lacks.false in
-    let a = s.args in
-    let told = c.ground_of in
-    let is = c.in-Is.is in record { worked_value = told_worked a.site a.receptors a.chemical _ c.values_of-values.ensures _ c.particles_of.ensures told.result told.ensures _ is whole _ c.source_from.ensures.worked_value; source_value = λ w. told_made a.site a.receptors a.chemical _ c.values_of-values.ensures _ c.particles_of.ensures told.result told.ensures _ is _ (c.source_from.ensures.source_value w) }
+    let stop = means_stop a.site a.receptors.now a.chemical _ c.values_of-values.ensures whole _ c.particles_of.ensures _ c.ground_of.ensures _ c.in-Ok.is in
+    let made = is_there _ _ _ c.means_of.ensures _ c.in_ok-means.was in
+    rw (stop ∙ made.0)
+    (ap Some (source_made a.site a.receptors.now a.chemical _ c.values_of-values.ensures whole _ c.particles_of.ensures _ c.ground_of.ensures _ c.in-Ok.is _ made.1 _ c.absorbed_of.ensures _ c.references_of.ensures))

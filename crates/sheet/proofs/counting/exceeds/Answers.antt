@@ -19,6 +19,6 @@ unfolding answer
 returns c =
     let b = c in
     let a = b.args in
-    let e : is b.in-Is.cap ≡ is (record { low = cap_of a.effect; high = cap_of a.effect }) = sym (ap answer b.in-Is.is) ∙ b.cap_of.ensures in
-    let s : b.in-Is.cap ≡ record { low = cap_of a.effect; high = cap_of a.effect } = cc in
+    let e : is b.in-Ok.cap ≡ is (record { low = cap_of a.effect; high = cap_of a.effect }) = sym (ap answer b.in-Ok.is) ∙ b.cap_of.ensures in
+    let s : b.in-Ok.cap ≡ record { low = cap_of a.effect; high = cap_of a.effect } = cc in
     c.is_above.ensures ∙ ap (λ (q : Pair). high_above q.high (is a.p)) s

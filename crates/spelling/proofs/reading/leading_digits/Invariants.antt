@@ -6,12 +6,9 @@ use lib.ListN.{length, take, drop}
 use Rattle.spelling.specs.Columns.{leading, digits_value}
 use Rattle.spelling.proofs.reading.leading_digits.Given as goal
 
-abbrev pub invariant-loop-i : goal.invariant-loop-i
-invariant-loop-i l =
-    (l.i ≤ length l.s)
-    × (l.i + leading 48 57 (drop l.i l.s) ≡ leading 48 57 l.s)
-    × (digits_value l.from (take l.i l.s) ≡ l.value)
-    × ((l.value + 1) * 10 ^ (length l.s - l.i) ≤ 10000000000000)
-
-abbrev pub decreases-loop-i : goal.decreases-loop-i
-decreases-loop-i l = length l.s - l.i
+abbrev pub invariant-loop-count : goal.invariant-loop-count
+invariant-loop-count l = record {
+  led : l.count + leading 48 57 (drop l.count l.s) ≡ leading 48 57 l.s;
+  read : digits_value l.from (take l.count l.s) ≡ l.value;
+  room : (l.value + 1) * 10 ^ (length l.s - l.count) ≤ 10000000000000;
+}

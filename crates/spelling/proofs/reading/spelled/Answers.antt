@@ -1,16 +1,15 @@
 -- `spelling::reading::spelled` meets its contract: one law for each way out.
 -- Assumes nothing.
-use Rattle.spelling.proofs.WordLaws.{first_room, whole_is, whole_value, whole_within, spelled_none, spelled_long, point_within, spelled_pointed, spelled_whole}
+use Rattle.spelling.proofs.WordLaws.{whole_is, whole_value, whole_within, spelled_none, spelled_long, spelled_pointed, spelled_whole}
 use native.Mathlib.Omega.{arith}
 use Prim.Native.Nat.{ℕ}
-use mathlib.Core.Path.{ap, ◌∙◌}
+use mathlib.Core.Path.{◌≡◌, ap, ◌∙◌}
 use mathlib.Core.List.{List}
-use lib.ListN.{take}
+use borrow.Author.Rules.{rules}
+use lib.ListN.{take, get_or}
 use Rattle.spelling.specs.Columns.{leading, digits_value}
+use Rattle.spelling.proofs.reading.spelled.Goals.{in_default-via-in-Some+in_default, in_default-via-in_default}
 use Rattle.spelling.proofs.reading.spelled.Goals as goal
-
-pub leading_digits-whole-requires : goal.leading_digits-whole-requires
-leading_digits-whole-requires c = rw c.front.ensures (first_room c.args.text.now)
 
 pub returns-then-whole-eq0 : goal.returns-then-whole-eq0
 returns-then-whole-eq0 c =
@@ -26,32 +25,33 @@ returns-then-whole-gt-MAX_DIGITS c =
     let value = c.leading_digits-whole.ensures.value_value ∙ ap (λ (l : List ℕ). digits_value 0 (take (leading 48 57 l) l)) c.front.ensures in
     spelled_long text _ _ count value c.if-whole-gt-MAX_DIGITS.true
 
-pub pointed-requires : goal.pointed-requires
-pointed-requires c =
+pub pointed-requires-clause-count_value : goal.pointed-requires-clause-count_value
+pointed-requires-clause-count_value c =
     let text = c.args.text.now in
     let count = c.leading_digits-whole.ensures.count_value ∙ ap (leading 48 57) c.front.ensures in
     let value = c.leading_digits-whole.ensures.value_value ∙ ap (λ (l : List ℕ). digits_value 0 (take (leading 48 57 l) l)) c.front.ensures in
-    let few = c.if-whole-gt-MAX_DIGITS.false in
-    record { count_value = (whole_is text _ _ count value (omega arith), whole_value text _ _ count value (omega arith)); count_le_max_digits = (few, point_within text _ _ count value few c.if-whole-eq0.false _ c.byte_is.ensures c.if-byte_is.true) }
+    (whole_is text _ _ count value (omega arith), whole_value text _ _ count value (omega arith))
 
-pub returns-then-byte_is : goal.returns-then-byte_is
-returns-then-byte_is c =
+pub returns-in-Some-eq46 : goal.returns-in-Some-eq46
+returns-in-Some-eq46 c =
     let text = c.args.text.now in
     let count = c.leading_digits-whole.ensures.count_value ∙ ap (leading 48 57) c.front.ensures in
     let value = c.leading_digits-whole.ensures.value_value ∙ ap (λ (l : List ℕ). digits_value 0 (take (leading 48 57 l) l)) c.front.ensures in
-    spelled_pointed text _ _ count value c.if-whole-gt-MAX_DIGITS.false c.if-whole-eq0.false _ c.byte_is.ensures c.if-byte_is.true _ c.pointed.ensures
+    let point : get_or text c.leading_digits-whole.result.count 0 ≡ 46 = search rules in
+    spelled_pointed text _ _ count value c.if-whole-gt-MAX_DIGITS.false c.if-whole-eq0.false _ point c.pointed.ensures
 
 pub ended-requires : goal.ended-requires
 ended-requires c =
     let text = c.args.text.now in
     let count = c.leading_digits-whole.ensures.count_value ∙ ap (leading 48 57) c.front.ensures in
     let value = c.leading_digits-whole.ensures.value_value ∙ ap (λ (l : List ℕ). digits_value 0 (take (leading 48 57 l) l)) c.front.ensures in
-    let few = c.if-whole-gt-MAX_DIGITS.false in
     (omega arith, whole_within text _ (whole_is text _ _ count value (omega arith)))
 
-pub returns : goal.returns
-returns c =
+pub returns-in_default : goal.returns-in_default
+returns-in_default c =
     let text = c.args.text.now in
     let count = c.leading_digits-whole.ensures.count_value ∙ ap (leading 48 57) c.front.ensures in
     let value = c.leading_digits-whole.ensures.value_value ∙ ap (λ (l : List ℕ). digits_value 0 (take (leading 48 57 l) l)) c.front.ensures in
-    spelled_whole text _ _ count value c.if-whole-gt-MAX_DIGITS.false c.if-whole-eq0.false _ c.byte_is.ensures c.if-byte_is.false _ c.ended.ensures
+    let none : get_or text c.leading_digits-whole.result.count 0 ≡ 46 → ⊥ =
+    λ q. elim c.in_default.branch [ in_default-via-in-Some+in_default w ↦ search rules | in_default-via-in_default w ↦ search rules ] in
+    spelled_whole text _ _ count value c.if-whole-gt-MAX_DIGITS.false c.if-whole-eq0.false _ none c.ended.ensures

@@ -7,11 +7,9 @@ use lib.ListN.{length, drop}
 use Rattle.spelling.specs.Columns.{digits, justified}
 use Rattle.spelling.proofs.writing.fill.Given as goal
 
-abbrev pub invariant-loop-left : goal.invariant-loop-left
-invariant-loop-left l =
-    (length l.part ≡ length l.initial.part)
-    × (l.at < length l.part)
-    × (justified l.at (digits l.at l.left) ++ drop l.at l.part ≡ justified (length l.initial.part) (digits (length l.initial.part - 1) l.n ++ (l.last ∷ [])))
-
-abbrev pub decreases-loop-left : goal.decreases-loop-left
-decreases-loop-left l = l.at
+abbrev pub invariant-loop-at : goal.invariant-loop-at
+invariant-loop-at l = record {
+  as_long : length l.part ≡ length l.initial.part;
+  inside : l.at < length l.part;
+  whole : justified l.at (digits l.at l.left) ++ drop l.at l.part ≡ justified (length l.initial.part) (digits (length l.initial.part - 1) l.n ++ (l.last ∷ []));
+}

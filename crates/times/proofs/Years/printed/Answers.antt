@@ -7,13 +7,13 @@ use lib.IntN.{pos}
 use lib.Signed.{le_z}
 use mir.Facts.{to_z-of_z}
 use borrow.Author.Tests.{lt-ltb, not-true, not-false}
-use Rattle.pair.specs.Calls.{is}
+use Rattle.pair.specs.Calls.{is, answer}
 use Rattle.pair.proofs.Promises.{refused_as, told_as, provided_true}
-use Rattle.times.specs.Times.{time, words_of, time_of, least, places, printed_amount, printed}
+use Rattle.times.specs.Times.{words_of, time_of, least, places, printed_amount, printed}
 use Rattle.times.proofs.Years.printed.Goals as goal
 
 pub returns-then-not-is_place : goal.returns-then-not-is_place
-unfolding time printed
+unfolding answer printed
 returns-then-not-is_place c =
     let s = c in
     let e = s.args.power in
@@ -24,7 +24,7 @@ pub places-k-requires : goal.places-k-requires
 places-k-requires c = let s = c in rw (to_z-of_z s.ranges.power) (sym (rw (to_z-of_z s.ranges.power) at c.is_place.ensures) ∙ not-false _ c.if-not-is_place.false-raw)
 
 pub returns-then-k-lt18 : goal.returns-then-k-lt18
-unfolding time printed printed_amount time_of
+unfolding answer printed printed_amount time_of
 returns-then-k-lt18 c =
     let t = c in
     let s = t in

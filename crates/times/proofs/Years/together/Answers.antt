@@ -6,9 +6,10 @@ use native.Mathlib.Omega.{arith}
 use mir.Syntax.{w64}
 use mir.Val.{Fits}
 use borrow.Author.Tests.{not-true, not-false}
+use Rattle.pair.specs.Calls.{answer}
 use Rattle.pair.proofs.Promises.{refused_as, told_as}
 use Rattle.times.specs.declared.Years.{Years}
-use Rattle.times.specs.Times.{time, amount, is_years, time_of, together}
+use Rattle.times.specs.Times.{amount, is_years, time_of, together}
 use Rattle.times.proofs.TwoWords.{Bounded, bounded, carry_most, highs_refused, sum_refused, sum_is}
 use Rattle.times.proofs.Years.together.Goals as goal
 
@@ -21,12 +22,12 @@ few_enough : (a b : Years) → is_years a ≡ true → is_years b ≡ true → b
 few_enough a b p q h = record { fits = omega (arith, h, (bounded a p).high, carry_most a b p q) }
 
 pub returns-then-not-is_years : goal.returns-then-not-is_years
-unfolding time together
+unfolding answer together
 returns-then-not-is_years c =
     refused_as _ _ (rw (sym c.is_years.ensures ∙ not-true _ c.if-not-is_years.true-raw))
 
 pub returns-then-not-is_years-2 : goal.returns-then-not-is_years-2
-unfolding time together
+unfolding answer together
 returns-then-not-is_years-2 c =
     refused_as _ _ (rw (sym c.is_years-2.ensures ∙ not-true _ c.if-not-is_years-2.true-raw, and-false))
 
@@ -37,7 +38,7 @@ overflow_sub-self c =
     (bounded s.self (sym t.is_years.ensures ∙ not-false _ t.if-not-is_years.false-raw)).high
 
 pub returns-then-self-other : goal.returns-then-self-other
-unfolding time
+unfolding answer
 returns-then-self-other c =
     let t = c in
     let s = t.args in
@@ -62,7 +63,7 @@ overflow_add-high-2 c =
     few_enough s.self s.other p q c.if-self-other.false
 
 pub returns-then-high-gt-MOST_HIGH : goal.returns-then-high-gt-MOST_HIGH
-unfolding time
+unfolding answer
 returns-then-high-gt-MOST_HIGH c =
     let t = c in
     let s = t.args in
@@ -71,7 +72,7 @@ returns-then-high-gt-MOST_HIGH c =
     sum_refused s.self s.other p q c.if-high-gt-MOST_HIGH.true ∙ both_told s.self s.other p q
 
 pub returns : goal.returns
-unfolding time
+unfolding answer
 returns c =
     let t = c in
     let s = t.args in

@@ -5,20 +5,20 @@ use borrow.Author.Rules.{rules}
 use borrow.Author.Tests.{not-true, not-false}
 use lib.IntN.{pos, negsuc}
 use mir.Facts.{to_z-of_z}
-use Rattle.pair.specs.Calls.{provided}
-use Rattle.zilmorga.specs.Numbers.{number_held, number_of, is_between}
+use Rattle.pair.specs.Calls.{answer, provided}
+use Rattle.zilmorga.specs.Numbers.{number_of, is_between}
 use Rattle.zilmorga.proofs.Fields.{significand_fits, exponent_fits}
 use Rattle.zilmorga.proofs.numbers.number_of.Goals as goal
 
 pub returns-then-not-within : goal.returns-then-not-within
-unfolding number_held number_of provided
+unfolding answer number_of provided
 returns-then-not-within c =
     let a = c in
     let h : is_between (pos 0) a.args.significand (pos 4294967295) ≡ false = rw (to_z-of_z a.ranges.significand) at (sym c.within.ensures ∙ not-true _ c.if-not-within.true-raw) in
     rw h refl
 
 pub returns-then-not-within-2 : goal.returns-then-not-within-2
-unfolding number_held number_of provided
+unfolding answer number_of provided
 returns-then-not-within-2 c =
     let a = c in
     let m : is_between (pos 0) a.args.significand (pos 4294967295) ≡ true = rw (to_z-of_z a.ranges.significand) at (sym c.within.ensures ∙ not-false _ c.if-not-within.false-raw) in
@@ -38,7 +38,7 @@ overflow_cast-result-2 c =
     rw (to_z-of_z a.ranges.exponent) (exponent_fits a.args.exponent e)
 
 pub returns : goal.returns
-unfolding number_held number_of provided
+unfolding answer number_of provided
 returns c =
     let a = c in
     let m : is_between (pos 0) a.args.significand (pos 4294967295) ≡ true = rw (to_z-of_z a.ranges.significand) at (sym c.within.ensures ∙ not-false _ c.if-not-within.false-raw) in

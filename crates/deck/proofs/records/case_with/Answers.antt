@@ -1,7 +1,0 @@
--- `deck::records::case_with` meets its contract: the site, the chemicals and the receptors, each by its own contract.
--- Assumes nothing.
-use Rattle.deck.proofs.DeckCaseLaws.{case_is}
-use Rattle.deck.proofs.records.case_with.Goals as goal
-
-pub returns : goal.returns
-returns c = case_is c.args.deck.now _ _ _ _ _ c.record_at-site.ensures c.chemicals-chemical_records.ensures c.receptors-receptor_records.ensures
