@@ -56,10 +56,11 @@ fn answer_text<'a>(told: Told, buffer: &'a [u8], refusal: &'a [u8]) -> &'a [u8]
     spelling::front(buffer, told.line)
 }
 
-// After the program's name, which may be any bytes. Where that cannot be written either, nothing is left to say it to.
-fn complain<E: Write>(errors: &mut E, program: &[u8], what: &str) {
+// After the program's name, which may be any bytes, the rest in one write: a format would write it in parts. Where that cannot be written either,
+// nothing is left to say it to.
+fn complain<E: Write>(errors: &mut E, program: &[u8], what: &[u8]) {
     let _ = errors.write_all(program);
-    let _ = writeln!(errors, ": {what}");
+    let _ = errors.write_all(what);
 }
 
 // Writes what the call told, with the buffer that it wrote into.
@@ -80,9 +81,9 @@ pub fn answer<W: Write, E: Write>(
     buffer: &[u8],
 ) {
     match told {
-        Err(_) => complain(errors, program, "the deck could not be read"),
+        Err(_) => complain(errors, program, b": the deck could not be read\n"),
         Ok(told) if write_answer(to, told, buffer).is_err() => {
-            complain(errors, program, "the report could not be written");
+            complain(errors, program, b": the report could not be written\n");
         }
         Ok(_) => {}
     }
