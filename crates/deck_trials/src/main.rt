@@ -5,7 +5,7 @@
 // the case. Its bytes follow.
 #![tactic(auto)]
 
-use cases::{Case, Chemicals, Receptors, Record, Value};
+use cases::{Case, Record, Value};
 use deck::{LINE_WIDTH, MAX_COMPOSITE_LENGTH, Reading};
 use sizes::{MAX_CHEMICALS, MAX_RECEPTORS, MAX_STAGES, SLOTS};
 use slots::Sort;
@@ -22,19 +22,6 @@ const MODULUS: u64 = 999983;
 const NO_RECORD: Record = Record {
     id: 0,
     slots: [Value::Absent; SLOTS],
-};
-
-// What the checksum of a stopped deck is taken of.
-const NO_CASE: Case = Case {
-    site: NO_RECORD,
-    chemicals: Chemicals {
-        count: 0,
-        records: [NO_RECORD; MAX_CHEMICALS],
-    },
-    receptors: Receptors {
-        count: 0,
-        records: [NO_RECORD; MAX_STAGES],
-    },
 };
 
 // The remainders first: a sum with all of the digits may not fit.
@@ -79,14 +66,28 @@ fn mixed_case(case: &Case, sort: Sort) -> u64 {
         .fold(mixed_record(0, &case.site), mixed_record)
 }
 
+// The same of a case with nothing in it, which the checksum of a stopped deck is taken of. No such case is made: it is large.
+fn mixed_no_case(sort: Sort) -> u64 {
+    let after_site = (0..MAX_CHEMICALS).chain(0..room(sort));
+    after_site.fold(mixed_record(0, &NO_RECORD), |all, _| {
+        mixed_record(all, &NO_RECORD)
+    })
+}
+
 // The line and the field of a refusal, or how many chemicals and receptors the case has.
 fn agrees(head: Head, reading: Reading, sort: Sort) -> bool {
     let [_, number, line, field, checksum] = head;
-    let (told, case) = match reading {
-        Ok(case) => ([0, case.chemicals.count, case.receptors.count], case),
-        Err(stop) => ([stop.number as usize, stop.line, stop.field], NO_CASE),
+    let (told, mixed) = match reading {
+        Ok(case) => (
+            [0, case.chemicals.count, case.receptors.count],
+            mixed_case(&case, sort),
+        ),
+        Err(stop) => (
+            [stop.number as usize, stop.line, stop.field],
+            mixed_no_case(sort),
+        ),
     };
-    [number, line, field] == told.map(|n| n as u64) && checksum == mixed_case(&case, sort)
+    [number, line, field] == told.map(|n| n as u64) && checksum == mixed
 }
 
 fn failure(rt: &impl Print, place: u64, head: Head) -> io::Result<()> {

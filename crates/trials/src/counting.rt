@@ -9,7 +9,7 @@ use std::io::Write;
 use std::rt::Files;
 
 // Trials of a file at most: a loop over them ends.
-const MOST: usize = 10000;
+pub const MOST: usize = 10000;
 
 // Trials run, those of a refusal among them, and those answered otherwise than stored.
 #[derive(Clone, Copy, PartialEq, Eq)]

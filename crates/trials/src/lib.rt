@@ -7,6 +7,6 @@ mod counting;
 mod stored;
 mod text;
 
-pub use counting::{Tally, said};
+pub use counting::{MOST, Tally, said};
 pub use stored::{Head, file, fill, next_head, next_part, numbers_in, open, room};
 pub use text::{Part, after, digits, past, read_signed, read_whole, signed_at};

@@ -9,13 +9,21 @@ pub struct Part<T> {
     pub at: usize,
 }
 
-// How many bytes from low to high stand from a place on.
+// What stands from a place on.
+#[tactic(auto, using(std::proofs::lemmas::List::drop_min))]
+fn rest(s: &[u8], at: usize) -> &[u8]
+    ensures { result.now ≡ drop at s.now }
+{
+    &s[at.min(s.len())..]
+}
+
+// How many bytes from low to high stand from a place on. The part from there is taken first: `skip` would walk to it.
 fn leading(s: &[u8], at: usize, low: u8, high: u8) -> usize
     ensures value { result ≡ leading low high (drop at s.now) }
     ensures upper_bound { result ≤ length s.now - at }
 {
-    s.iter()
-        .skip(at)
+    rest(s, at)
+        .iter()
         .take_while(|b| (low..=high).contains(*b))
         .count()
 }
