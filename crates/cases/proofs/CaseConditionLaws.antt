@@ -1,6 +1,6 @@
 -- The conditions of a case in memory, part by part. Assumes nothing.
 use mathlib.Core.Path.{◌≡◌, refl, sym, ◌∙◌, ap, ap₂}
-use mathlib.Core.Bool.{Bool, true, false, ◌||◌}
+use mathlib.Core.Bool.{Bool, true, false, cond, not, ◌||◌}
 use Prim.Native.Nat.{ℕ, ◌+◌, ◌≤◌, ◌<◌}
 use native.Mathlib.Nat.{eq-zero-or-pos}
 use native.Mathlib.Numerals.{add-one}
@@ -8,6 +8,7 @@ use native.Mathlib.Omega.{arith}
 use mathlib.Core.Logic.{⊎_elim}
 use borrow.Author.Tests.{eqb-false, ltb-false, ne_eqb, le-ltb}
 use lib.Dec.{leb, ltb, eqb}
+use lib.IntN.{ℤ}
 use lib.ListN.{length, get_or, take}
 use Rattle.std.proofs.lemmas.List.{get_or-take, length-take-le}
 use Rattle.std.specs.Prelude.{Err}
@@ -22,14 +23,16 @@ use Rattle.slots.specs.declared.Sort.{Sort}
 use Rattle.slots.specs.declared.Sort.TheVariants.{Ordinary, Composite}
 use Rattle.cases.specs.Cases.{no_record, max_receptors}
 use Rattle.slots.specs.declared.Rule.{Rule}
-use Rattle.cases.specs.CaseConditions.{outside, counts_outside, most_id, id_before, id_wrong, ids_wrong, some_id_wrong, slot_conditions, record_conditions, chemical_conditions, source_conditions, memory_conditions}
-use Rattle.cases.specs.Conditions.{Nowhere, Status, stopped, Verdict, accepted, first, verdict_of}
+use Rattle.cases.specs.CaseConditions.{outside, counts_outside, most_id, id_before, id_wrong, ids_wrong, is_missing, is_stray, some_id_wrong, is_out_of_range, slot_conditions, record_conditions, chemical_conditions, source_conditions, memory_conditions}
+use Rattle.cases.specs.Conditions.{Nowhere, Status, passed, stopped, Verdict, accepted, first, verdict_of}
 use Rattle.cases.proofs.FirstMet.{or_else, first_append, each_append, each_chained, refused_stops, verdict_passed}
+use Rattle.cases.specs.Ranges.{in_range}
 use Rattle.cases.specs.declared.Refusal.{Refusal}
 use Rattle.cases.specs.declared.Chemicals.{Chemicals}
 use Rattle.cases.specs.declared.Ids.{Ids}
 use Rattle.cases.specs.declared.Record.{Record}
 use Rattle.cases.specs.declared.Value.{Value}
+use Rattle.cases.specs.declared.Value.TheVariants.{Absent, Given}
 
 -- ---- ids, record after record: id is that of record i, and before the one before it
 module _ (ids : ℕ → ℕ) (i id' before : ℕ) (is-id : id' ≡ ids i) (is_before : before ≡ id_before ids i) (wrong : Bool) (told : wrong ≡ (leb id' before || ltb most_id id')) where
@@ -45,9 +48,56 @@ module _ (ids : ℕ → ℕ) (i id' before : ℕ) (is-id : id' ≡ ids i) (is_be
   unfolding id_before
   id_on h none = (rw (add-one i) is-id, none_more (id_wrong ids) i none (sym wrong_is ∙ h))
 
--- ---- a slot under a rule that is the same
-pub slot_under : (r t : Rule) (v : Value) (s : Verdict) → s ≡ verdict_of (first (slot_conditions r v)) → r ≡ t → s ≡ verdict_of (first (slot_conditions t v))
-slot_under r t v s h e = h ∙ ap (λ (x : Rule). verdict_of (first (slot_conditions x v))) e
+-- ---- a slot, by its value
+module _ (rule : Rule) (v : Value) where
+  pub slot_missing : is_missing rule v ≡ true → stopped 32 0 0 ≡ first (slot_conditions rule v)
+  unfolding slot_conditions first
+  slot_missing h = rw h refl
+
+  pub slot_absent : v ≡ Absent → is_missing rule v ≡ false → passed ≡ first (slot_conditions rule v)
+  unfolding slot_conditions first is_stray is_out_of_range
+  slot_absent e h = rw (h, e) refl
+
+  module _ (power : ℤ) (digits : ℕ) (e : v ≡ Given power digits) where
+    pub slot_stray : rule.used ≡ false → stopped 32 0 0 ≡ first (slot_conditions rule v)
+    unfolding slot_conditions first is_missing is_stray
+    slot_stray u = rw (e, u) refl
+
+    -- a slot of the record: in its range or not
+    ranged : (t : Bool) → in_range rule digits power ≡ t → rule.used ≡ true → cond t passed (stopped 33 0 0) ≡ first (slot_conditions rule v)
+    unfolding slot_conditions first is_missing is_stray is_out_of_range
+    ranged true r u = rw e (sym (ap₂ (λ (a b : Bool). cond (not a) (stopped 32 0 0) (cond (not b) (stopped 33 0 0) passed)) u r))
+    ranged false r u = rw e (sym (ap₂ (λ (a b : Bool). cond (not a) (stopped 32 0 0) (cond (not b) (stopped 33 0 0) passed)) u r))
+
+    pub slot_far : rule.used ≡ true → in_range rule digits power ≡ false → stopped 33 0 0 ≡ first (slot_conditions rule v)
+    slot_far u r = ranged false r u
+
+    pub slot_near : rule.used ≡ true → in_range rule digits power ≡ true → passed ≡ first (slot_conditions rule v)
+    slot_near u r = ranged true r u
+
+-- ---- lists of slots and records, one after another
+module _ (f : ℕ → Bool) (k : ℕ) (b : Bool) (told : b ≡ f k) where
+  pub any_stops : b ≡ true → (n : ℕ) → k < n → true ≡ any_of f n
+  any_stops h n l = sym (any_of_lem f k n (sym told ∙ h) l)
+
+  pub any_on : b ≡ false → any_of f k ≡ false → any_of f (k + 1) ≡ false
+  any_on h none = none_more f k none (sym told ∙ h)
+
+-- a slot with a value is not missing
+pub given_there : (rule : Rule) (v : Value) (power : ℤ) (digits : ℕ) → v ≡ Given power digits → false ≡ is_missing rule v
+unfolding is_missing
+given_there rule v power digits e = rw e refl
+
+-- under a rule that is the same
+pub missing_under : (r s : Rule) (v : Value) (b : Bool) → b ≡ is_missing r v → r ≡ s → b ≡ is_missing s v
+missing_under r s v b h e = h ∙ ap (λ (x : Rule). is_missing x v) e
+
+pub slot_under : (r t : Rule) (v : Value) (s : Status) → s ≡ first (slot_conditions r v) → r ≡ t → s ≡ first (slot_conditions t v)
+slot_under r t v s h e = h ∙ ap (λ (x : Rule). first (slot_conditions x v)) e
+
+-- the same of the number alone
+pub verdict_under : (r t : Rule) (v : Value) (s : Verdict) → s ≡ verdict_of (first (slot_conditions r v)) → r ≡ t → s ≡ verdict_of (first (slot_conditions t v))
+verdict_under r t v s h e = h ∙ ap verdict_of (slot_under r t v (first (slot_conditions r v)) refl e)
 
 -- ---- counts that are not outside
 not_outside : (most n : ℕ) → outside most n ≡ false → (1 ≤ n) × (n ≤ most)
@@ -109,6 +159,16 @@ module _ (sort : Sort) (site : Record) (chemicals : Chemicals) (receptors : Ids)
       unfolding memory_conditions source_conditions first
       slots_are = rw (counts, ids) (first_append (record_conditions Ordinary Site site) (chemical_conditions chemicals))
 
+      module _ (s : Status) (is-site : s ≡ first (record_conditions Ordinary Site site)) where
+        pub site_stops : (number line field : ℕ) → s ≡ stopped number line field → s ≡ first (memory_conditions sort site chemicals receptors)
+        unfolding or_else
+        site_stops number line field e = e ∙ sym (slots_are ∙ ap (λ (t : Status). or_else t (first (chemical_conditions chemicals))) (sym is-site ∙ e))
+
+        pub site_passes : s ≡ passed → (t : Status) → t ≡ first (chemical_conditions chemicals) → t ≡ first (memory_conditions sort site chemicals receptors)
+        unfolding or_else
+        site_passes e t h = h ∙ sym (slots_are ∙ ap (λ (u : Status). or_else u (first (chemical_conditions chemicals))) (sym is-site ∙ e))
+
+      -- the same of the number alone
       module _ (v : Verdict) (is-site : v ≡ verdict_of (first (record_conditions Ordinary Site site))) where
         pub site_refuses : (r : Refusal) → v ≡ Err r → Err r ≡ verdict_of (first (memory_conditions sort site chemicals receptors))
         unfolding or_else

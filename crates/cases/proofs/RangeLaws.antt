@@ -5,18 +5,19 @@ use native.Mathlib.Nat.{le_trans, lt_of_lt_of_le, lt_of_le_of_lt, mul-one, one-m
 use native.Mathlib.Omega.{arith}
 use lib.Pow.{pow-add}
 use mathlib.Core.Path.{◌≡◌, refl, sym, ap, subst, ◌∙◌}
-use mathlib.Core.Bool.{Bool, true, false}
+use mathlib.Core.Bool.{Bool, true, false, not}
 use mathlib.Core.Logic.{⊎_elim}
-use borrow.Author.Tests.{ne_eqb, le-leb, lt-leb, leb-true, leb-false}
+use borrow.Author.Tests.{eq-eqb, ne_eqb, le-leb, lt-leb, leb-true, leb-false, not-true, not-false}
 use lib.Dec.{leb, ltb, eqb, lit≤, lit<}
 use lib.IntN.{ℤ, pos, negsuc}
 use mir.Syntax.{w64}
 use mir.Val.{Fits}
 use Rattle.powers.specs.Powers.{above, below}
-use Rattle.cases.specs.Ranges.{value_at_most, value_at_least, is_year_of}
+use Rattle.cases.specs.Ranges.{value_at_most, value_at_least, within_bounds, is_year_of}
 use Rattle.slots.specs.Slots.{year_of}
 use Rattle.slots.specs.declared.Guidance.{Guidance}
 use Rattle.slots.specs.declared.Guidance.TheVariants.{Of2005, Of2009}
+use Rattle.slots.specs.declared.Rule.{Rule}
 
 pub ten_some : (n v : ℕ) → v ≡ 10 ^ n → 0 < v
 ten_some n v e = rw e (one-le-pow n 10 (lit≤ tt))
@@ -160,3 +161,17 @@ module _ (guidance : Guidance) (digits : ℕ) (z : ℤ) where
     pub year_near : (y v : ℕ) → y ≡ year_of guidance → v ≡ 10 ^ below z → eqb digits (y * v) ≡ is_year_of guidance digits z
     unfolding is_year_of
     year_near y v g e = rw (whole digits z low, g, e) refl
+
+module _ (rule : Rule) (digits : ℕ) (z : ℤ) where
+  pub range_zero : digits ≡ 0 → rule.zero ≡ within_bounds rule digits z
+  unfolding within_bounds
+  range_zero h = simp (eq-eqb digits 0 h)
+
+  module _ (some : digits ≡ 0 → ⊥) (r : Bool) (e : r ≡ value_at_least digits z) where
+    pub range_low : not r ≡ true → false ≡ within_bounds rule digits z
+    unfolding within_bounds
+    range_low h = simp (ne_eqb digits 0 some, sym e ∙ not-true r h)
+
+    pub range_high : not r ≡ false → (q : Bool) → q ≡ value_at_most rule.most digits z → q ≡ within_bounds rule digits z
+    unfolding within_bounds
+    range_high h q f = simp (ne_eqb digits 0 some, sym e ∙ not-false r h) f

@@ -41,8 +41,21 @@ module _ (most left n z : ℕ) (so_far : z ≡ n + zeros_at_end (most - n) left)
       let none : zeros_at_end (most - n) left ≡ 0 = ap (λ (i : ℕ). zeros_at_end i left) d in
       omega (arith, so_far, none)
 
--- ---- a value behind the point
+-- ---- a value, way by way
 module _ (v : Value) (power : ℤ) (digits : ℕ) (given : v ≡ Given power digits) where
+  pub plain_zero : digits ≡ 0 → Given (pos 0) 0 ≡ plain v
+  unfolding plain
+  plain_zero e = rw (given, e) refl
+
+  module _ (some : digits ≢ 0) where
+    pub plain_whole : below power ≡ 0 → Given power digits ≡ plain v
+    unfolding plain
+    plain_whole e = rw (given, ne_eqb digits 0 some, e) refl
+
+    pub plain_far : below power ≢ 0 → 999 < below power → Given power digits ≡ plain v
+    unfolding plain
+    plain_far z h = rw (given, ne_eqb digits 0 some, ne_eqb (below power) 0 z, lt-ltb 999 (below power) h) refl
+
   pub plain_near : digits ≢ 0 → below power ≢ 0 → below power ≤ 999 → (n most : ℕ) → most ≡ min (below power) 19 → n ≡ zeros_at_end most digits → without_zeros power digits n ≡ plain v
   unfolding plain
   plain_near some z h n most e f = rw (given, ne_eqb digits 0 some, ne_eqb (below power) 0 z, le-ltb 999 (below power) h, f, e) refl

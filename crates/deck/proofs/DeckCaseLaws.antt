@@ -11,15 +11,15 @@ use lib.Dec.{eqb}
 use lib.ListN.{length, take, drop, replicate, length-take, length-drop, drop_of_length-le}
 use Rattle.spelling.specs.Columns.{within, leading, field_width}
 use Rattle.deck.specs.Parts.{deck_line_width, fields_start, lines_of, line_of, field_in, field_of}
-use Rattle.spelling.specs.Spelling.{id_in, id_spelled}
+use Rattle.spelling.specs.Spelling.{id_in, id_spelled, word_of}
 use Rattle.std.specs.Prelude.{◌≢◌, Option, Some, None, MatchOption}
 use Rattle.std.specs.Option.{unwrap_or}
 use Rattle.std.specs.Array.{IsWholeChunk}
 use Rattle.deck.specs.DeckConditions.{id_of}
 use Rattle.sizes.specs.Sizes.{fields_per_line, site_lines, record_lines, slots_per_record, max_chemicals, most_stages}
 use Rattle.lists.specs.Lists.{tabulate}
-use Rattle.deck.specs.DeckCase.{chemicals_start, slot_spelled, record_of, records_of, case_with}
-use Rattle.cases.specs.Cases.{no_record}
+use Rattle.deck.specs.DeckCase.{chemicals_start, value_of, slot_spelled, record_of, records_of, case_with}
+use Rattle.cases.specs.Cases.{no_record, no_case}
 use Rattle.cases.specs.declared.Value.{Value}
 use Rattle.cases.specs.declared.Value.TheVariants.{Absent}
 use Rattle.cases.specs.declared.Record.{Record}
@@ -48,6 +48,10 @@ module _ (deck : List ℕ) (n : ℕ) where
   unfolding field_of field_in
   field_none f l e h = none l h ∙ sym (field_nil f l h (within 1 fields_per_line f)) ∙ ap (λ (m : List ℕ). field_in m f) e
 
+  pub field_some : (f : ℕ) (l r : List ℕ) → l ≡ line_of deck n → r ≡ field_in l f → r ≡ field_of deck n f
+  unfolding field_of
+  field_some f l r e g = g ∙ ap (λ (m : List ℕ). field_in m f) e
+
   lacks : (length (line_of deck n) ≡ deck_line_width → ⊥) → line_of deck n ≡ []
   lacks h = go (eqb (length (line_of deck n)) 0) refl
     where
@@ -58,9 +62,12 @@ module _ (deck : List ℕ) (n : ℕ) where
   pub field_lacking : (f : ℕ) → (length (line_of deck n) ≡ deck_line_width → ⊥) → [] ≡ field_of deck n f
   field_lacking f h = sym (lacks h) ∙ field_none f (line_of deck n) refl (ap length (lacks h))
 
-  pub id_lacking : (length (line_of deck n) ≡ deck_line_width → ⊥) → 0 ≡ unwrap_or (id_of (line_of deck n)) 0
+  pub no_id : (length (line_of deck n) ≡ deck_line_width → ⊥) → None ≡ id_of (line_of deck n)
   unfolding id_of id_in id_spelled leading
-  id_lacking h = ap (λ (l : List ℕ). unwrap_or (id_of l) 0) (sym (lacks h))
+  no_id h = ap id_of (sym (lacks h))
+
+  pub id_lacking : (length (line_of deck n) ≡ deck_line_width → ⊥) → 0 ≡ unwrap_or (id_of (line_of deck n)) 0
+  id_lacking h = ap (λ (i : Option ℕ). unwrap_or i 0) (no_id h)
 
 -- a line as a whole, if it is there
 pub whole_line : {X : Type 0} (view : X → List ℕ) (s t : List ℕ) (n : ℕ) → s ≡ t → (r : Option X) → MatchOption r (length s ≢ n) (λ y. IsWholeChunk s (view y) n)
@@ -88,3 +95,8 @@ pub case_is : (deck : List ℕ) (m n : ℕ) (site : Record) (cs rs : List Record
 unfolding case_with
 case_is deck m n site cs rs a b c =
     λ i. record { site = a i; chemicals = record { count = m; records = b i }; receptors = record { count = n; records = c i } }
+
+-- an empty deck has no site, chemical or receptor
+pub empty_case : case_with [] 0 0 ≡ no_case
+unfolding case_with no_case record_of records_of tabulate slot_spelled field_of field_in line_of lines_of within word_of leading value_of id_of id_in id_spelled
+empty_case = refl

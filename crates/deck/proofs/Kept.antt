@@ -6,7 +6,7 @@ use native.Mathlib.Numerals.{add-one}
 use native.Mathlib.Omega.{arith}
 use mathlib.Core.Path.{◌≡◌, refl, sym, ap, ◌∙◌}
 use mathlib.Core.List.{List, [], ◌∷◌, ◌++◌, append_assoc, append-nil}
-use lib.ListN.{length, get_or, take, drop, set, replicate, length-drop, length-replicate, replicate-append-replicate}
+use lib.ListN.{length, get_or, take, drop, set, replicate, length-append, length-drop, length-replicate, replicate-append-replicate}
 use lib.Seq.{take_at, drop_at, take_all, take-suc-set, ext_get_or}
 use Rattle.std.proofs.lemmas.List.{get_or-take, get_or-drop, length-take-le}
 use Rattle.spelling.specs.Columns.{leading}
@@ -41,7 +41,7 @@ module _ (line : List ℕ) where
 
 -- ---- line after line
 module _ {A : Type 0} where
-  tabulate_append : (f g : ℕ → A) (a b : ℕ) → ((i : ℕ) → i < b → g i ≡ f (a + i)) → tabulate a f ++ tabulate b g ≡ tabulate (a + b) f
+  pub tabulate_append : (f g : ℕ → A) (a b : ℕ) → ((i : ℕ) → i < b → g i ≡ f (a + i)) → tabulate a f ++ tabulate b g ≡ tabulate (a + b) f
   unfolding tabulate
   tabulate_append f g a zero e = rw add-zero (append-nil (tabulate a f))
   tabulate_append f g a (suc b) e =
@@ -61,6 +61,12 @@ module _ (deck : List ℕ) where
   pub kept_none : (values : List Value) → values ≡ replicate max_fields Absent → Kept 0 values
   unfolding tabulate
   kept_none values e = e
+
+  pub kept_room : (n : ℕ) (values : List Value) → n ≤ max_lines Composite → Kept n values → length values ≡ max_fields
+  kept_room n values h k =
+      ap length k
+      ∙ length-append (tabulate (fields_per_line * n) (value_at deck)) (replicate (max_fields - fields_per_line * n) Absent)
+      ∙ omega (arith, length_tabulate (value_at deck) Absent 0 (fields_per_line * n), length-replicate {A = Value} (max_fields - fields_per_line * n) Absent)
 
   kept_line_lem : (n i : ℕ) → i < fields_per_line → value_in (line_of deck (n + 1)) i ≡ value_at deck (fields_per_line * n + i)
   unfolding value_in value_at field_of
@@ -136,3 +142,7 @@ module _ (deck : List ℕ) where
       ∙ get_or-drop at values k Absent
       ∙ slot_kept values n lines k Absent e p q here
       ∙ sym (tabulated (slot_spelled deck n) Absent count k here))
+
+pub none_kept : replicate max_fields Absent ≡ values_of []
+unfolding lines_of
+none_kept = kept_all [] 0 (replicate max_fields Absent) (omega arith) refl (kept_none [] (replicate max_fields Absent) refl)

@@ -7,9 +7,9 @@ use native.Mathlib.Omega.{arith}
 use mathlib.Core.Path.{◌≡◌, refl, sym, ap, ◌∙◌, subst}
 use mathlib.Core.Bool.{Bool, true, false, cond, not, ◌&&◌, ◌||◌}
 use mathlib.Core.List.{List, [], ◌∷◌, ◌++◌}
-use borrow.Author.Tests.{not-false, leb-false, ltb-false}
+use borrow.Author.Tests.{not-false, eq-eqb, ne_eqb, lt-ltb, le-ltb, leb-false, ltb-false}
 use lib.Dec.{leb, ltb, eqb}
-use lib.ListN.{length, get_or, take, drop}
+use lib.ListN.{length, get_or, take, drop, length-take, length-drop}
 use Rattle.std.specs.Prelude.{Option, None, Err}
 use Rattle.cases.specs.declared.Stop.{Stop}
 use Rattle.std.specs.Simd.{first_chunks}
@@ -29,6 +29,7 @@ use Rattle.lists.specs.Lists.{chained}
 use Rattle.cases.specs.Conditions.{Status, passed, stopped, Condition, at, first, up_to}
 use Rattle.deck.specs.DeckConditions.{field_at, bad_bytes, bad_kind, bad_id, id_of, line_conditions_after, begun_with, seen_with, seen_in, line_conditions, max_length, bad_length, no_end}
 use Rattle.deck.proofs.PartLaws.{line_is}
+use Rattle.deck.proofs.DeckCaseLaws.{line_full}
 use Rattle.cases.proofs.FirstMet.{or_else, first_append, goes_on, stops, first_read}
 use Rattle.lists.proofs.Booleans.{neither}
 
@@ -156,6 +157,19 @@ module _ (sort : Sort) (deck : List ℕ) (n : ℕ) (seen : Seen) (s : Scanned so
   scan_counts c d e = (e.0 ∙ ap (λ (x : Seen). x.chemicals) all_told, e.1 ∙ ap (λ (x : Seen). x.receptors) all_told)
 
 -- ---- 11
+pub length_none : (sort : Sort) (deck : List ℕ) → length deck ≡ 0 → true ≡ bad_length sort deck
+unfolding bad_length
+length_none sort deck h = simp (eq-eqb (length deck) 0 h)
+
+module _ (sort : Sort) (deck : List ℕ) (h : length deck ≡ 0 → ⊥) (m : ℕ) (e : m ≡ max_length sort) where
+  pub length_long : m < length deck → true ≡ bad_length sort deck
+  unfolding bad_length
+  length_long k = simp (ne_eqb (length deck) 0 h, ap (λ (x : ℕ). ltb x (length deck)) (sym e) ∙ lt-ltb m (length deck) k)
+
+  pub length_rest : length deck ≤ m → not (eqb (length deck % deck_line_width) 0) ≡ bad_length sort deck
+  unfolding bad_length
+  length_rest k = simp (ne_eqb (length deck) 0 h, ap (λ (x : ℕ). ltb x (length deck)) (sym e) ∙ le-ltb m (length deck) k)
+
 longest : (sort : Sort) → max_length sort ≤ max_length Composite
 longest Ordinary = omega arith
 longest Composite = omega arith
@@ -166,6 +180,18 @@ length_held sort deck b e h =
     let none = (neither (eqb (length deck) 0 || ltb (max_length sort) (length deck)) (not (eqb (length deck % deck_line_width) 0)) (sym e ∙ h)).0 in
     let long = ltb-false (max_length sort) (length deck) (neither (eqb (length deck) 0) (ltb (max_length sort) (length deck)) none).1 in
     omega (arith, longest sort)
+
+-- a line that the deck has is whole
+line_some : (deck : List ℕ) (n : ℕ) → n < length deck / deck_line_width → (l : List ℕ) → l ≡ line_of deck (n + 1) → length l ≡ 0 → ⊥
+line_some deck n h l e z =
+    let k : deck_line_width * (n + 1 - 1) + deck_line_width ≤ length deck = omega arith in
+    let m : length (take deck_line_width (drop (deck_line_width * (n + 1 - 1)) deck)) ≡ deck_line_width =
+    length-take deck_line_width (drop (deck_line_width * (n + 1 - 1)) deck) ∙ omega (arith, length-drop (deck_line_width * (n + 1 - 1)) deck) in
+    let q : length l ≡ deck_line_width = ap length (e ∙ line_is deck (n + 1) (omega arith) (omega arith)) ∙ m in
+    omega arith
+
+pub line_whole : (deck : List ℕ) (n : ℕ) → n < length deck / deck_line_width → (l : List ℕ) → l ≡ line_of deck (n + 1) → length l ≡ deck_line_width
+line_whole deck n h l e = line_full deck (n + 1) l e (line_some deck n h l e)
 
 -- a deck in parts of one line's width
 chunk_is : (k : ℕ) (s : List ℕ) (i : ℕ) (d : List ℕ) → i < k → get_or (first_chunks deck_line_width k s) i d ≡ take deck_line_width (drop (deck_line_width * i) s)

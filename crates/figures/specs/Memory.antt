@@ -63,7 +63,7 @@ unfoldable pub memories : List (Type 0)
 memories =
     -- the example passes
     (first (scenario_conditions (ordinary_of (case_of_three site chemical receptor))) ≡ passed)
-    -- the empty case of a refused deck
+    -- a case with nothing in it
     ∷ (first (scenario_conditions (ordinary_of no_case)) ≡ stopped 21 0 0)
     -- a receptor's id 2000001
     ∷ (first (scenario_conditions (ordinary_of (case_of_three site chemical (under 2000001 receptor)))) ≡ stopped 22 0 0)

@@ -1,34 +1,47 @@
 -- Laws of the kinds of lines: what two bytes spell, what a test of a kind tells of it, and that a kind is a line that its record has.
 -- Assumes nothing.
-use Prim.Native.Nat.{ℕ, ◌-◌, ◌≤◌, ◌<◌}
+use Prim.Native.Nat.{ℕ, zero, suc, ◌-◌, ◌≤◌, ◌<◌}
 use native.Mathlib.Omega.{arith}
 use mathlib.Core.Path.{◌≡◌, refl, sym, ap, ◌∙◌}
 use mathlib.Core.Bool.{Bool, true, false, cond, ◌&&◌, false≢true}
-use borrow.Author.Tests.{ne_eqb, eqb-true, eqb-false, le-leb, lt-ltb, ltb-true}
+use borrow.Author.Tests.{eq-eqb, ne_eqb, eqb-true, eqb-false, le-leb, lt-leb, lt-ltb, le-ltb, ltb-true}
 use lib.Dec.{leb, ltb, eqb}
 use Rattle.slots.specs.declared.Owner.{Owner}
 use Rattle.slots.specs.declared.Owner.TheVariants.{Site, Chemical, Receptor}
 use Rattle.kinds.specs.declared.Kind.{Kind}
 use Rattle.kinds.specs.declared.Kind.TheVariants.{Start, Line, End, Other}
-use Rattle.kinds.specs.Kinds.{letter, owner_lines, first_digit, line_digit, numbered, spells_end, kind_in, is_line, is_start, is_end, begins}
+use Rattle.kinds.specs.Kinds.{letter, owner_lines, first_digit, line_digit, numbered, spells_end, kind_in, is_line, is_start, is_end, begins, may_begin, may_follow}
 use Rattle.lists.proofs.Booleans.{both, and-false}
 
 -- ---- the bytes of a kind
-digit_in : (o : Owner) (digit : ℕ) → first_digit ≤ digit → digit - first_digit < owner_lines o → numbered o digit ≡ Line o (digit - first_digit)
-unfolding numbered
-digit_in o digit low h = simp (le-leb first_digit digit low, lt-ltb (digit - first_digit) (owner_lines o) h)
+module _ (o : Owner) (digit : ℕ) where
+  pub digit_low : digit < first_digit → Other ≡ numbered o digit
+  unfolding numbered
+  digit_low h = simp (lt-leb first_digit digit h)
 
-of_owner : (o : Owner) (b : ℕ) → kind_in (letter o) b ≡ numbered o b
-unfolding kind_in
-of_owner Site b = refl
-of_owner Chemical b = refl
-of_owner Receptor b = refl
+  module _ (low : first_digit ≤ digit) (line lines : ℕ) (l : line ≡ digit - first_digit) (e : lines ≡ owner_lines o) where
+    pub digit_in : line < lines → Line o line ≡ numbered o digit
+    unfolding numbered
+    digit_in h = simp (le-leb first_digit digit low, lt-ltb (digit - first_digit) (owner_lines o) (omega arith)) (ap (Line o) l)
+
+    pub digit_high : lines ≤ line → Other ≡ numbered o digit
+    unfolding numbered
+    digit_high h = simp (le-leb first_digit digit low, le-ltb (digit - first_digit) (owner_lines o) (omega arith))
+
+module _ (a b : ℕ) where
+  pub of_owner : (o : Owner) → a ≡ letter o → numbered o b ≡ kind_in a b
+  unfolding kind_in
+  of_owner Site e = simp (eq-eqb a (letter Site) e)
+  of_owner Chemical e = simp (ne_eqb a (letter Site) (λ q. omega arith), eq-eqb a (letter Chemical) e)
+  of_owner Receptor e = simp (ne_eqb a (letter Site) (λ q. omega arith), ne_eqb a (letter Chemical) (λ q. omega arith), eq-eqb a (letter Receptor) e)
+
+  pub of_none : (a ≡ letter Site → ⊥) → (a ≡ letter Chemical → ⊥) → (a ≡ letter Receptor → ⊥) → cond (spells_end a b) End Other ≡ kind_in a b
+  unfolding kind_in
+  of_none s c r = simp (ne_eqb a (letter Site) s, ne_eqb a (letter Chemical) c, ne_eqb a (letter Receptor) r)
 
 -- each line of a record has its owner's letter and its own digit
 pub line_spelled : (o : Owner) (n : ℕ) → n < owner_lines o → kind_in (letter o) (line_digit n) ≡ Line o n
-line_spelled o n h =
-    let back : line_digit n - first_digit ≡ n = omega arith in
-    of_owner o (line_digit n) ∙ digit_in o (line_digit n) (omega arith) (omega (arith, h, back)) ∙ ap (Line o) back
+line_spelled o n h = sym (digit_in o (line_digit n) (omega arith) n (owner_lines o) (omega arith) refl h ∙ of_owner (letter o) (line_digit n) o refl)
 
 pub some_lines : (o : Owner) → 1 ≤ owner_lines o
 some_lines Site = omega arith
@@ -36,6 +49,15 @@ some_lines Chemical = omega arith
 some_lines Receptor = omega arith
 
 -- ---- tests of a kind
+module _ (o p : Owner) (n m : ℕ) (k : Kind) (e : k ≡ Line p m) where
+  pub other_letter : (letter o ≡ letter p → ⊥) → false ≡ is_line o n k
+  unfolding is_line
+  other_letter h = rw e (simp (ne_eqb (letter o) (letter p) h))
+
+  pub same_letter_lem : letter o ≡ letter p → eqb n m ≡ is_line o n k
+  unfolding is_line
+  same_letter_lem h = rw e (simp (eq-eqb (letter o) (letter p) h))
+
 owner_by : ℕ → Owner
 owner_by a = cond (eqb a (letter Site)) Site (cond (eqb a (letter Chemical)) Chemical Receptor)
 
@@ -67,6 +89,20 @@ is_end_lem (Line o n) h = absurd (false≢true h)
 is_end_lem Start h = absurd (false≢true h)
 is_end_lem End h = refl
 is_end_lem Other h = absurd (false≢true h)
+
+-- ---- what may follow
+module _ (before k : Kind) (o : Owner) (n : ℕ) (e : k ≡ Line o n) (r : Bool) where
+  pub follow_first : n ≡ 0 → r ≡ may_begin before o → r ≡ may_follow before k
+  unfolding may_follow
+  follow_first z f = f ∙ sym (ap (may_follow before) (e ∙ ap (Line o) z))
+
+  next_line : (m : ℕ) → (m ≡ 0 → ⊥) → is_line o (m - 1) before ≡ may_follow before (Line o m)
+  unfolding may_follow
+  next_line zero h = absurd (h refl)
+  next_line (suc m) h = ap (λ (j : ℕ). is_line o j before) (omega arith)
+
+  pub follow_next : (n ≡ 0 → ⊥) → r ≡ is_line o (n - 1) before → r ≡ may_follow before k
+  follow_next h f = f ∙ next_line n h ∙ sym (ap (may_follow before) e)
 
 -- ---- a kind is a line that its record has
 abbrev pub Within : Kind → Type 0

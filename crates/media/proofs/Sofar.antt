@@ -1,6 +1,7 @@
 -- What a loop over the terms of a series keeps, and where it ends. Assumes nothing.
-use mathlib.Core.Path.{◌≡◌, sym, ◌∙◌, ap, ap₂}
+use mathlib.Core.Path.{◌≡◌, refl, sym, ◌∙◌, ap, ap₂}
 use mathlib.Core.Bool.{true}
+use mathlib.Core.Logic.{inl}
 use Prim.Native.Nat.{ℕ, suc, ◌+◌, ◌-◌, ◌≤◌, ◌<◌}
 use native.Mathlib.Numerals.{add-one}
 use native.Mathlib.Omega.{arith}
@@ -15,7 +16,7 @@ use Rattle.pair.proofs.Promises.{entry_answered, entry_exact, through, value_pro
 use Rattle.pair.proofs.Partials.{partial_worked, partial_refused}
 use Rattle.equations.specs.Formula.{pairs}
 use Rattle.equations.specs.Series.{first, Series, phi, psi, step, terms, from_zero, pair_series}
-use Rattle.equations.proofs.EarlyStop.{reach, series_stopped, series_refused}
+use Rattle.equations.proofs.EarlyStop.{reach, step_plain, series_stopped, series_refused}
 use Rattle.equations.proofs.SeriesFigures.{first_is, series_at_zero}
 use Rattle.media.specs.Inner.{Moderate, next_of}
 use Rattle.media.proofs.Moderate.{high_above_lem, moderate_within, at_most_by}
@@ -55,9 +56,11 @@ module _ (s : Series) (x term total : Pair) (n : ℕ) (f : Sofar s x term total 
   next_total = ap₂ (after sum) f.total_is next_term_lem
 
   -- where it is not worked, the series is refused
-  pub step_refused : refused 53 ≡ next_of s x n term total → refused 53 ≡ pair_series s (is x)
+  pub step_refused : (k : ℕ) → refused k ≡ next_of s x n term total → refused 53 ≡ pair_series s (is x)
   unfolding next_of
-  step_refused e = sym (series_refused s (is x) (suc n) l (next_total ∙ partial_refused total stepped 53 (sym e)))
+  step_refused k e =
+      let plain = step_plain s n (inl (x, refl)) (inl (term, refl)) in
+      sym (series_refused s (is x) (suc n) l (next_total ∙ (partial_refused total stepped k (sym e)).1 plain))
 
   module _ (P : Partial) (e : is P ≡ next_of s x n term total) where
     told : (stepped ≡ is P.term) × (after sum (is total) stepped ≡ is P.total)

@@ -5,7 +5,8 @@ use Prim.Native.Nat.{ℕ}
 use lib.IntN.{ℤ}
 use Rattle.pair.specs.declared.Number.{Number}
 use Rattle.pair.specs.declared.Pair.{Pair}
-use Rattle.pair.specs.Calls.{Outcome, is, refused, provided, ends, checked, entry, long_entry, one_minus_entry, sum, product, quotient, one_minus, compared, raised, after, after_one, in_units}
+use Rattle.pair.specs.declared.Partial.{Partial}
+use Rattle.pair.specs.Calls.{Outcome, is, refused, provided, ends, checked, entry, long_entry, one_minus_entry, sum, product, quotient, one_minus, compared, raised, after, after_one, partial, next_term, in_units}
 use Rattle.pair.proofs.Providing.{never}
 
 -- refused by this number alone, if at all
@@ -17,6 +18,10 @@ is_by x n e = never (sym e)
 
 pub refused_by_lem : {A : Type 0} (m : ℕ) → OnlyBy {A = A} m (refused m)
 refused_by_lem m n e = cc
+
+-- a refusal of another kind of answer has the same number
+turned : {A B : Type 0} (n k : ℕ) → ◌≡◌ {A = Outcome A} (refused n) (refused k) → ◌≡◌ {A = Outcome B} (refused n) (refused k)
+turned n k h = let e : n ≡ k = cc in cc
 
 -- ---- calls made of calls
 pub provided_by : {A : Type 0} (t : Bool) (x : Outcome A) → OnlyBy 53 x → OnlyBy 53 (provided t x)
@@ -34,6 +39,12 @@ pub after_one_by : {m : ℕ} (f : Pair → Outcome Pair) → ((p : Pair) → Onl
 unfolding after_one
 after_one_by f h (is p) a = h p
 after_one_by f h (refused n) a = a
+
+pub partial_by : {m : ℕ} (x y : Outcome Pair) → OnlyBy m x → OnlyBy m y → OnlyBy m (partial x y)
+unfolding partial
+partial_by (is p) (is q) a b k e = is_by _ k e
+partial_by (is p) (refused n) a b k e = b k (turned n k e)
+partial_by (refused n) y a b k e = a k (turned n k e)
 
 -- ---- the calls
 pub ends_by : (low high : Number) → OnlyBy 53 (ends low high)
@@ -83,3 +94,9 @@ raised_by n p = provided_by _ _ (ends_by _ _)
 pub in_units_by : (p : Pair) (u : ℤ) → OnlyBy 53 (in_units p u)
 unfolding in_units
 in_units_by p u = provided_by _ _ (is_by _)
+
+pub next_term_by : (term total factor divisor : Pair) → OnlyBy 53 (next_term term total factor divisor)
+unfolding next_term
+next_term_by term total factor divisor =
+    let t : OnlyBy 53 (after quotient (product term factor) (is divisor)) = after_by quotient quotient_by _ _ (product_by term factor) (is_by divisor) in
+    partial_by _ _ t (after_by sum sum_by _ _ (is_by total) t)

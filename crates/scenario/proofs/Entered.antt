@@ -1,10 +1,12 @@
 -- An ordinary deck's receptors: their slots' pairs are the entries of what is printed, in range of it. Assumes nothing.
 use mathlib.Core.Path.{◌≡◌, refl, sym, ap, ◌∙◌, subst}
 use mathlib.Core.Bool.{true}
-use Prim.Native.Nat.{ℕ, ◌<◌}
+use mathlib.Core.List.{[], ◌∷◌}
+use Prim.Native.Nat.{ℕ, ◌≤◌, ◌<◌}
 use native.Mathlib.Omega.{arith}
+use lib.Dec.{lit<}
 use lib.IntN.{ℤ}
-use lib.ListN.{get_or}
+use lib.ListN.{length, get_or}
 use Rattle.sizes.specs.Sizes.{most_receptors}
 use Rattle.pair.specs.declared.Pair.{Pair}
 use Rattle.pair.specs.Fraction.{minus}
@@ -15,15 +17,19 @@ use Rattle.slots.specs.Slots.{Slot, positive, table, same, is_in, place_in, rule
 use Rattle.slots.specs.declared.Owner.TheVariants.{Receptor}
 use Rattle.equations.specs.Readings.{value_in, by_owner, inputs}
 use Rattle.equations.proofs.LineLaws.{of_slot, of_later, printed_good}
+use Rattle.lists.proofs.ListLaws.{read_any}
 use Rattle.cases.specs.declared.Case.{Case}
+use Rattle.cases.specs.declared.Record.{Record}
 use Rattle.cases.specs.declared.Value.TheVariants.{Given}
-use Rattle.cases.specs.Cases.{value_at, receptor_at, owners_record}
+use Rattle.lists.specs.Lists.{tabulate}
+use Rattle.cases.specs.Cases.{no_record, value_at, receptor_at, owners_record}
 use Rattle.cases.specs.CaseConditions.{lacks}
 use Rattle.cases.specs.Ranged.{Fits, Ranged}
 use Rattle.cases.proofs.Complete.{lacks_none}
 use Rattle.equations.specs.declared.Values.{Values}
 use mathlib.Core.Bool.{Bool, cond}
 use Rattle.scenario.specs.declared.Receptor as receptors
+use Rattle.scenario.specs.declared.Receptors as many
 use Rattle.scenario.specs.Scenario.{pair_of, values_of, no_pairs, values_if, no_receptor, receptor_in, pairs_at, time_given, deposition_of, receptor_with, entered, scenario_with, entered_from, ordinary_of, fraction_of, exact_from, exact_at, stay_by}
 use Rattle.scenario.proofs.Sound.{Sound}
 use Rattle.lists.proofs.Tabulated.{tabulated}
@@ -101,3 +107,13 @@ module _ (case : Case) (ranged : Ranged Ordinary case) where
   pub ordinary_sound : Sound (ordinary_of case) (exact_at case)
   unfolding ordinary_of exact_at entered_from
   ordinary_sound = made_sound Ordinary case ranged (entered_from case) (exact_from case) ranged.some_receptors ranged.few_receptors entered_good later_entered chosen_entered
+
+-- the receptors as they are made: the first four records entered
+pub entered_all : (case : Case) (blank : Record) → most_receptors ≤ length case.receptors.records → (a b c d : receptors.Receptor)
+    → a ≡ entered (deposition_of case.site) (get_or case.receptors.records 0 blank) → b ≡ entered (deposition_of case.site) (get_or case.receptors.records 1 blank)
+    → c ≡ entered (deposition_of case.site) (get_or case.receptors.records 2 blank) → d ≡ entered (deposition_of case.site) (get_or case.receptors.records 3 blank)
+    → ◌≡◌ {A = many.Receptors} (record { count = case.receptors.count; list = a ∷ b ∷ c ∷ d ∷ [] }) (entered_from case)
+unfolding entered_from tabulate receptor_at
+entered_all case blank long a b c d p q r s =
+    let at : (k : ℕ) → k < most_receptors → get_or case.receptors.records k blank ≡ get_or case.receptors.records k no_record = λ k h. read_any case.receptors.records k (omega arith) blank no_record in
+    rw (p, q, r, s, at 0 (lit< tt), at 1 (lit< tt), at 2 (lit< tt), at 3 (lit< tt)) refl

@@ -1,21 +1,30 @@
--- Where a receptor's column of an effect begins, and what the totals call told of its three parts. Assumes nothing.
-use mathlib.Core.Path.{◌≡◌, refl}
+-- What the totals call told of a part of cells; where a receptor's column of an effect begins, and what that call told of its three parts. Assumes
+-- nothing.
+use mathlib.Core.Path.{◌≡◌, refl, sym, ap, ◌∙◌}
 use mathlib.Core.Bool.{Bool, true, false, cond}
 use mathlib.Core.List.{List}
-use Prim.Native.Nat.{ℕ, ◌+◌, ◌≤◌, ◌<◌}
+use Prim.Native.Nat.{ℕ, ◌+◌, ◌-◌, ◌≤◌, ◌<◌}
 use native.Mathlib.Omega.{arith}
 use borrow.Author.Tests.{eqb-true, ltb-true}
 use lib.Dec.{eqb, ltb}
-use lib.ListN.{length}
-use Rattle.std.specs.Prelude.{Option, Some, None}
+use lib.ListN.{length, take, drop}
+use Rattle.std.specs.Prelude.{Option, Some, None, Result}
 use Rattle.pair.specs.Calls.{Outcome, is, refused}
 use Rattle.equations.specs.declared.Effect.{Effect}
 use Rattle.equations.specs.declared.Effect.TheVariants.{Hazard, Cancer}
 use Rattle.sizes.specs.Sizes.{most_receptors}
-use Rattle.totals.specs.Totals.{Columns}
+use Rattle.totals.specs.declared.NoTotal.{NoTotal}
+use Rattle.totals.specs.Totals.{Columns, totalled, total_of}
 use Rattle.lists.proofs.Booleans.{both}
 use Rattle.sheet.specs.Counts.{side_of, effect_cells, all_cells, column_start, is_held, columns_from, totalled_from}
 use Rattle.sheet.specs.Inner.{if_told}
+
+-- ---- a part of the cells
+pub total_told : (cells : List ℕ) (at n : ℕ) (r s : Result ℕ NoTotal) → totalled r ≡ total_of (take (at + n - at) (drop at cells)) → r ≡ s
+    → total_of (take n (drop at cells)) ≡ totalled s
+total_told cells at n r s a k =
+    let e : n ≡ at + n - at = omega arith in
+    ap (λ (m : ℕ). total_of (take m (drop at cells))) e ∙ sym a ∙ ap totalled k
 
 pub side_small : (e : Effect) → side_of e < 2
 unfolding side_of

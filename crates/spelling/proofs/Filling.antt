@@ -3,12 +3,14 @@
 use mathlib.Core.Path.{◌≡◌, refl, sym, ap, ◌∙◌, subst}
 use mathlib.Core.Bool.{Bool, true, false, cond}
 use mathlib.Core.List.{List, [], ◌∷◌, ◌++◌, append_assoc, append-nil}
-use Prim.Native.Nat.{ℕ, zero, suc, ◌-◌, ◌/◌, ◌≤◌, ◌<◌, zero-le}
+use Prim.Native.Nat.{ℕ, zero, suc, ◌+◌, ◌-◌, ◌/◌, ◌≤◌, ◌<◌, zero-le}
 use native.Mathlib.Nat.{sub-zero}
+use native.Mathlib.Numerals.{add-one}
 use native.Mathlib.Omega.{arith}
 use borrow.Author.Tests.{eq-eqb, ne_eqb}
 use lib.Dec.{eqb}
-use lib.ListN.{length, drop, set, replicate, length-append, length-replicate, drop_of_length-le}
+use lib.Seq.{drop-cons, set_at}
+use lib.ListN.{length, get_or, drop, set, replicate, length-append, length-replicate, replicate-append-replicate, drop_of_length-le}
 use Rattle.spelling.specs.Columns.{digits, digit, decimal, justified, number, dash, in_columns, number_in, dash_in}
 use Rattle.lists.proofs.ListLaws.{drop_set}
 
@@ -61,6 +63,15 @@ filled_more at n b part whole pos h some v e =
 pub filled_spaced : (at : ℕ) (part whole : List ℕ) → justified at (digits at 0) ++ drop at part ≡ whole → replicate at 32 ++ drop at part ≡ whole
 unfolding justified
 filled_spaced at part whole e = simp (no_digits, sub-zero, append-nil) at e
+
+-- a space more
+pub spaced_more : (k : ℕ) (part : List ℕ) → k < length part → set (replicate k 32 ++ drop k part) k 32 ≡ replicate (k + 1) 32 ++ drop (k + 1) part
+spaced_more k part h =
+    ap (λ (l : List ℕ). set (replicate k 32 ++ l) k 32) (drop-cons part k 0 h)
+    ∙ set_at (replicate k 32) (get_or part k 0) (drop (suc k) part) 32 k (length-replicate k 32)
+    ∙ sym (append_assoc (replicate k 32) (32 ∷ []) (drop (suc k) part))
+    ∙ ap (λ (l : List ℕ). l ++ drop (suc k) part) (replicate-append-replicate k 1 32)
+    ∙ ap (λ (m : ℕ). replicate (k + 1) 32 ++ drop m part) (sym (add-one k))
 
 -- the last column is filled
 pub filled_last : (n last : ℕ) (part : List ℕ) → 0 < length part

@@ -1,12 +1,12 @@
 -- A time's two words: what the test of them says, and the words of an amount. Assumes nothing.
-use mathlib.Core.Path.{◌≡◌, sym, ◌∙◌, ap}
-use mathlib.Core.Bool.{true, and-eq-true_iff}
+use mathlib.Core.Path.{◌≡◌, refl, sym, ◌∙◌, ap}
+use mathlib.Core.Bool.{Bool, true, false, and-eq-true_iff}
 use mathlib.Mathlib.Data.Bool.Basic.{and_intro}
 use Prim.Native.Nat.{ℕ, ◌+◌, ◌-◌, ◌*◌, ◌/◌, ◌%◌, ◌^◌, ◌≤◌, ◌<◌}
 use native.Mathlib.Nat.{le_antisymm, div-add-mod', mod-lt}
 use native.Mathlib.Omega.{arith}
-use lib.Dec.{ltb, lit<}
-use borrow.Author.Tests.{ltb-true, lt-ltb, le-ltb}
+use lib.Dec.{leb, ltb, lit<}
+use borrow.Author.Tests.{ltb-true, leb-true, leb-false, lt-ltb, le-ltb, le-leb, lt-leb}
 use Rattle.pair.specs.Calls.{is, refused}
 use Rattle.pair.proofs.Promises.{provided_true, refused_as}
 use Rattle.times.specs.declared.Years.{Years}
@@ -68,6 +68,20 @@ time_is n h l p q e = ap is (sym (words_from n h l q e)) ∙ sym (provided_true 
 pub time_refused : (n : ℕ) → 10 ^ 37 ≤ n → refused 53 ≡ time_of n
 unfolding time_of
 time_refused n h = refused_as (ltb n (10 ^ 37)) (is (words_of n)) (sym (le-ltb n (10 ^ 37) h))
+
+-- the upper words decide the order, and the lower ones where those are equal
+pub highs_order : (a b : Years) → is_years a ≡ true → a.high < b.high → amount a < amount b
+unfolding amount
+highs_order a b h l = omega (arith, (bounded a h).low, l)
+
+pub lows_order : (a b : Years) → a.high ≡ b.high → leb a.low b.low ≡ leb (amount a) (amount b)
+unfolding amount
+lows_order a b e =
+    by_test (leb a.low b.low) refl
+  where
+    by_test : (t : Bool) → leb a.low b.low ≡ t → leb a.low b.low ≡ leb (a.high * 10 ^ 18 + a.low) (b.high * 10 ^ 18 + b.low)
+    by_test true t = t ∙ sym (le-leb (a.high * 10 ^ 18 + a.low) (b.high * 10 ^ 18 + b.low) (omega (arith, e, leb-true a.low b.low t)))
+    by_test false t = t ∙ sym (lt-leb (a.high * 10 ^ 18 + a.low) (b.high * 10 ^ 18 + b.low) (omega (arith, e, leb-false a.low b.low t)))
 
 -- a − b, for b at most a, with and without a one taken from the upper word
 module _ (a b : Years) (p : is_years a ≡ true) (q : is_years b ≡ true) (h : amount b ≤ amount a) where

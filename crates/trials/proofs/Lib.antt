@@ -1,2 +1,3 @@
--- The crate's law: the number that digits spell. Assumes nothing.
+-- The crate's laws: the number that digits spell, and small numbers with a sign. Assumes nothing.
 mod Spelled
+pub mod Signs

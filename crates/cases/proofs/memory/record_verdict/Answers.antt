@@ -11,7 +11,7 @@ use Rattle.slots.specs.declared.Sort.TheVariants.{Ordinary}
 use Rattle.cases.specs.Cases.{value_at}
 use Rattle.cases.specs.Conditions.{Condition, first, verdict_of}
 use Rattle.cases.specs.CaseConditions.{slot_conditions, record_conditions}
-use Rattle.cases.proofs.CaseConditionLaws.{slot_under}
+use Rattle.cases.proofs.CaseConditionLaws.{verdict_under}
 use Rattle.cases.proofs.FirstMet.{accepts_on, refuses}
 use Rattle.cases.proofs.memory.record_verdict.Goals as goal
 
@@ -23,7 +23,7 @@ pub returns-in_err-slot_verdict : goal.returns-in_err-slot_verdict
 unfolding record_conditions value_at
 returns-in_err-slot_verdict c =
     let f : ℕ → List Condition = λ n. slot_conditions (rule_at Ordinary c.args.owner n) (value_at c.args.r.now n) in
-    let turn = slot_under _ _ _ _ c.slot_verdict.ensures c.rule_at.ensures in
+    let turn = verdict_under _ _ _ _ c.slot_verdict.ensures c.rule_at.ensures in
     let p = err_from_is_err_and c.from_residual.result c.from_residual.ensures.1 in
     rw (p.1, p.2) (refuses f c.loop-k.k c.loop-k.invariant _ turn slots_per_record c.loop-k-test.true _ c.in_err-slot_verdict.was)
 
@@ -31,7 +31,7 @@ pub loop-k-preserved : goal.loop-k-preserved
 unfolding value_at
 loop-k-preserved c =
     let f : ℕ → List Condition = λ n. slot_conditions (rule_at Ordinary c.args.owner n) (value_at c.args.r.now n) in
-    let turn = slot_under _ _ _ _ c.slot_verdict.ensures c.rule_at.ensures in
+    let turn = verdict_under _ _ _ _ c.slot_verdict.ensures c.rule_at.ensures in
     accepts_on f c.loop-k.k c.loop-k.invariant _ turn c.in_ok-slot_verdict.was
 
 pub returns : goal.returns

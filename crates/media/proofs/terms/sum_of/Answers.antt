@@ -31,7 +31,7 @@ pub returns-in_err-next : goal.returns-in_err-next
 unfolding answer
 returns-in_err-next g c =
     let l = c.loop-n in
-    rw (← step_refused g.S.Series.series c.args.x l.term l.total l.n l.invariant c.loop-n-test.true c.in_err-next.ensures) (search rules)
+    rw (← step_refused g.S.Series.series c.args.x l.term l.total l.n l.invariant c.loop-n-test.true _ c.in_err-next.ensures) (search rules)
 
 pub returns-then-is_settled : goal.returns-then-is_settled
 unfolding answer
